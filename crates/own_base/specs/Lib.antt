@@ -1,0 +1,4 @@
+pub mod Key
+pub mod Name
+pub mod Row
+pub mod formers
