@@ -1,0 +1,3 @@
+pub use Rattle.own_base.specs.Key
+pub use Rattle.own_base.specs.Name
+pub use Rattle.own_base.specs.Row
