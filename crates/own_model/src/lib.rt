@@ -26,7 +26,7 @@ pub use limit::LimitName;
 pub use refusal::Refusal;
 pub use reply::{Cell, GotRow, Reply, SessionReplies};
 pub use request::Request;
-pub use schema::{Column, Edge, Kind, RefKind, Schema, TableDef, ViewDef};
+pub use schema::{Column, CreateText, Edge, Kind, RefKind, Schema, TableDef, ViewDef};
 pub use script::{InputFault, Script, ScriptCall, SessionCalls};
 pub use select::{ColRef, Item, Items, Join, Order, Select, What};
 pub use statement::Statement;

@@ -1,5 +1,5 @@
 use crate::bound::BoundSelect;
-use own_base::{ColNo, ColumnSet, EdgeNo, List, Name, TableNo};
+use own_base::{ColNo, ColumnSet, EdgeNo, List, Name, TableNo, Text};
 
 /// What a column's values are. `Sum` is the kind of a sum in a view or a reply.
 #[derive(Clone, Copy, Debug, PartialEq, Eq)]
@@ -72,4 +72,11 @@ pub struct Schema {
     pub tables: List<TableDef>,
     pub views: List<ViewDef>,
     pub edges: List<Edge>,
+}
+
+/// The canonical text of an admitted CREATE, and whether it is a CREATE VIEW.
+#[derive(Debug, Drop)]
+pub struct CreateText {
+    pub view: bool,
+    pub text: Text,
 }
