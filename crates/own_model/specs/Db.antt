@@ -1,7 +1,5 @@
 -- A database as plain lists: what a store stands for.
-use Rattle.std.specs.Prelude.{ℕ, List, [], Option, None, Some, slice_get}
-use Rattle.std.specs.List.{position}
-use Rattle.std.specs.Option.{option_and_then}
+use Rattle.std.specs.Prelude.{ℕ, ◌+◌, ℤ, pos, List, [], ◌∷◌, Option, None, Some, slice_index_or, if◌then◌else◌}
 use Rattle.std.specs.Str.{bytes_eq}
 use Rattle.own_base.specs.declared.value.Value.{Value}
 use Rattle.own_base.specs.declared.value.Value.TheVariants.{Null, Int, Text, Sum}
@@ -26,17 +24,30 @@ pub record Db : Type 0 where
 abbrev pub empty : Db
 empty = record { creates = []; schema = record { tables = []; views = []; edges = [] }; rows = [] }
 
--- the number of the table that has this name
-unfoldable pub table_number : Schema → List ℕ → Option ℕ
-table_number schema name = position (λ table. bytes_eq table.name name) schema.tables
-
--- a value as a key; NULL is none, and a sum stands in no table
-abbrev pub as_key : Value → Option Key
-as_key Null = None
-as_key (Int number) = Some (key.Int number)
-as_key (Text bytes) = Some (key.Text bytes)
-as_key (Sum number) = None
+-- a value as a key; what stands in no primary key counts as 0
+abbrev pub as_key : Value → Key
+as_key (Int number) = key.Int number
+as_key (Text bytes) = key.Text bytes
+as_key Null = key.Int (pos 0)
+as_key (Sum number) = key.Int (pos 0)
 
 -- the primary key of a table's row
-unfoldable pub key_of : TableDef → Row → Option Key
-key_of table row = option_and_then as_key (slice_get row table.key.0)
+unfoldable pub key_of : TableDef → Row → Key
+key_of table row = as_key (slice_index_or row table.key.0 Null)
+
+-- a table of a database: its number, its definition and its rows
+pub record Table : Type 0 where
+  pub number : ℕ
+  pub definition : TableDef
+  pub rows : List Row
+
+-- the table that has this name, among those numbered from here on
+unfoldable pub table_from : ℕ → List ℕ → List TableDef → List (List Row) → Option Table
+table_from number name [] rows = None
+table_from number name (definition ∷ definitions) [] = None
+table_from number name (definition ∷ definitions) (first ∷ rest) =
+    if bytes_eq definition.name name then Some (record { number = number; definition = definition; rows = first })
+    else table_from (number + 1) name definitions rest
+
+abbrev pub table_of : Db → List ℕ → Option Table
+table_of db name = table_from 0 name db.schema.tables db.rows
