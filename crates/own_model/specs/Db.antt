@@ -1,6 +1,8 @@
 -- A database as plain lists: what a store stands for.
-use Rattle.std.specs.Prelude.{ℕ, ◌+◌, ℤ, pos, List, [], ◌∷◌, Option, None, Some, slice_index_or, if◌then◌else◌}
+use Rattle.std.specs.Prelude.{ℕ, ◌+◌, ℤ, pos, List, [], ◌∷◌, map, Option, None, Some, slice_index_or, if◌then◌else◌}
+use Rattle.std.specs.List.Sorted.{IsStrictlySortedBy}
 use Rattle.std.specs.Str.{bytes_eq}
+use Rattle.own_base.specs.Key.{key_cmp}
 use Rattle.own_base.specs.declared.value.Value.{Value}
 use Rattle.own_base.specs.declared.value.Value.TheVariants.{Null, Int, Text, Sum}
 use Rattle.own_base.specs.declared.value.Key.{Key}
@@ -34,6 +36,21 @@ as_key (Sum number) = key.Int (pos 0)
 -- the primary key of a table's row
 unfoldable pub key_of : TableDef → Row → Key
 key_of table row = as_key (slice_index_or row table.key.0 Null)
+
+-- the keys of a table's rows rise strictly, so no key comes twice
+abbrev pub IsRising : TableDef → List Row → Type 0
+IsRising table rows = IsStrictlySortedBy key_cmp (map (key_of table) rows)
+
+-- each table has its list of rows, whose keys rise strictly
+abbrev pub AreRising : List TableDef → List (List Row) → Type 0
+AreRising [] [] = Unit {0}
+AreRising [] (rows ∷ rest) = ⊥
+AreRising (table ∷ tables) [] = ⊥
+AreRising (table ∷ tables) (rows ∷ rest) = IsRising table rows × AreRising tables rest
+
+-- one list of rows for each table, in strictly rising key order
+pub record IsOrdered (db : Db) : Type 0 where
+  pub rising : AreRising db.schema.tables db.rows
 
 -- a table of a database: its number, its definition and its rows
 pub record Table : Type 0 where

@@ -37,29 +37,27 @@ unfoldable pub with_row : TableDef → Row → List Row → List Row
 with_row table row [] = row ∷ []
 with_row table row (first ∷ rest) = if precedes table first row then first ∷ with_row table row rest else row ∷ first ∷ rest
 
--- The rows with the tuples, one after another, or the key of the first tuple whose key is there by then.
-unfoldable pub with_tuples : TableDef → List Row → List Row → Result (List Row) Key
-with_tuples table rows [] = Ok rows
-with_tuples table rows (tuple ∷ tuples) =
-    let key = key_of table tuple in
-    if list_any (has_key table key) rows then Err key else with_tuples table (with_row table tuple rows) tuples
+-- The rows with a tuple, or the tuple's key where it is there.
+unfoldable pub with_tuple : TableDef → List Row → Row → Result (List Row) Key
+with_tuple table rows tuple =
+    if list_any (has_key table (key_of table tuple)) rows then Err (key_of table tuple) else Ok (with_row table tuple rows)
 
 -- a database and an answer
 pub record Outcome : Type 0 where
   pub db : Db
   pub reply : Reply
 
-abbrev pub put : Db → Table → ℕ → Result (List Row) Key → Outcome
-put db table count (Ok rows) = record { db = record db { rows = slice_set db.rows table.number rows }; reply = Counted count }
-put db table count (Err key) = record { db = db; reply = Refused (Duplicate table.definition.name key) }
+abbrev pub put : Db → List ℕ → ℕ → Result (List Row) Key → Outcome
+put db name number (Ok rows) = record { db = record db { rows = slice_set db.rows number rows }; reply = Counted 1 }
+put db name number (Err key) = record { db = db; reply = Refused (Duplicate name key) }
 
-abbrev pub insert_into : Db → List ℕ → List Row → Option Table → Outcome
-insert_into db name tuples None = record { db = db; reply = Refused (NoTable name) }
-insert_into db name tuples (Some table) = put db table (length tuples) (with_tuples table.definition table.rows tuples)
+abbrev pub insert_into : Db → List ℕ → Row → Option Table → Outcome
+insert_into db name tuple None = record { db = db; reply = Refused (NoTable name) }
+insert_into db name tuple (Some table) = put db name table.number (with_tuple table.definition table.rows tuple)
 
--- INSERT adds its rows; a tuple whose key is there, or was given by an earlier tuple, is refused, and nothing changes.
-unfoldable pub insert : Db → List ℕ → List Row → Outcome
-insert db name tuples = insert_into db name tuples (table_of db name)
+-- INSERT of one tuple adds its row. Where its key is there it is refused, and nothing changes.
+unfoldable pub insert : Db → List ℕ → Row → Outcome
+insert db name tuple = insert_into db name tuple (table_of db name)
 
 abbrev pub rows_or_refusal : List ℕ → Option Table → Reply
 rows_or_refusal name None = Refused (NoTable name)
@@ -73,6 +71,6 @@ select db name = rows_or_refusal name (table_of db name)
 -- that isn't built yet is refused as syntax.
 unfoldable pub run : Db → Statement → Outcome
 run db (CreateTable table) = record { db = create db table; reply = Done }
-run db (Insert table columns tuples) = insert db table tuples
+run db (Insert table None (tuple ∷ [])) = insert db table tuple
 run db (Select query) = record { db = db; reply = select db query.from }
 run db _ = record { db = db; reply = Refused (Syntax 0) }

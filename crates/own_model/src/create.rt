@@ -1,6 +1,7 @@
 use crate::schema::{Kind, RefKind};
 use crate::select::Select;
-use own_base::{List, Name};
+use own_base::{List, MakeCopy, Name};
+use std::alloc::{AllocError, Global};
 
 /// What a reference column names: `REFERENCES table ( column )`, or one of its annotated forms.
 #[derive(Debug, Drop)]
@@ -56,4 +57,67 @@ pub enum Attr {
 pub struct CreateView {
     pub name: Name,
     pub select: Select,
+}
+
+impl MakeCopy for RefDef {
+    fn copy(&self, alloc: Global) -> Result<RefDef, AllocError> {
+        let table = self.table.copy(alloc)?;
+        let column = self.column.copy(alloc)?;
+        Ok(RefDef {
+            kind: self.kind,
+            table,
+            column,
+        })
+    }
+}
+
+impl MakeCopy for Attr {
+    fn copy(&self, alloc: Global) -> Result<Attr, AllocError> {
+        match self {
+            Attr::Key => Ok(Attr::Key),
+            Attr::NotNull => Ok(Attr::NotNull),
+            Attr::Unique => Ok(Attr::Unique),
+            Attr::Refers(refers) => Ok(Attr::Refers(refers.copy(alloc)?)),
+        }
+    }
+}
+
+impl MakeCopy for ColumnDef {
+    fn copy(&self, alloc: Global) -> Result<ColumnDef, AllocError> {
+        let name = self.name.copy(alloc)?;
+        let attrs = self.attrs.copy(alloc)?;
+        Ok(ColumnDef {
+            name,
+            kind: self.kind,
+            attrs,
+        })
+    }
+}
+
+impl MakeCopy for Part {
+    fn copy(&self, alloc: Global) -> Result<Part, AllocError> {
+        match self {
+            Part::Column(column) => Ok(Part::Column(column.copy(alloc)?)),
+            Part::Key(column) => Ok(Part::Key(column.copy(alloc)?)),
+            Part::Unique(column) => Ok(Part::Unique(column.copy(alloc)?)),
+            Part::Foreign(column, refers) => {
+                Ok(Part::Foreign(column.copy(alloc)?, refers.copy(alloc)?))
+            }
+            Part::Get(column, hidden) => Ok(Part::Get(column.copy(alloc)?, hidden.copy(alloc)?)),
+            Part::Del(column, ruled) => Ok(Part::Del(column.copy(alloc)?, ruled.copy(alloc)?)),
+            Part::DelRow(column) => Ok(Part::DelRow(column.copy(alloc)?)),
+        }
+    }
+}
+
+impl MakeCopy for CreateTable {
+    fn copy(&self, alloc: Global) -> Result<CreateTable, AllocError> {
+        let name = self.name.copy(alloc)?;
+        let parts = self.parts.copy(alloc)?;
+        Ok(CreateTable {
+            name,
+            subject: self.subject,
+            parts,
+        })
+    }
 }
