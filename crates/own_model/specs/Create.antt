@@ -1,5 +1,6 @@
 -- What a CREATE adds to a database.
 use Rattle.std.specs.Prelude.{ℕ, ◌+◌, List, [], ◌∷◌, ◌++◌, Bool, true, false, ◌||◌, Option, None, Some, codes, if◌then◌else◌}
+use Rattle.std.specs.List.{list_any}
 use Rattle.own_model.specs.declared.create.Attr.{Attr}
 use Rattle.own_model.specs.declared.create.Attr.TheVariants as attr
 use Rattle.own_model.specs.declared.create.ColumnDef.{ColumnDef}
@@ -12,11 +13,13 @@ use Rattle.own_model.specs.declared.schema.Kind.TheVariants as kind
 use Rattle.own_model.specs.declared.schema.TableDef.{TableDef}
 use Rattle.own_model.specs.Db.{Db}
 
+abbrev pub is_key : Attr → Bool
+is_key attr.Key = true
+is_key _ = false
+
 -- whether PRIMARY KEY stands behind a column's kind
 abbrev pub has_key : List Attr → Bool
-has_key [] = false
-has_key (attr.Key ∷ attrs) = true
-has_key (_ ∷ attrs) = has_key attrs
+has_key attrs = list_any is_key attrs
 
 -- the columns, in the text's order
 abbrev pub columns_of : List Part → List Column

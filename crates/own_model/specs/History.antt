@@ -27,14 +27,14 @@ start base = record { place = 0; flat = base }
 unfoldable pub answer_to : Db → Request → Reply
 answer_to db (Run statement) = (run db statement).reply
 answer_to db (Syntax byte) = Refused (refusal.Syntax byte)
-answer_to db (Limit name) = Refused (refusal.Limit name)
+answer_to db (Limit passed) = Refused (refusal.Limit passed)
 answer_to db End = Ended
 
 -- the database that a request leaves
 unfoldable pub left_by : Db → Request → Db
 left_by db (Run statement) = (run db statement).db
 left_by db (Syntax byte) = db
-left_by db (Limit name) = db
+left_by db (Limit _) = db
 left_by db End = db
 
 -- the answer to an entry in a world
