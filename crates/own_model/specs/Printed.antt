@@ -1,7 +1,7 @@
 -- The text of the replies.
-use Rattle.std.specs.Prelude.{ℕ, ◌+◌, ◌/◌, ◌%◌, List, [], ◌∷◌, ◌++◌, length, map, Bool, true, false, nat_lt, ◌==◌, ◌||◌, ◌&&◌, Option, None, Some, codes, if◌then◌else◌}
+use Rattle.std.specs.Prelude.{ℕ, ◌+◌, ◌/◌, ◌%◌, List, [], ◌∷◌, ◌++◌, length, Bool, true, false, nat_lt, ◌==◌, ◌||◌, ◌&&◌, Option, None, Some, codes, if◌then◌else◌}
 use Rattle.std.specs.Fmt.{decimal, signed_decimal}
-use Rattle.std.specs.List.{flat_map, position, join_with_byte}
+use Rattle.std.specs.List.{flat_map, position}
 use Rattle.std.specs.Option.{option_map_or}
 use Rattle.own_base.specs.declared.value.Key.{Key}
 use Rattle.own_base.specs.declared.value.Key.TheVariants as key
@@ -43,9 +43,14 @@ unfoldable pub shown_key : Key → List ℕ
 shown_key (key.Int number) = signed_decimal number
 shown_key (key.Text bytes) = shown_text bytes
 
--- two spaces, the values with a bar between, and the line's end
+-- the first value, and each other one behind a bar
+unfoldable pub joined_values : Row → List ℕ
+joined_values [] = []
+joined_values (first ∷ rest) = shown_value first ++ flat_map (λ value. 124 ∷ shown_value value) rest
+
+-- two spaces, the values, and the line's end
 unfoldable pub row_line : Row → List ℕ
-row_line row = codes "  " ++ join_with_byte 124 (map shown_value row) ++ 10 ∷ []
+row_line row = codes "  " ++ joined_values row ++ 10 ∷ []
 
 -- why a call was refused; the other refusals come with their calls
 unfoldable pub refusal_text : Refusal → List ℕ

@@ -3,3 +3,4 @@
 
 mod flat;
 mod key_ref;
+mod print;
