@@ -1,4 +1,4 @@
-ghost use Rattle.std.specs.Prelude.{◌≡◌, ◌<◌, ◌^◌, ◌↔◌, IfOk, IsErr, IsTrue, OnOk, OnErr};
+ghost use Rattle.std.specs.Prelude.{◌≡◌, ◌<◌, ◌≤◌, ◌^◌, ◌↔◌, IfOk, IsErr, IsTrue, OnOk, OnErr};
 ghost use Rattle.outer_world.specs.FaultCount.{one_higher};
 ghost use Rattle.outer_world.specs.FaultPlan.{fresh_plan, IsNextToFail, plan_after_success, plan_after_fault};
 
@@ -16,11 +16,14 @@ pub(crate) struct FaultPlan {
 }
 
 impl Model for FaultPlan {
+    ghost use Rattle.std.specs.Prelude.{◌<◌, ◌^◌};
     ghost use Rattle.outer_world.specs.FaultPlan.{Plan};
 
     ghost Value = { Plan };
 
     ghost view = { λ plan. record { fails = plan.fails.items; calls = plan.calls; faults = plan.faults } };
+
+    ghost invariant = { λ plan. plan.faults < 2 ^ 64 };
 }
 
 impl FaultPlan {
@@ -41,6 +44,7 @@ impl FaultPlan {
         ensures due { IsErr result ↔ IsNextToFail self.old }
         ensures passed { OnOk result (self.new ≡ plan_after_success self.old) }
         ensures failed { OnErr result (self.new ≡ plan_after_fault self.old) }
+        ensures counted { self.old.faults ≤ self.new.faults }
         ensures in_range { self.new.faults < 2 ^ 64 }
     {
         let is_due = self.is_due();
@@ -54,6 +58,8 @@ impl FaultPlan {
     /// Counts a fault of the call that was counted last.
     pub(crate) fn fail(&mut self) -> Failed
         ensures risen { self.new ≡ record self.old { faults = one_higher self.old.faults } }
+        ensures counted { self.old.faults ≤ self.new.faults }
+        ensures in_range { self.new.faults < 2 ^ 64 }
     {
         self.faults = self.faults.saturating_add(1);
         Failed

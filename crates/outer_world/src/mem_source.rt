@@ -1,4 +1,4 @@
-ghost use Rattle.std.specs.Prelude.{◌≡◌, ◌<◌, ◌^◌, ◌++◌, ◌↔◌, Some, length, take, drop, min, IfOk, IsErr, OnErr};
+ghost use Rattle.std.specs.Prelude.{◌≡◌, ◌<◌, ◌≤◌, ◌^◌, ◌++◌, ◌↔◌, Some, length, take, drop, min, IfOk, IsErr, OnErr};
 ghost use Rattle.outer_world.specs.FaultPlan.{fresh_plan, IsNextToFail, plan_after_success, plan_after_fault};
 
 use crate::failed::Failed;
@@ -60,6 +60,7 @@ impl Source for MemSource {
         ensures fault { OnErr result (self.new ≡ record self.old { plan = plan_after_fault self.old.plan }) }
         ensures piece_kept { OnErr result (into.new ≡ into.old) }
 
+        ensures counted { self.old.plan.faults ≤ self.new.plan.faults }
         ensures in_range { self.new.plan.faults < 2 ^ 64 }
     {
         self.plan.count_call()?;

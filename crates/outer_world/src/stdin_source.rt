@@ -1,4 +1,4 @@
-ghost use Rattle.std.specs.Prelude.{◌≡◌};
+ghost use Rattle.std.specs.Prelude.{◌≡◌, ◌<◌, ◌≤◌, ◌^◌, length, IfSome};
 
 use crate::failed::Failed;
 use crate::source::Source;
@@ -9,6 +9,7 @@ use std::io::{ErrorKind, Read};
 pub struct StdinSource<R: Input> {
     reader: R::Reader,
     faults: u64,
+    ghost in_range: { faults < 2 ^ 64 },
 }
 
 impl<R: Input> StdinSource<R> {
@@ -26,16 +27,27 @@ impl<R: Input> StdinSource<R> {
 impl<R: Input> Source for StdinSource<R> {
     ghost faults = { λ source. source.faults };
 
-    /// A read that a signal interrupts is tried again. Every other error is a fault.
     fn read(&mut self, into: &mut [u8]) -> Result<usize, Failed> {
-        for _ in 0..u64::MAX {
-            match self.reader.read(into) {
-                Ok(count) => return Ok(count),
-                Err(error) if error.kind() == ErrorKind::Interrupted => {}
-                Err(_) => break,
+        match read_unless_interrupted(&mut self.reader, into) {
+            Some(count) => Ok(count),
+            None => {
+                self.faults = self.faults.saturating_add(1);
+                Err(Failed)
             }
         }
-        self.faults = self.faults.saturating_add(1);
-        Err(Failed)
     }
+}
+
+/// Reads once more where a signal interrupts the read. None tells of every other error.
+fn read_unless_interrupted<R: Read>(reader: &mut R, into: &mut [u8]) -> Option<usize>
+    ensures { IfSome result (λ count. count ≤ length into.new) }
+{
+    for _ in 0..u64::MAX {
+        match reader.read(into) {
+            Ok(count) => return Some(count),
+            Err(error) if error.kind() == ErrorKind::Interrupted => {}
+            Err(_) => return None,
+        }
+    }
+    None
 }

@@ -1,4 +1,4 @@
-ghost use Rattle.std.specs.Prelude.{◌≡◌};
+ghost use Rattle.std.specs.Prelude.{◌≡◌, ◌<◌, ◌≤◌, ◌^◌, length, IfSome};
 
 use crate::failed::Failed;
 use crate::sink::Sink;
@@ -10,6 +10,7 @@ use std::io::{ErrorKind, Write};
 pub struct StdoutSink<'a, R: Print> {
     rt: &'a R,
     faults: u64,
+    ghost in_range: { faults < 2 ^ 64 },
 }
 
 impl<'a, R: Print> StdoutSink<'a, R> {
@@ -24,18 +25,27 @@ impl<'a, R: Print> StdoutSink<'a, R> {
 impl<R: Print> Sink for StdoutSink<'_, R> {
     ghost faults = { λ sink. sink.faults };
 
-    /// A write that a signal interrupts is tried again. Every other error is a fault, and so is a write that takes
-    /// nothing of a piece that isn't empty.
     fn write(&mut self, piece: &[u8]) -> Result<usize, Failed> {
-        for _ in 0..u64::MAX {
-            match io::writer(self.rt).write(piece) {
-                Ok(0) if !piece.is_empty() => break,
-                Ok(count) => return Ok(count),
-                Err(error) if error.kind() == ErrorKind::Interrupted => {}
-                Err(_) => break,
+        match write_unless_interrupted(&mut io::writer(self.rt), piece) {
+            Some(count) if count > 0 || piece.is_empty() => Ok(count),
+            _ => {
+                self.faults = self.faults.saturating_add(1);
+                Err(Failed)
             }
         }
-        self.faults = self.faults.saturating_add(1);
-        Err(Failed)
     }
+}
+
+/// Writes once more where a signal interrupts the write. None tells of every other error.
+fn write_unless_interrupted<W: Write>(writer: &mut W, piece: &[u8]) -> Option<usize>
+    ensures { IfSome result (λ count. count ≤ length piece.now) }
+{
+    for _ in 0..u64::MAX {
+        match writer.write(piece) {
+            Ok(count) => return Some(count),
+            Err(error) if error.kind() == ErrorKind::Interrupted => {}
+            Err(_) => return None,
+        }
+    }
+    None
 }
