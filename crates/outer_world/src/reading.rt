@@ -58,7 +58,8 @@ fn make_room(bytes: &mut Vec<u8>, filled: usize, most: usize) -> Result<(), Allo
     requires full { filled ≤ vec_len bytes.old }
     requires few { vec_len bytes.old ≤ most }
     ensures longer { OnOk result (filled < vec_len bytes.new) }
-    ensures within { vec_len bytes.new ≤ most }
+    ensures full { filled ≤ vec_len bytes.new }
+    ensures few { vec_len bytes.new ≤ most }
     ensures kept { take filled bytes.new.items ≡ take filled bytes.old.items }
 {
     if filled == bytes.len() {
