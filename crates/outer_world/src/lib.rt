@@ -14,6 +14,8 @@ mod sink;
 mod source;
 mod stdin_source;
 mod stdout_sink;
+#[cfg(test)]
+mod tests;
 mod writing;
 
 pub use disk::Disk;

@@ -54,6 +54,9 @@ impl Sink for MemSink {
     fn write(&mut self, piece: &[u8]) -> Result<usize, Failed>
         ensures due { IsNextToFail self.old.plan → IsErr result }
 
+        // An empty piece needs no memory.
+        ensures only_due { length piece.now ≡ 0 → IsErr result → IsNextToFail self.old.plan }
+
         ensures count { IfOk result (λ count. count ≡ length piece.now) }
         ensures written { OnOk result (self.new.written ≡ self.old.written ++ piece.now) }
         ensures plan { OnOk result (self.new.plan ≡ plan_after_success self.old.plan) }

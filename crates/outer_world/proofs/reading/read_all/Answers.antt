@@ -16,7 +16,7 @@ loop-filled-preserved g c =
       within = omega arith;
       few = search rules;
       read = subst (Consumes _ _) (sym (take-filled _ _ _ _ filled c.in-Ok.count _ (length-take-le filled bytes (omega (arith, c.deref_mut.ensures.len))) turn.within (omega arith)))
-      (Consumes-trans _ _ _ _ _ (subst (Consumes _ _) (sym same) before.read) turn.given);
+          (Consumes-trans _ _ _ _ _ (subst (Consumes _ _) (sym same) before.read) turn.given);
       counted = omega (arith, turn.counted);
     }
 

@@ -8,7 +8,7 @@ invariant-loop-filled g l = record {
   within : l.filled ≤ vec_len l.bytes;
   few : vec_len l.bytes ≤ l.most;
   read : Consumes (g.R.Source.remaining l.initial.source) (g.R.Source.remaining l.source) (take l.filled l.bytes.items);
-  counted : g.R.Source.faults l.initial.source ≤ g.R.Source.faults l.source
+  counted : g.R.Source.faults l.initial.source ≤ g.R.Source.faults l.source;
 }
 
 -- the bytes that are still wanted

@@ -13,6 +13,6 @@ loop-taken-preserved g c =
     record {
       within = omega arith;
       written = subst (Appends _ _) (sym (take-add c.loop-taken.taken c.in_ok-taken.field-0 c.args.bytes.now))
-      (Appends-trans _ _ _ _ _ before.written (rw take_rest at turn.taken));
+          (Appends-trans _ _ _ _ _ before.written (rw take_rest at turn.taken));
       counted = omega (arith, turn.counted);
     }

@@ -7,7 +7,7 @@ abbrev pub invariant-loop-taken : goal.invariant-loop-taken
 invariant-loop-taken g l = record {
   within : l.taken ≤ length l.bytes;
   written : Appends (g.W.Sink.written l.initial.sink) (g.W.Sink.written l.sink) (take l.taken l.bytes);
-  counted : g.W.Sink.faults l.initial.sink ≤ g.W.Sink.faults l.sink
+  counted : g.W.Sink.faults l.initial.sink ≤ g.W.Sink.faults l.sink;
 }
 
 -- the bytes that are still to be written
