@@ -1,0 +1,5 @@
+pub mod FaultCount
+pub mod FaultPlan
+pub mod MemSink
+pub mod MemSource
+pub mod PartOfBytes

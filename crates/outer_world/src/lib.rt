@@ -1,0 +1,32 @@
+//! What lies outside the store: where input comes from, where output goes, the disk, and the gate that a worker
+//! passes before each call. Each is a trait, with an implementation in memory and one over the system.
+#![tactic(auto)]
+
+mod disk;
+mod failed;
+mod fault_plan;
+mod gate;
+mod mem_disk;
+mod mem_sink;
+mod mem_source;
+mod reading;
+mod sink;
+mod source;
+mod stdin_source;
+mod stdout_sink;
+#[cfg(test)]
+mod tests;
+mod writing;
+
+pub use disk::Disk;
+pub use failed::Failed;
+pub use gate::{Gate, Gone, NowGate};
+pub use mem_disk::MemDisk;
+pub use mem_sink::MemSink;
+pub use mem_source::MemSource;
+pub use reading::{ReadAllFault, read_all};
+pub use sink::Sink;
+pub use source::Source;
+pub use stdin_source::StdinSource;
+pub use stdout_sink::StdoutSink;
+pub use writing::write_all;

@@ -1,0 +1,73 @@
+ghost use Rattle.std.specs.Prelude.{◌≡◌, ◌<◌, ◌≤◌, ◌^◌, ◌++◌, ◌↔◌, Some, length, take, drop, min, IfOk, IsErr, OnErr};
+ghost use Rattle.outer_world.specs.FaultPlan.{fresh_plan, IsNextToFail, plan_after_success, plan_after_fault};
+
+use crate::failed::Failed;
+use crate::fault_plan::FaultPlan;
+use crate::source::Source;
+use std::alloc::{AllocError, Global};
+use std::marker::Model;
+
+/// A source of bytes in memory, whose calls of given numbers fail.
+#[derive(Debug, Drop)]
+pub struct MemSource {
+    bytes: Vec<u8>,
+    at: usize,
+    plan: FaultPlan,
+}
+
+impl Model for MemSource {
+    ghost use Rattle.std.specs.Prelude.{◌≤◌, length, drop};
+    ghost use Rattle.outer_world.specs.MemSource.{SourceState};
+
+    ghost Value = { SourceState };
+
+    ghost view = { λ source. record { remaining = drop source.at source.bytes.items; plan = source.plan } };
+
+    ghost invariant = { λ source. source.at ≤ length source.bytes.items };
+}
+
+impl MemSource {
+    /// Gives these bytes. The calls of the numbers in `fails`, counted from 0, are to fail.
+    pub fn new(alloc: Global, bytes: &[u8], fails: &[u32]) -> Result<MemSource, AllocError>
+        ensures remaining { IfOk result (λ source. source.remaining ≡ bytes.now) }
+        ensures plan { IfOk result (λ source. source.plan ≡ fresh_plan fails.now) }
+    {
+        let bytes = bytes.to_vec(alloc)?;
+        let plan = FaultPlan::new(alloc, fails)?;
+        Ok(MemSource { bytes, at: 0, plan })
+    }
+}
+
+impl Source for MemSource {
+    ghost use Rattle.std.specs.Prelude.{Some};
+
+    ghost faults = { λ source. source.plan.faults };
+
+    ghost remaining = { λ source. Some source.remaining };
+
+    /// Fills the piece, or as much of it as there are bytes left. What stands behind them in the piece stays.
+    fn read(&mut self, into: &mut [u8]) -> Result<usize, Failed>
+        ensures due { IsErr result ↔ IsNextToFail self.old.plan }
+
+        ensures count { IfOk result (λ count.
+            count ≡ min (length into.old) (length self.old.remaining)) }
+        ensures piece { IfOk result (λ count.
+            into.new ≡ take count self.old.remaining ++ drop count into.old) }
+        ensures remaining { IfOk result (λ count.
+            self.new.remaining ≡ drop count self.old.remaining) }
+        ensures plan { IfOk result (λ _. self.new.plan ≡ plan_after_success self.old.plan) }
+
+        ensures fault { OnErr result (self.new ≡ record self.old { plan = plan_after_fault self.old.plan }) }
+        ensures piece_kept { OnErr result (into.new ≡ into.old) }
+
+        ensures counted { self.old.plan.faults ≤ self.new.plan.faults }
+        ensures in_range { self.new.plan.faults < 2 ^ 64 }
+    {
+        self.plan.count_call()?;
+        let end = self.bytes.len().min(self.at + into.len());
+        let count = end - self.at;
+        into[..count].copy_from_slice(&self.bytes[self.at..end]);
+        self.at = end;
+        Ok(count)
+    }
+}

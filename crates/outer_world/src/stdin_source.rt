@@ -1,0 +1,53 @@
+ghost use Rattle.std.specs.Prelude.{◌≡◌, ◌<◌, ◌≤◌, ◌^◌, length, IfSome};
+
+use crate::failed::Failed;
+use crate::source::Source;
+use std::io::{ErrorKind, Read};
+
+/// Standard input. It tells nothing of its bytes.
+#[derive(Drop)]
+pub struct StdinSource<R: Input> {
+    reader: R::Reader,
+    faults: u64,
+    ghost in_range: { faults < 2 ^ 64 },
+}
+
+impl<R: Input> StdinSource<R> {
+    /// The runtime's standard input, with no fault so far.
+    pub fn new(rt: &R) -> StdinSource<R>
+        ensures { ⟦<StdinSource<R> as Source>⟧.faults result ≡ 0 }
+    {
+        StdinSource {
+            reader: rt.reader(),
+            faults: 0,
+        }
+    }
+}
+
+impl<R: Input> Source for StdinSource<R> {
+    ghost faults = { λ source. source.faults };
+
+    fn read(&mut self, into: &mut [u8]) -> Result<usize, Failed> {
+        match read_unless_interrupted(&mut self.reader, into) {
+            Some(count) => Ok(count),
+            None => {
+                self.faults = self.faults.saturating_add(1);
+                Err(Failed)
+            }
+        }
+    }
+}
+
+/// Reads once more where a signal interrupts the read. None tells of every other error.
+fn read_unless_interrupted<R: Read>(reader: &mut R, into: &mut [u8]) -> Option<usize>
+    ensures { IfSome result (λ count. count ≤ length into.new) }
+{
+    for _ in 0..u64::MAX {
+        match reader.read(into) {
+            Ok(count) => return Some(count),
+            Err(error) if error.kind() == ErrorKind::Interrupted => {}
+            Err(_) => return None,
+        }
+    }
+    None
+}
