@@ -15,7 +15,7 @@ use Rattle.own_model.specs.declared.request.Request.TheVariants.{Run, Syntax, Li
 use Rattle.own_model.specs.declared.statement.Statement.{Statement}
 use Rattle.own_model.specs.declared.statement.Statement.TheVariants as statement
 use Rattle.own_model.specs.Create.{create, definition_of}
-use Rattle.own_model.specs.Db.{Db, Row, Table, AreRising, IsOrdered, IsRising, key_of, table_from}
+use Rattle.own_model.specs.Db.{Db, Row, Table, empty, AreRising, IsOrdered, IsRising, key_of, table_from}
 use Rattle.own_model.specs.History.{History, World, flat, happens, left_by, world}
 use Rattle.own_model.specs.Run.{has_key, insert, is_equal, is_less, precedes, put, run, with_row, with_tuple}
 use Rattle.own_model.proofs.KeyOrder.{key_order}
@@ -101,7 +101,7 @@ at_least number name [] rows table found = cc
 at_least number name (first ∷ tables) [] table found = cc
 at_least number name (first ∷ tables) (row ∷ rows) table found =
     found_step (λ table. number ≤ table.number) name number first tables row rows table (omega arith)
-      (λ later. let more = at_least (number + 1) name tables rows table later in omega arith) _ refl found
+    (λ later. let more = at_least (number + 1) name tables rows table later in omega arith) _ refl found
 
 -- the rows of a table that is found rise
 pub rising-found : (number : ℕ) (name : List ℕ) (tables : List TableDef) (rows : List (List Row)) (table : Table)
@@ -111,7 +111,7 @@ rising-found number name [] rows table rising found = cc
 rising-found number name (first ∷ tables) [] table rising found = cc
 rising-found number name (first ∷ tables) (row ∷ rows) table rising found =
     found_step (λ table. IsRising table.definition table.rows) name number first tables row rows table rising.0
-      (λ later. rising-found (number + 1) name tables rows table rising.1 later) _ refl found
+    (λ later. rising-found (number + 1) name tables rows table rising.1 later) _ refl found
 
 -- the case of the first table, and of a later one
 set_here : (number : ℕ) (first : TableDef) (tables : List TableDef) (row : List Row) (rows : List (List Row)) → AreRising tables rows
@@ -134,9 +134,9 @@ rising-set number name [] rows table rising found = let never : ⊥ = cc in absu
 rising-set number name (first ∷ tables) [] table rising found = let never : ⊥ = cc in absurd never
 rising-set number name (first ∷ tables) (row ∷ rows) table rising found =
     found_step (λ table. (new : List Row) → IsRising table.definition new → (k : ℕ) → table.number ≡ number + k → AreRising (first ∷ tables) (slice_set (row ∷ rows) k new))
-      name number first tables row rows table (set_here number first tables row rows rising.1)
-      (λ later new news. set_later number table.number first tables row rows rising new (at_least (number + 1) name tables rows table later)
-        (rising-set (number + 1) name tables rows table rising.1 later new news)) _ refl found
+    name number first tables row rows table (set_here number first tables row rows rising.1)
+    (λ later new news. set_later number table.number first tables row rows rising new (at_least (number + 1) name tables rows table later)
+    (rising-set (number + 1) name tables rows table rising.1 later new news)) _ refl found
 
 -- a table more, without rows
 rising-append : (tables : List TableDef) (rows : List (List Row)) (new : TableDef) → AreRising tables rows → AreRising (tables ++ new ∷ []) (rows ++ [] ∷ [])
@@ -150,8 +150,8 @@ put_step : (db : Db) (name : List ℕ) (tuple : Row) (table : Table) → IsOrder
     → (r : Result (List Row) Key) → with_tuple table.definition table.rows tuple ≡ r → IsOrdered (put db name table.number r).db
 put_step db name tuple table ordered found (Ok new) by = record {
   rising = rising-set 0 name db.schema.tables db.rows table ordered.rising found new
-    (rising-with_tuple table.definition tuple table.rows new (rising-found 0 name db.schema.tables db.rows table ordered.rising found) by)
-    table.number (omega arith);
+      (rising-with_tuple table.definition tuple table.rows new (rising-found 0 name db.schema.tables db.rows table ordered.rising found) by)
+      table.number (omega arith);
 }
 put_step db name tuple table ordered found (Err key) by = ordered
 
@@ -197,3 +197,7 @@ ordered-fold before (entry ∷ history) ordered = ordered-fold (happens before e
 pub ordered-flat : (base : Db) (history : History) → IsOrdered base → IsOrdered (flat base history)
 unfolding flat world
 ordered-flat base history ordered = ordered-fold _ history ordered
+
+-- the empty database is ordered
+pub ordered-empty : IsOrdered empty
+ordered-empty = record { rising = tt }

@@ -1,5 +1,5 @@
 -- The text of the replies.
-use Rattle.std.specs.Prelude.{ℕ, ◌+◌, ◌/◌, ◌%◌, List, [], ◌∷◌, ◌++◌, length, Bool, true, false, nat_lt, ◌==◌, ◌||◌, ◌&&◌, Option, None, Some, codes, if◌then◌else◌}
+use Rattle.std.specs.Prelude.{◌≡◌, ◌⊎◌, ℕ, ◌+◌, ◌/◌, ◌%◌, List, [], ◌∷◌, ◌++◌, length, Bool, true, false, nat_lt, ◌==◌, ◌||◌, ◌&&◌, Option, None, Some, codes, if◌then◌else◌}
 use Rattle.std.specs.Fmt.{decimal, signed_decimal}
 use Rattle.std.specs.List.{flat_map, position}
 use Rattle.std.specs.Option.{option_map_or}
@@ -98,6 +98,15 @@ told Unshown (Rows rows) = Refused Memory
 told Unshown reply = reply
 told Spared reply = reply
 told Unmade reply = reply
+
+-- what may be told of a reply
+abbrev pub MayTell : Reply → Reply → Type 0
+MayTell shown reply = (shown ≡ reply) ⊎ (shown ≡ told Unshown reply)
+
+-- what may be told at a place that a history has
+abbrev pub Tells : Reply → Option Reply → Type 0
+Tells shown None = ⊥
+Tells shown (Some reply) = MayTell shown reply
 
 -- the lines of a call that has a place, and of one that has none
 abbrev pub lines_at : Db → History → Called → Option ℕ → List ℕ

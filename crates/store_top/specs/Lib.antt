@@ -1,3 +1,4 @@
+pub mod Engine
 pub mod Flat
 pub mod Gap
 pub mod KeyRef

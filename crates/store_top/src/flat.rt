@@ -3,9 +3,11 @@ ghost use Rattle.std.specs.List.{HoldsAt};
 ghost use Rattle.std.specs.declared.cmp.Ordering.TheVariants.{Equal};
 ghost use Rattle.own_base.specs.Key.{key_cmp};
 ghost use Rattle.own_base.specs.declared.value.Value.TheVariants.{Null};
+ghost use Rattle.own_model.specs.Built.{built};
 ghost use Rattle.own_model.specs.Create.{create, has_key as attrs_have_key};
 ghost use Rattle.own_model.specs.Db.{as_key, empty, key_of, table_of, IsOrdered, IsRising};
 ghost use Rattle.own_model.specs.History.{answer_to, left_by};
+ghost use Rattle.own_model.specs.Printed.{MayTell};
 ghost use Rattle.own_model.specs.Run.{insert, run, select, with_tuple};
 ghost use Rattle.store_top.specs.Flat.{after_put, db_of, definition, rows_of, seen_at};
 ghost use Rattle.store_top.specs.Gap.{IsGap};
@@ -81,24 +83,29 @@ impl Flat {
         }
     }
 
-    /// SELECT * FROM the table.
+    /// SELECT * FROM the table. Where memory is refused for the rows, `Memory` is told in their place.
     #[tactic(auto, unfolding(own_model::specs::Run::select))]
     fn select(&self, alloc: Global, name: &Name) -> Result<Reply, AllocError>
-        ensures { IfOk result (λ reply. reply ≡ select (db_of self.now) name.now) }
+        ensures { IfOk result (λ reply. MayTell reply (select (db_of self.now) name.now)) }
     {
         match self.position(name) {
-            Some(number) => Ok(Reply::Rows(copied(alloc, &self.tables[number].rows)?)),
+            Some(number) => match copied(alloc, &self.tables[number].rows) {
+                Ok(rows) => Ok(Reply::Rows(rows)),
+                Err(AllocError) => Ok(Reply::Refused(Refusal::Memory)),
+            },
             None => Ok(Reply::Refused(Refusal::NoTable(name.copy(alloc)?))),
         }
     }
 }
 
 impl Flat {
-    /// Runs a statement. Where memory is refused nothing changes.
+    /// Runs a statement. Where memory is refused, nothing changes; where it is refused for the rows of a SELECT alone,
+    /// `Memory` is told in their place.
     #[tactic(auto, unfolding(own_model::specs::Run::run))]
     fn run(&mut self, alloc: Global, statement: &Statement) -> Result<Reply, AllocError>
         requires { IsOrdered (db_of self.old) }
-        ensures ok { IfOk result (λ reply. run (db_of self.old) statement.now ≡ record { db = db_of self.new; reply = reply }) }
+        ensures left { OnOk result (db_of self.new ≡ (run (db_of self.old) statement.now).db) }
+        ensures told { IfOk result (λ reply. MayTell reply (run (db_of self.old) statement.now).reply) }
         ensures err { OnErr result (db_of self.new ≡ db_of self.old) }
     {
         match statement {
@@ -119,11 +126,25 @@ impl Flat {
         }
     }
 
-    /// Answers a request. Where memory is refused nothing changes.
+    /// A request as it comes into the history: a CREATE where a table is there isn't built yet.
+    #[tactic(auto, unfolding(own_model::specs::Built::built))]
+    pub(crate) fn built(&self, request: Request) -> Request
+        ensures { result ≡ built (db_of self.now).schema request }
+    {
+        match request {
+            Request::Run(Statement::CreateTable(_)) if !self.tables.is_empty() => {
+                Request::Syntax(0)
+            }
+            request => request,
+        }
+    }
+
+    /// Answers a request. Where memory is refused, nothing changes; where it is refused for the rows of a SELECT alone,
+    /// `Memory` is told in their place.
     #[tactic(auto, unfolding(own_model::specs::History::answer_to, own_model::specs::History::left_by))]
     pub(crate) fn answer(&mut self, alloc: Global, request: &Request) -> Result<Reply, AllocError>
         requires { IsOrdered (db_of self.old) }
-        ensures reply { IfOk result (λ reply. reply ≡ answer_to (db_of self.old) request.now) }
+        ensures told { IfOk result (λ reply. MayTell reply (answer_to (db_of self.old) request.now)) }
         ensures left { OnOk result (db_of self.new ≡ left_by (db_of self.old) request.now) }
         ensures err { OnErr result (db_of self.new ≡ db_of self.old) }
     {
