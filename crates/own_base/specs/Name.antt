@@ -1,5 +1,5 @@
 -- Names of tables, views and columns, as a schema keeps them.
-use Rattle.std.specs.Prelude.{◌≡◌, ℕ, ◌≤◌, List, [], ◌∷◌, length, IsTrue, Bool, true, false, nat_le, ◌==◌, ◌||◌, ◌&&◌}
+use Rattle.std.specs.Prelude.{ℕ, ◌≤◌, List, [], ◌∷◌, length, IsTrue, Bool, false, nat_le, ◌==◌, ◌||◌, ◌&&◌}
 use Rattle.std.specs.List.{list_all}
 
 -- a lower-case letter of ASCII, or `_`

@@ -9,6 +9,8 @@ mod make_copy;
 mod number;
 mod row;
 mod row_name;
+#[cfg(test)]
+mod tests;
 mod text;
 mod value;
 

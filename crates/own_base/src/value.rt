@@ -1,4 +1,4 @@
-ghost use Rattle.std.specs.Prelude.{◌≡◌, ◌<◌, ◌^◌};
+ghost use Rattle.std.specs.Prelude.{◌≡◌};
 ghost use Rattle.own_base.specs.Key.{key_cmp};
 ghost use Rattle.own_base.specs.Row.{value_size};
 
@@ -26,7 +26,6 @@ pub enum Key {
 impl Value {
     /// The size, in the unit of the weight limit: 32, and a text's bytes besides. Takes no memory.
     pub fn size(&self) -> u64
-        requires { value_size self.now < 2 ^ 64 }
         ensures { result ≡ value_size self.now }
     {
         match self {
