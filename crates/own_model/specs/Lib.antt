@@ -8,6 +8,7 @@ pub mod Grammar
 pub mod History
 pub mod Made
 pub mod Printed
+pub mod Ran
 pub mod Run
 pub mod Script
 pub mod Token
