@@ -1,5 +1,6 @@
 -- The text of calls, call by call.
-use Rattle.std.proofs.Common.{◌≡◌, ℕ, zero, suc, ◌+◌, ◌<◌, ◌≤◌, List, [], ◌∷◌, ◌++◌, length, map, Bool, true, false, not, refl, ap, sym, ◌∙◌, arith, append_assoc}
+use Rattle.std.proofs.Common.{◌≡◌, ℕ, zero, suc, ◌+◌, ◌<◌, ◌≤◌, List, [], ◌∷◌, ◌++◌, length, map, Bool, true, false, not, refl, ap, sym, ◌∙◌, arith, append_assoc, append-nil, rules, inl, inr}
+use Rattle.std.proofs.lemmas.Bool.Decides.{eqb_tells}
 use Rattle.std.specs.Prelude.{Option, None, Some, ◌==◌, ◌&&◌, nat_eq}
 use Rattle.std.specs.List.{AllByRecursion, flat_map}
 use Rattle.std.proofs.lemmas.Grind.{flat_map-append}
@@ -97,12 +98,12 @@ and_false : (b : Bool) → (b && false) ≡ false
 and_false true = refl
 and_false false = refl
 
--- numbers that differ
-unequal : (m n : ℕ) → m < n → (n == m) ≡ false
-unequal m n lt = ?
+-- a smaller number is another
+unequal : (m n : ℕ) → m < n → (m == n) ≡ false
+unequal m n lt = elim (eqb_tells m n) [ inl (is, same) ↦ absurd (omega arith) | inr (is, other) ↦ is ]
 
-unequal_below : (m n : ℕ) → m < n → (m == n) ≡ false
-unequal_below m n lt = ?
+unequal_above : (m n : ℕ) → m < n → (n == m) ≡ false
+unequal_above m n lt = elim (eqb_tells n m) [ inl (is, same) ↦ absurd (omega arith) | inr (is, other) ↦ is ]
 
 -- the calls, and the entries of a history, that are numbered below n
 abbrev pub CallsBelow : ℕ → List ScriptCall → Type 0
@@ -112,12 +113,97 @@ abbrev pub EntriesBelow : ℕ → History → Type 0
 EntriesBelow n history = AllByRecursion (λ entry. entry.call < n) history
 
 -- none of them is of call n
-none_below : (call : ScriptCall) (history : History) → EntriesBelow call.call history → NoneOf call history
+pub none_below : (call : ScriptCall) (history : History) → EntriesBelow call.call history → NoneOf call history
 none_below call [] below = tt
-none_below call (entry ∷ history) below = (rw (unequal_below entry.call call.call below.0) (and_false _), none_below call history below.1)
+none_below call (entry ∷ history) below = (rw (unequal entry.call call.call below.0) (and_false _), none_below call history below.1)
 
--- and no entry of call n is of one of them
+-- an entry of a later call is of none of them
 others_below : (entry : Entry) (calls : List Called) → CallsBelow entry.call (map (λ called. called.call) calls)
-    → (more : History) → AllByRecursion (λ e. e ≡ entry) more → AllByRecursion (λ called. NoneOf called.call more) calls
-others_below entry [] below more is = tt
-others_below entry (called ∷ calls) below more is = (?, others_below entry calls below.1 more is)
+    → AllByRecursion (λ called. NoneOf called.call (entry ∷ [])) calls
+others_below entry [] below = tt
+others_below entry (called ∷ calls) below =
+    ((rw (unequal_above called.call.call entry.call below.0) (and_false _), tt), others_below entry calls below.1)
+
+nothing_of : (calls : List Called) → AllByRecursion (λ called. NoneOf called.call []) calls
+nothing_of [] = tt
+nothing_of (called ∷ calls) = (tt, nothing_of calls)
+
+others_added : (entry : Entry) (want : Want) (calls : List Called) → CallsBelow entry.call (map (λ called. called.call) calls)
+    → AllByRecursion (λ called. NoneOf called.call (added entry want)) calls
+others_added entry Spared calls below = others_below entry calls below
+others_added entry Unshown calls below = others_below entry calls below
+others_added entry Unmade calls below = nothing_of calls
+
+-- a call's place, where nothing but want of memory keeps its entry away
+abbrev pub place_by : Want → ℕ → Option ℕ
+place_by Spared place = Some place
+place_by Unshown place = Some place
+place_by Unmade place = None
+
+is_of_own : (base : Db) (history : History) (call : ScriptCall) → is_of call (entry_of base history call) ≡ true
+is_of_own base history call = search rules
+
+place_added : (base : Db) (history : History) (call : ScriptCall) (want : Want) → NoneOf call history
+    → place_of (history ++ added (entry_of base history call) want) call ≡ place_by want (length history)
+place_added base history call Spared none = place_from-last 0 call history (entry_of base history call) none (is_of_own base history call) ∙ ap (λ n. Some n) (omega arith)
+place_added base history call Unshown none = place_from-last 0 call history (entry_of base history call) none (is_of_own base history call) ∙ ap (λ n. Some n) (omega arith)
+place_added base history call Unmade none = ap (λ h. place_of h call) (append-nil history) ∙ place_from-none 0 call history none
+
+made-append : (base : Db) (calls : List Called) (called : Called) → made base (calls ++ called ∷ []) ≡ after_call base (made base calls) called
+unfolding made
+made-append base calls called = fold-append (after_call base) [] calls (called ∷ [])
+
+printed-last : (base : Db) (history : History) (calls : List Called) (called : Called)
+    → printed base history (calls ++ called ∷ []) ≡ printed base history calls ++ lines_of base history called
+unfolding printed
+printed-last base history calls called =
+    flat_map-append (lines_of base history) calls (called ∷ []) ∙ ap (λ lines. flat_map (lines_of base history) calls ++ lines) (append-nil (lines_of base history called))
+
+lines_of-place : (base : Db) (history : History) (called : Called) (place : Option ℕ) → place_of history called.call ≡ place
+    → lines_at base history called place ≡ lines_of base history called
+unfolding lines_of
+lines_of-place base history called place is = ap (lines_at base history called) (sym is)
+
+-- A call more: its entry goes behind the history, unless memory refused it, and its lines behind the text.
+pub has_run-more : (base : Db) (calls : List ScriptCall) (history : History) (text : List ℕ) (call : ScriptCall) (want : Want)
+    → HasRun base calls history text → CallsBelow call.call calls → EntriesBelow call.call history
+    → HasRun base (calls ++ call ∷ []) (history ++ added (entry_of base history call) want)
+        (text ++ lines_at base (history ++ added (entry_of base history call) want) (record { call = call; want = want }) (place_by want (length history)))
+has_run-more base calls history text call want run below earlier =
+    let last : Called = record { call = call; want = want } in
+    let grown = history ++ added (entry_of base history call) want in
+    let same_calls = map-append (λ called. called.call) run.called (last ∷ []) ∙ ap (λ calls. calls ++ call ∷ []) run.calls_are in
+    let others = others_added (entry_of base history call) want run.called (rw run.calls_are below) in
+    let before = run.text_is ∙ sym (printed-append base history (added (entry_of base history call) want) run.called others) in
+    let lines = lines_of-place base grown last (place_by want (length history)) (place_added base history call want (none_below call history earlier)) in
+    record {
+      called = run.called ++ last ∷ [];
+      calls_are = same_calls;
+      history_is = ap (λ h. after_call base h last) run.history_is ∙ sym (made-append base run.called last);
+      text_is = ap (λ t. t ++ lines_at base grown last (place_by want (length history))) before
+        ∙ (ap (λ l. printed base grown run.called ++ l) lines ∙ sym (printed-last base grown run.called last));
+    }
+
+-- no call yet
+pub has_run-none : (base : Db) → HasRun base [] [] []
+unfolding made printed
+has_run-none base = record { called = []; calls_are = refl; history_is = refl; text_is = refl }
+
+-- calls and entries numbered below n are numbered below more
+pub calls_below-more : (n : ℕ) (calls : List ScriptCall) (call : ScriptCall) → CallsBelow n calls → call.call ≡ n → CallsBelow (n + 1) (calls ++ call ∷ [])
+calls_below-more n [] call below is = (omega arith, tt)
+calls_below-more n (first ∷ calls) call below is = ((let lt = below.0 in omega arith), calls_below-more n calls call below.1 is)
+
+entries_below-next : (n : ℕ) (history : History) → EntriesBelow n history → EntriesBelow (n + 1) history
+entries_below-next n [] below = tt
+entries_below-next n (first ∷ history) below = ((let lt = below.0 in omega arith), entries_below-next n history below.1)
+
+entries_below-last : (n : ℕ) (history : History) (entry : Entry) → EntriesBelow n history → entry.call ≡ n → EntriesBelow (n + 1) (history ++ entry ∷ [])
+entries_below-last n [] entry below is = (omega arith, tt)
+entries_below-last n (first ∷ history) entry below is = ((let lt = below.0 in omega arith), entries_below-last n history entry below.1 is)
+
+pub entries_below-more : (base : Db) (n : ℕ) (history : History) (call : ScriptCall) (want : Want) → EntriesBelow n history → call.call ≡ n
+    → EntriesBelow (n + 1) (history ++ added (entry_of base history call) want)
+entries_below-more base n history call Spared below is = entries_below-last n history (entry_of base history call) below is
+entries_below-more base n history call Unshown below is = entries_below-last n history (entry_of base history call) below is
+entries_below-more base n history call Unmade below is = rw append-nil (entries_below-next n history below)
