@@ -11,9 +11,9 @@ use Rattle.own_model.specs.declared.reply.Reply.{Reply}
 use Rattle.own_model.specs.declared.script.ScriptCall.{ScriptCall}
 use Rattle.own_model.specs.Db.{Db}
 use Rattle.own_model.specs.History.{History, reply}
-use Rattle.own_model.specs.Made.{Want, Spared, Unshown, Unmade, Called, added, after_call, entry_of, made}
-use Rattle.own_model.specs.Printed.{is_of, lines_at, lines_of, place_from, place_of, printed}
-use Rattle.own_model.specs.Ran.{HasRun}
+use Rattle.own_model.specs.Made.{Want, Spared, Unshown, Unmade, Called, added, after_call, entry_of, made, place_by}
+use Rattle.own_model.specs.Printed.{Tells, is_of, lines_at, lines_of, place_from, place_of, printed, reply_lines}
+use Rattle.own_model.specs.Ran.{HasRun, text_of_call}
 use Rattle.own_model.proofs.Histories.{reply-append}
 
 -- no entry is of the call
@@ -134,12 +134,6 @@ others_added entry Spared calls below = others_below entry calls below
 others_added entry Unshown calls below = others_below entry calls below
 others_added entry Unmade calls below = nothing_of calls
 
--- a call's place, where nothing but want of memory keeps its entry away
-abbrev pub place_by : Want → ℕ → Option ℕ
-place_by Spared place = Some place
-place_by Unshown place = Some place
-place_by Unmade place = None
-
 is_of_own : (base : Db) (history : History) (call : ScriptCall) → is_of call (entry_of base history call) ≡ true
 is_of_own base history call = search rules
 
@@ -207,3 +201,18 @@ pub entries_below-more : (base : Db) (n : ℕ) (history : History) (call : Scrip
 entries_below-more base n history call Spared below is = entries_below-last n history (entry_of base history call) below is
 entries_below-more base n history call Unshown below is = entries_below-last n history (entry_of base history call) below is
 entries_below-more base n history call Unmade below is = rw append-nil (entries_below-next n history below)
+
+told_step : (base : Db) (history : History) (call : ScriptCall) (shown : Reply) (reply_there : Option Reply)
+    → reply base (history ++ entry_of base history call ∷ []) (length history) ≡ reply_there → Tells shown reply_there
+    → (want : Want) × (added (entry_of base history call) want ≡ entry_of base history call ∷ [])
+      × (reply_lines (Some (length history)) call.session.0 call.call shown ≡ text_of_call base history call want)
+told_step base history call shown None is told = absurd told
+told_step base history call shown (Some reply) is (inl same) = (Spared, refl, rw is (ap (reply_lines (Some (length history)) call.session.0 call.call) same))
+told_step base history call shown (Some reply) is (inr same) = (Unshown, refl, rw is (ap (reply_lines (Some (length history)) call.session.0 call.call) same))
+
+-- what is told of the last entry is the text of its call
+pub told-last : (base : Db) (history : History) (call : ScriptCall) (shown : Reply)
+    → Tells shown (reply base (history ++ entry_of base history call ∷ []) (length history))
+    → (want : Want) × (added (entry_of base history call) want ≡ entry_of base history call ∷ [])
+      × (reply_lines (Some (length history)) call.session.0 call.call shown ≡ text_of_call base history call want)
+told-last base history call shown told = told_step base history call shown _ refl told

@@ -2,3 +2,4 @@ pub mod Engine
 pub mod Flat
 pub mod Gap
 pub mod KeyRef
+pub mod Steps

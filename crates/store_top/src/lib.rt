@@ -5,3 +5,4 @@ mod engine;
 mod flat;
 mod key_ref;
 mod print;
+mod steps;
