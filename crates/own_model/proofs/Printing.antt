@@ -162,7 +162,7 @@ lines_of-place base history called place is = ap (lines_at base history called) 
 pub has_run-more : (base : Db) (calls : List ScriptCall) (history : History) (text : List ℕ) (call : ScriptCall) (want : Want)
     → HasRun base calls history text → CallsBelow call.call calls → EntriesBelow call.call history
     → HasRun base (calls ++ call ∷ []) (history ++ added (entry_of base history call) want)
-        (text ++ lines_at base (history ++ added (entry_of base history call) want) (record { call = call; want = want }) (place_by want (length history)))
+    (text ++ lines_at base (history ++ added (entry_of base history call) want) (record { call = call; want = want }) (place_by want (length history)))
 has_run-more base calls history text call want run below earlier =
     let last : Called = record { call = call; want = want } in
     let grown = history ++ added (entry_of base history call) want in
@@ -175,7 +175,7 @@ has_run-more base calls history text call want run below earlier =
       calls_are = same_calls;
       history_is = ap (λ h. after_call base h last) run.history_is ∙ sym (made-append base run.called last);
       text_is = ap (λ t. t ++ lines_at base grown last (place_by want (length history))) before
-        ∙ (ap (λ l. printed base grown run.called ++ l) lines ∙ sym (printed-last base grown run.called last));
+          ∙ (ap (λ l. printed base grown run.called ++ l) lines ∙ sym (printed-last base grown run.called last));
     }
 
 -- no call yet
@@ -205,7 +205,7 @@ entries_below-more base n history call Unmade below is = rw append-nil (entries_
 told_step : (base : Db) (history : History) (call : ScriptCall) (shown : Reply) (reply_there : Option Reply)
     → reply base (history ++ entry_of base history call ∷ []) (length history) ≡ reply_there → Tells shown reply_there
     → (want : Want) × (added (entry_of base history call) want ≡ entry_of base history call ∷ [])
-      × (reply_lines (Some (length history)) call.session.0 call.call shown ≡ text_of_call base history call want)
+    × (reply_lines (Some (length history)) call.session.0 call.call shown ≡ text_of_call base history call want)
 told_step base history call shown None is told = absurd told
 told_step base history call shown (Some reply) is (inl same) = (Spared, refl, rw is (ap (reply_lines (Some (length history)) call.session.0 call.call) same))
 told_step base history call shown (Some reply) is (inr same) = (Unshown, refl, rw is (ap (reply_lines (Some (length history)) call.session.0 call.call) same))
@@ -214,5 +214,5 @@ told_step base history call shown (Some reply) is (inr same) = (Unshown, refl, r
 pub told-last : (base : Db) (history : History) (call : ScriptCall) (shown : Reply)
     → Tells shown (reply base (history ++ entry_of base history call ∷ []) (length history))
     → (want : Want) × (added (entry_of base history call) want ≡ entry_of base history call ∷ [])
-      × (reply_lines (Some (length history)) call.session.0 call.call shown ≡ text_of_call base history call want)
+    × (reply_lines (Some (length history)) call.session.0 call.call shown ≡ text_of_call base history call want)
 told-last base history call shown told = told_step base history call shown _ refl told

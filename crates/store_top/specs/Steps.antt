@@ -1,5 +1,5 @@
 -- What serving calls one after another does to a history and a sink.
-use Rattle.std.specs.Prelude.{◌≡◌, ℕ, ◌≤◌, List, ◌++◌, Option, length, take, Result, MatchResult, IfOk}
+use Rattle.std.specs.Prelude.{◌≡◌, ℕ, ◌+◌, List, [], ◌∷◌, ◌++◌, Option, length, take, Result, MatchResult, IfOk}
 use Rattle.std.specs.Io.KnownBytes.{Appends}
 use Rattle.own_model.specs.declared.script.ScriptCall.{ScriptCall}
 use Rattle.own_model.specs.Db.{empty}
@@ -23,8 +23,8 @@ pub record ServesTo {E : Type 0} (call : ScriptCall) (before after : History) (o
   pub want : Want
   pub history_is : after ≡ before ++ added (entry_of empty before call) want
   pub written : MatchResult result
-    (λ _. Appends old new (text_of_call empty before call want))
-    (λ _. AppendsFront old new (text_of_call empty before call want))
+      (λ _. Appends old new (text_of_call empty before call want))
+      (λ _. AppendsFront old new (text_of_call empty before call want))
 
 -- these calls were made in a run, and known bytes grew by its text
 pub record RunsTo (calls : List ScriptCall) (history : History) (old new : Option (List ℕ)) : Type 0 where
@@ -32,8 +32,16 @@ pub record RunsTo (calls : List ScriptCall) (history : History) (old new : Optio
   pub run : HasRun empty calls history text
   pub written : Appends old new text
 
--- these calls were made in a run, and known bytes grew by a front of its text
-pub record RunsPartly (calls : List ScriptCall) (history : History) (old new : Option (List ℕ)) : Type 0 where
+-- a front of the calls was made in a run, and known bytes grew by a front of its text
+pub record RunsFront (calls : List ScriptCall) (history : History) (old new : Option (List ℕ)) : Type 0 where
+  pub done : List ScriptCall
+  pub rest : List ScriptCall
+  pub parts : calls ≡ done ++ rest
   pub text : List ℕ
-  pub run : HasRun empty calls history text
+  pub run : HasRun empty done history text
   pub written : AppendsFront old new text
+
+-- the calls are numbered one after another, from here on
+abbrev pub IsNumbered : ℕ → List ScriptCall → Type 0
+IsNumbered number [] = Unit {0}
+IsNumbered number (call ∷ calls) = (call.call ≡ number) × IsNumbered (number + 1) calls

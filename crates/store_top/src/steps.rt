@@ -1,8 +1,8 @@
-ghost use Rattle.std.specs.Prelude.{◌≡◌, ◌<◌, ◌≤◌, vec_len, OnErr, Err};
+ghost use Rattle.std.specs.Prelude.{◌≡◌, ◌<◌, ◌≤◌, [], vec_len, OnOk, OnErr, Err};
 ghost use Rattle.std.specs.Vec.{vec_capacity};
 ghost use Rattle.outer_world.specs.FaultCount.{CountRose};
 ghost use Rattle.store_top.specs.Engine.{Stands};
-ghost use Rattle.store_top.specs.Steps.{Serves, ServesTo};
+ghost use Rattle.store_top.specs.Steps.{IsNumbered, RunsFront, RunsTo, Serves, ServesTo};
 
 use crate::engine::Engine;
 use crate::print::print_reply;
@@ -36,7 +36,13 @@ fn lines_of_call(
     let number = call.call;
     match engine.step(alloc, call) {
         Ok(answered) => {
-            let text = print_reply(alloc, Some(answered.place), session, number, &answered.reply);
+            let text = print_reply(
+                alloc,
+                Some(answered.place),
+                session,
+                number,
+                &answered.reply,
+            );
             drop(answered);
             text
         }
@@ -68,4 +74,26 @@ fn serve_call<W: Sink>(
         Ok(text) => write_all(sink, &text).map_err(|_| RunFault::Write),
         Err(AllocError) => Err(RunFault::Memory),
     }
+}
+
+/// Serves calls one after another, and writes each call's lines before the next. After the first fault no call is made.
+pub(crate) fn serve_calls<W: Sink>(
+    engine: &mut Engine,
+    alloc: Global,
+    calls: Vec<ScriptCall>,
+    sink: &mut W,
+) -> Result<(), RunFault>
+    requires stands { Stands engine.old }
+    requires fresh { engine.old.history.items ≡ [] }
+    requires room { vec_len calls ≤ vec_capacity engine.old.history }
+    requires numbered { IsNumbered 1 calls.items }
+
+    ensures served { OnOk result (RunsTo calls.items engine.new.history.items (W.written sink.old) (W.written sink.new)) }
+    ensures partly { OnErr result (RunsFront calls.items engine.new.history.items (W.written sink.old) (W.written sink.new)) }
+    ensures fault { result ≡ Err RunFault.Write → CountRose (W.faults sink.old) (W.faults sink.new) }
+{
+    for call in calls {
+        serve_call(engine, alloc, call, sink)?;
+    }
+    Ok(())
 }
