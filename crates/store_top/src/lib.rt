@@ -1,0 +1,4 @@
+//! The program's reader.
+#![tactic(auto)]
+
+mod call_text;
