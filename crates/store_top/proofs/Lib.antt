@@ -1,2 +1,4 @@
 pub mod Cutting
 pub mod CallTexts
+pub mod Tokens
+pub mod Unquoting

@@ -2,3 +2,4 @@
 #![tactic(auto)]
 
 mod call_text;
+mod token;
