@@ -2,3 +2,4 @@ pub mod Cutting
 pub mod CallTexts
 pub mod Tokens
 pub mod Unquoting
+pub mod FrontTokens

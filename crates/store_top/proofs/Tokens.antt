@@ -161,8 +161,9 @@ tokens_by_quote bytes read is = tokens_found 39 bytes (quoted_or_mark read) refl
 closed_by : (bytes value rest : List ℕ) (read : Option (List ℕ × ℕ)) → value_and_rest bytes read ≡ Some (value, rest) → (quoted_or_mark read).token ∷ tokens (drop ((quoted_or_mark read).taken - 1) bytes) ≡ Quoted value ∷ tokens rest
 closed_by bytes value rest None is = cc
 closed_by bytes value rest (Some (found, taken)) is =
-    let same : found ≡ value = cc in
-    let left : drop taken bytes ≡ rest = cc in
+    let pair : ◌≡◌ {A = List ℕ × List ℕ} (found, drop taken bytes) (value, rest) = cc in
+    let same : found ≡ value = ap (λ parts. parts.0) pair in
+    let left : drop taken bytes ≡ rest = ap (λ parts. parts.1) pair in
     let count : taken + 1 - 1 ≡ taken = omega arith in
     ap (λ n. Quoted found ∷ tokens (drop n bytes)) count ∙ ap (λ text. Quoted text ∷ tokens (drop taken bytes)) same ∙ ap (λ text. Quoted value ∷ tokens text) left
 
@@ -183,9 +184,9 @@ tokens_open [] some quote is = absurd (omega arith)
 tokens_open (byte ∷ bytes) some quote is = ap (λ first. tokens (first ∷ bytes)) quote ∙ tokens_by_quote bytes (quoted_value false bytes) refl ∙ open_by bytes (quoted_value false bytes) is
 
 -- a text that begins with another byte
-pub tokens_mark : (text : List ℕ) → 0 < length text → is_white (get_or text 0 0) ≡ false → begins_word (get_or text 0 0) ≡ false → is_digit (get_or text 0 0) ≡ false → get_or text 0 0 ≢ 39 → tokens text ≡ Mark (get_or text 0 0) ∷ tokens (drop 1 text)
-tokens_mark [] some dark word digit quote = absurd (omega arith)
-tokens_mark (byte ∷ bytes) some dark word digit quote =
-    let found : Found = record { token = Mark byte; taken = 1 } in
-    let is : token_at byte bytes ≡ found = token_at_is byte bytes ∙ rw (word, digit, ne_eqb byte 39 quote) refl in
-    tokens_found byte bytes found dark is
+pub tokens_mark : (text : List ℕ) (first : ℕ) → 0 < length text → get_or text 0 0 ≡ first → is_white first ≡ false → begins_word first ≡ false → is_digit first ≡ false → first ≢ 39 → tokens text ≡ Mark first ∷ tokens (drop 1 text)
+tokens_mark [] first some at dark word digit quote = absurd (omega arith)
+tokens_mark (byte ∷ bytes) first some at dark word digit quote =
+    let found : Found = record { token = Mark first; taken = 1 } in
+    let is : token_at first bytes ≡ found = token_at_is first bytes ∙ rw (word, digit, ne_eqb first 39 quote) refl in
+    ap (λ b. tokens (b ∷ bytes)) at ∙ tokens_found first bytes found dark is

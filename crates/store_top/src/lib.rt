@@ -2,4 +2,5 @@
 #![tactic(auto)]
 
 mod call_text;
+mod grammar;
 mod token;

@@ -181,7 +181,9 @@ pub fn next_token(alloc: Global, text: &str) -> Result<(Token<'_>, &str), ReadFa
     }
     if is_digit(first) {
         let (digits, rest) = split_digits(text);
-        let number = number_of(digits).ok_or(ReadFault::Syntax)?;
+        let Some(number) = number_of(digits) else {
+            return Err(ReadFault::Syntax);
+        };
         return Ok((Token::Number(number), rest));
     }
     if first == b'\'' {
