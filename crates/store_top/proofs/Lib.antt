@@ -3,3 +3,4 @@ pub mod CallTexts
 pub mod Tokens
 pub mod Unquoting
 pub mod FrontTokens
+pub mod RuleSteps

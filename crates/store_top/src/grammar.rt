@@ -1,5 +1,7 @@
 ghost use Rattle.std.specs.Prelude.{◌≡◌, ◌<◌, codes, map, IsTrue};
 ghost use Rattle.std.specs.Char.{to_ascii_lowercase};
+ghost use Rattle.std.specs.List.{list_any};
+ghost use Rattle.std.specs.Str.{bytes_eq};
 ghost use Rattle.own_model.specs.Token.{tokens};
 ghost use Rattle.own_model.specs.Grammar as grammar;
 ghost use Rattle.store_top.specs.Read.{Gives};
@@ -18,11 +20,18 @@ const KEYWORDS: [&str; 54] = [
     "transaction", "unique", "update", "values", "view", "where",
 ];
 
+/// Whether the word is one of these.
+fn is_among(word: &str, words: &[&str]) -> bool
+    ensures { result ≡ list_any (λ other. bytes_eq word.now other.now) words.now }
+{
+    words.iter().any(|other| word == *other)
+}
+
 /// Whether the word, in lower case, can't be a name.
 fn is_keyword(word: &str) -> bool
     ensures { result ≡ grammar.is_keyword word.now }
 {
-    KEYWORDS.iter().any(|keyword| *keyword == word)
+    is_among(word, &KEYWORDS)
 }
 
 /// The keyword, in any case. What is behind it.
@@ -31,10 +40,13 @@ fn word<'a>(alloc: Global, wanted: &str, text: &'a str) -> Result<&'a str, ReadF
     ensures { Gives (λ rest. (wanted.now, tokens rest.now)) result (grammar.word wanted.now (tokens text.now)) }
 {
     let (token, rest) = next_token(alloc, text)?;
-    match token {
-        Token::Word(found) if found.eq_ignore_ascii_case(wanted) => Ok(rest),
-        _ => Err(ReadFault::Syntax),
+    let Token::Word(found) = token else {
+        return Err(ReadFault::Syntax);
+    };
+    if !found.eq_ignore_ascii_case(wanted) {
+        return Err(ReadFault::Syntax);
     }
+    Ok(rest)
 }
 
 /// The mark, which is a byte of ASCII. What is behind it.
@@ -43,10 +55,13 @@ fn mark(alloc: Global, wanted: u8, text: &str) -> Result<&str, ReadFault>
     ensures { Gives (λ rest. (wanted, tokens rest.now)) result (grammar.mark wanted (tokens text.now)) }
 {
     let (token, rest) = next_token(alloc, text)?;
-    match token {
-        Token::Mark(found) if found == wanted => Ok(rest),
-        _ => Err(ReadFault::Syntax),
+    let Token::Mark(found) = token else {
+        return Err(ReadFault::Syntax);
+    };
+    if found != wanted {
+        return Err(ReadFault::Syntax);
     }
+    Ok(rest)
 }
 
 /// A name, in lower case: a word of at most 64 bytes that is no keyword. What is behind it.
@@ -73,8 +88,11 @@ fn text(alloc: Global, text: &str) -> Result<(Text, &str), ReadFault>
     ensures { Gives (λ read. (read.0, tokens read.1.now)) result (grammar.text (tokens text.now)) }
 {
     let (token, rest) = next_token(alloc, text)?;
-    match token {
-        Token::Quoted(value) if value.len() <= 4_096 => Ok((Text::from_string(value), rest)),
-        _ => Err(ReadFault::Syntax),
+    let Token::Quoted(value) = token else {
+        return Err(ReadFault::Syntax);
+    };
+    if value.len() > 4_096 {
+        return Err(ReadFault::Syntax);
     }
+    Ok((Text::from_string(value), rest))
 }
