@@ -1,11 +1,12 @@
 -- Each rule reads the token in front, and goes on by it.
 use Rattle.std.proofs.Common.{◌≡◌, ◌≢◌, ℕ, ℤ, pos, ◌+◌, ◌<◌, ◌≤◌, ◌^◌, List, [], ◌∷◌, length, Bool, true, false, Option, None, Some, Result, Ok, Err, arith, refl, sym, ap, ◌∙◌, cond, lt-ltb, map, subst}
-use Rattle.std.specs.Prelude.{nat_lt, ◌==◌, IsErrAnd, string_bytes}
+use Rattle.std.specs.Prelude.{nat_lt, nat_le, not, ◌&&◌, IsTrue, ◌↔◌, ◌==◌, IsErrAnd, string_bytes}
 use Rattle.std.specs.Char.{to_ascii_lowercase}
 use Rattle.std.specs.Str.{bytes_eq}
-use Rattle.std.proofs.lemmas.Bool.{le-ltb, ltb-true, ltb-false, ne_eqb}
+use Rattle.std.proofs.lemmas.Bool.{le-leb, leb-true, ltb-false, ne_eqb, eq-eqb, false_from_ne_true}
+use Rattle.std.proofs.lemmas.Slice.Eq.{bytes_eq-Decides}
 use Rattle.own_model.specs.Token.{Token, Word, Number, Quoted, Mark}
-use Rattle.own_model.specs.Grammar.{Rule, word, mark, name, text, int, after_first}
+use Rattle.own_model.specs.Grammar.{Rule, is_keyword, word, mark, name, text, int, after_first}
 use Rattle.store_top.specs.declared.token.Token as held_token
 use Rattle.store_top.specs.declared.token.Token.TheVariants as held
 use Rattle.store_top.specs.declared.token.ReadFault.{ReadFault}
@@ -94,3 +95,54 @@ text_none (held.Quoted value) rest other = absurd (other value refl)
 text_none (held.Number number) rest other = refl
 text_none (held.Word found) rest other = refl
 text_none (held.Mark byte) rest other = refl
+
+bytes_eq_is : (xs ys : List ℕ) → bytes_eq xs ys ≡ true → xs ≡ ys
+bytes_eq_is xs ys same = (bytes_eq-Decides xs ys).0 same
+
+bytes_eq_yes : (xs ys : List ℕ) → xs ≡ ys → bytes_eq xs ys ≡ true
+bytes_eq_yes xs ys same = (bytes_eq-Decides xs ys).1 same
+
+lt-leb-false : (a b : ℕ) → b < a → nat_le a b ≡ false
+lt-leb-false a b less = false_from_ne_true (nat_le a b) (λ is. absurd (omega (arith, leb-true a b is)))
+
+-- a keyword found, or another word
+pub word_by_test : (wanted found : List ℕ) (rest : List Token) (same : Bool) → map to_ascii_lowercase wanted ≡ wanted → (IsTrue same ↔ (map to_ascii_lowercase found ≡ map to_ascii_lowercase wanted))
+  → word wanted (Word (map to_ascii_lowercase found) ∷ rest) ≡ cond same (Some (wanted, rest)) None
+unfolding word
+word_by_test wanted found rest true lower test =
+    let is : map to_ascii_lowercase found ≡ wanted = test.0 refl ∙ lower in
+    rw (is, bytes_eq_yes wanted wanted refl) refl
+word_by_test wanted found rest false lower test =
+    rw (false_from_ne_true (bytes_eq (map to_ascii_lowercase found) wanted) (λ same. let wrong : false ≡ true = test.1 (bytes_eq_is (map to_ascii_lowercase found) wanted same ∙ sym lower) in cc)) refl
+
+pub mark_some : (wanted : ℕ) (rest : List Token) → mark wanted (Mark wanted ∷ rest) ≡ Some (wanted, rest)
+unfolding mark
+mark_some wanted rest = rw (eq-eqb wanted wanted refl) refl
+
+pub mark_other : (wanted found : ℕ) (rest : List Token) → found ≢ wanted → mark wanted (Mark found ∷ rest) ≡ None
+unfolding mark
+mark_other wanted found rest other = rw (ne_eqb found wanted other) refl
+
+pub text_some : (value : List ℕ) (rest : List Token) → length value ≤ 4096 → text (Quoted value ∷ rest) ≡ Some (value, rest)
+unfolding text
+text_some value rest short = rw (le-leb (length value) 4096 short) refl
+
+pub text_long : (value : List ℕ) (rest : List Token) → 4096 < length value → text (Quoted value ∷ rest) ≡ None
+unfolding text
+text_long value rest long = rw (lt-leb-false (length value) 4096 long) refl
+
+pub name_some : (word : List ℕ) (rest : List Token) → length word ≤ 64 → is_keyword word ≡ false → name (Word word ∷ rest) ≡ Some (word, rest)
+unfolding name
+name_some word rest short free = rw (free, le-leb (length word) 64 short) refl
+
+pub name_keyword : (word : List ℕ) (rest : List Token) → is_keyword word ≡ true → name (Word word ∷ rest) ≡ None
+unfolding name
+name_keyword word rest kept = rw kept refl
+
+long_by : (keyword : Bool) → (long : Bool) → long ≡ false → not keyword && long ≡ false
+long_by true long is = refl
+long_by false long is = is
+
+pub name_long : (word : List ℕ) (rest : List Token) → 64 < length word → name (Word word ∷ rest) ≡ None
+unfolding name
+name_long word rest long = rw (long_by (is_keyword word) (nat_le (length word) 64) (lt-leb-false (length word) 64 long)) refl

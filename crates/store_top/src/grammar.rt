@@ -1,15 +1,17 @@
-ghost use Rattle.std.specs.Prelude.{◌≡◌, ◌<◌, codes, map, IsTrue};
+ghost use Rattle.std.specs.Prelude.{◌≡◌, ◌<◌, ◌≤◌, ◌^◌, [], ◌∷◌, None, map, IfOk};
 ghost use Rattle.std.specs.Char.{to_ascii_lowercase};
 ghost use Rattle.std.specs.List.{list_any};
 ghost use Rattle.std.specs.Str.{bytes_eq};
-ghost use Rattle.own_model.specs.Token.{tokens};
+ghost use Rattle.own_model.specs.Token.{Mark, tokens};
+ghost use Rattle.own_base.specs.declared.value.Value.TheVariants as value;
+ghost use Rattle.own_model.specs.declared.statement.Statement.TheVariants as statement;
 ghost use Rattle.own_model.specs.Grammar as grammar;
 ghost use Rattle.store_top.specs.Read.{Gives};
 
 use crate::token::{ReadFault, Token, next_token};
 use own_base::{List, Name, Text, Value};
 use own_model::{Attr, ColumnDef, CreateTable, Items, Kind, Part, Select, Statement};
-use std::alloc::Global;
+use std::alloc::{AllocError, Global};
 
 /// The words that can't be names.
 const KEYWORDS: [&str; 54] = [
@@ -95,4 +97,150 @@ fn text(alloc: Global, text: &str) -> Result<(Text, &str), ReadFault>
         return Err(ReadFault::Syntax);
     }
     Ok((Text::from_string(value), rest))
+}
+
+/// The number below zero that is as great.
+fn negative(number: u64) -> i64
+    requires { number ≤ 2 ^ 63 }
+    ensures { result ≡ grammar.negative number }
+{
+    if number == 1 << 63 {
+        i64::MIN
+    } else {
+        -(number as i64)
+    }
+}
+
+/// A number behind a `-`. What is behind it.
+fn negative_int(alloc: Global, text: &str) -> Result<(i64, &str), ReadFault>
+    ensures { Gives (λ read. (read.0, tokens read.1.now)) result (grammar.int (Mark 45 ∷ tokens text.now)) }
+{
+    let (token, rest) = next_token(alloc, text)?;
+    let Token::Number(number) = token else {
+        return Err(ReadFault::Syntax);
+    };
+    if number > 1 << 63 {
+        return Err(ReadFault::Syntax);
+    }
+    Ok((negative(number), rest))
+}
+
+/// A number of i64, with its sign. What is behind it.
+fn int(alloc: Global, text: &str) -> Result<(i64, &str), ReadFault>
+    ensures { Gives (λ read. (read.0, tokens read.1.now)) result (grammar.int (tokens text.now)) }
+{
+    let (token, rest) = next_token(alloc, text)?;
+    if let Token::Mark(b'-') = token {
+        return negative_int(alloc, rest);
+    }
+    let Token::Number(number) = token else {
+        return Err(ReadFault::Syntax);
+    };
+    if number >= 1 << 63 {
+        return Err(ReadFault::Syntax);
+    }
+    Ok((number as i64, rest))
+}
+
+/// The table of a CREATE with a number for its key and a text.
+fn create_of(alloc: Global, table: Name, key: Name, column: Name) -> Result<Statement, AllocError>
+    ensures { IfOk result (λ made. made ≡ grammar.create_of table key column) }
+{
+    let mut attrs = List::new(alloc);
+    attrs.push(Attr::Key).map_err(|refused| refused.0)?;
+    let key = Part::Column(ColumnDef {
+        name: key,
+        kind: Kind::Int,
+        attrs,
+    });
+    let column = Part::Column(ColumnDef {
+        name: column,
+        kind: Kind::Text,
+        attrs: List::new(alloc),
+    });
+    let mut parts = List::new(alloc);
+    parts.push(key).map_err(|refused| refused.0)?;
+    parts.push(column).map_err(|refused| refused.0)?;
+    Ok(Statement::CreateTable(CreateTable {
+        name: table,
+        subject: true,
+        parts,
+    }))
+}
+
+/// `CREATE DATA_SUBJECT TABLE name ( name INT PRIMARY KEY , name TEXT )`, where the columns' names differ.
+#[tactic(auto, unfolding(own_model::specs::Grammar::create))]
+fn create(alloc: Global, text: &str) -> Result<(Statement, &str), ReadFault>
+    ensures { Gives (λ read. (read.0, tokens read.1.now)) result (grammar.create (tokens text.now)) }
+{
+    let rest = word(alloc, "create", text)?;
+    let rest = word(alloc, "data_subject", rest)?;
+    let rest = word(alloc, "table", rest)?;
+    let (table, rest) = name(alloc, rest)?;
+    let rest = mark(alloc, b'(', rest)?;
+    let (key, rest) = name(alloc, rest)?;
+    let rest = word(alloc, "int", rest)?;
+    let rest = word(alloc, "primary", rest)?;
+    let rest = word(alloc, "key", rest)?;
+    let rest = mark(alloc, b',', rest)?;
+    let (column, rest) = name(alloc, rest)?;
+    let rest = word(alloc, "text", rest)?;
+    let rest = mark(alloc, b')', rest)?;
+    if key == column {
+        return Err(ReadFault::Syntax);
+    }
+    Ok((create_of(alloc, table, key, column)?, rest))
+}
+
+/// The row of an INSERT, alone.
+fn insert_of(alloc: Global, table: Name, key: i64, column: Text) -> Result<Statement, AllocError>
+    ensures { IfOk result (λ made. made ≡ statement.Insert table None ((value.Int key ∷ value.Text column ∷ []) ∷ [])) }
+{
+    let mut row = List::new(alloc);
+    row.push(Value::Int(key)).map_err(|refused| refused.0)?;
+    row.push(Value::Text(column)).map_err(|refused| refused.0)?;
+    let mut rows = List::new(alloc);
+    rows.push(row).map_err(|refused| refused.0)?;
+    Ok(Statement::Insert {
+        table,
+        columns: None,
+        rows,
+    })
+}
+
+/// `INSERT INTO name VALUES ( int , text )`.
+#[tactic(auto, unfolding(own_model::specs::Grammar::insert))]
+fn insert(alloc: Global, text: &str) -> Result<(Statement, &str), ReadFault>
+    ensures { Gives (λ read. (read.0, tokens read.1.now)) result (grammar.insert (tokens text.now)) }
+{
+    let rest = word(alloc, "insert", text)?;
+    let rest = word(alloc, "into", rest)?;
+    let (table, rest) = name(alloc, rest)?;
+    let rest = word(alloc, "values", rest)?;
+    let rest = mark(alloc, b'(', rest)?;
+    let (key, rest) = int(alloc, rest)?;
+    let rest = mark(alloc, b',', rest)?;
+    let (column, rest) = self::text(alloc, rest)?;
+    let rest = mark(alloc, b')', rest)?;
+    Ok((insert_of(alloc, table, key, column)?, rest))
+}
+
+/// `SELECT * FROM name`.
+#[tactic(auto, unfolding(own_model::specs::Grammar::select))]
+fn select(alloc: Global, text: &str) -> Result<(Statement, &str), ReadFault>
+    ensures { Gives (λ read. (read.0, tokens read.1.now)) result (grammar.select (tokens text.now)) }
+{
+    let rest = word(alloc, "select", text)?;
+    let rest = mark(alloc, b'*', rest)?;
+    let rest = word(alloc, "from", rest)?;
+    let (from, rest) = name(alloc, rest)?;
+    let select = Select {
+        items: Items::Star,
+        from,
+        join: None,
+        cond: None,
+        group: None,
+        order: None,
+    };
+    Ok((Statement::Select(select), rest))
 }

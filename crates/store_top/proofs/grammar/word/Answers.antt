@@ -1,9 +1,9 @@
-use Rattle.std.proofs.Common.{◌≡◌, ◌∙◌, sym, ap, map, Some}
+use Rattle.std.proofs.Common.{◌≡◌, ◌∙◌, sym, ap, map, Some, ◌∷◌, refl}
 use Rattle.std.specs.Char.{to_ascii_lowercase}
 use Rattle.own_model.specs.Grammar.{word}
 use Rattle.own_model.specs.Token.{tokens}
 use Rattle.store_top.specs.Read.{seen}
-use Rattle.store_top.proofs.RuleSteps.{fails_on, steps, word_front, word_none}
+use Rattle.store_top.proofs.RuleSteps.{fails_on, steps, word_front, word_none, word_by_test}
 use Rattle.store_top.proofs.grammar.word.Goals as goal
 
 pub returns-in_err-token : goal.returns-in_err-token
@@ -12,3 +12,17 @@ returns-in_err-token c = fails_on (word c.args.wanted.now) (λ rest. (c.args.wan
 pub returns-in_default : goal.returns-in_default
 returns-in_default c = steps (word c.args.wanted.now) (tokens c.args.text.now) (tokens c.in_ok-token.rest.now) (seen c.in_ok-token.token) (word_front c.args.wanted.now) c.in_ok-token.ensures.read
     ∙ word_none c.args.wanted.now c.in_ok-token.token (tokens c.in_ok-token.rest.now) c.in_default.not-Word
+
+pub returns-then-not-eq_ignore_ascii_case : goal.returns-then-not-eq_ignore_ascii_case
+returns-then-not-eq_ignore_ascii_case c =
+    let front = steps (word c.args.wanted.now) (tokens c.args.text.now) (tokens c.in_ok-token.rest.now) (seen c.in_ok-token.token) (word_front c.args.wanted.now) c.in_ok-token.ensures.read in
+    front ∙ ap (λ token. word c.args.wanted.now (seen token ∷ tokens c.in_ok-token.rest.now)) c.in-Word.is
+    ∙ word_by_test c.args.wanted.now c.in-Word.found.now (tokens c.in_ok-token.rest.now) c.eq_ignore_ascii_case.result c.requires c.eq_ignore_ascii_case.ensures.test
+    ∙ rw c.if-not-eq_ignore_ascii_case.true refl
+
+pub returns : goal.returns
+returns c =
+    let front = steps (word c.args.wanted.now) (tokens c.args.text.now) (tokens c.in_ok-token.rest.now) (seen c.in_ok-token.token) (word_front c.args.wanted.now) c.in_ok-token.ensures.read in
+    front ∙ ap (λ token. word c.args.wanted.now (seen token ∷ tokens c.in_ok-token.rest.now)) c.in-Word.is
+    ∙ word_by_test c.args.wanted.now c.in-Word.found.now (tokens c.in_ok-token.rest.now) c.eq_ignore_ascii_case.result c.requires c.eq_ignore_ascii_case.ensures.test
+    ∙ rw c.if-not-eq_ignore_ascii_case.false refl
