@@ -3,10 +3,10 @@ use Rattle.std.proofs.Common.{◌≡◌, ◌≢◌, ℕ, ℤ, pos, ◌+◌, ◌<
 use Rattle.std.specs.Prelude.{nat_lt, nat_le, not, ◌&&◌, IsTrue, ◌↔◌, ◌==◌, IsErrAnd, string_bytes}
 use Rattle.std.specs.Char.{to_ascii_lowercase}
 use Rattle.std.specs.Str.{bytes_eq}
-use Rattle.std.proofs.lemmas.Bool.{le-leb, leb-true, ltb-false, ne_eqb, eq-eqb, false_from_ne_true}
+use Rattle.std.proofs.lemmas.Bool.{le-leb, le-ltb, leb-true, ltb-false, ne_eqb, eq-eqb, false_from_ne_true}
 use Rattle.std.proofs.lemmas.Slice.Eq.{bytes_eq-Decides}
 use Rattle.own_model.specs.Token.{Token, Word, Number, Quoted, Mark}
-use Rattle.own_model.specs.Grammar.{Rule, is_keyword, word, mark, name, text, int, after_first}
+use Rattle.own_model.specs.Grammar.{Rule, negative, is_keyword, word, mark, name, text, int, after_first}
 use Rattle.store_top.specs.declared.token.Token as held_token
 use Rattle.store_top.specs.declared.token.Token.TheVariants as held
 use Rattle.store_top.specs.declared.token.ReadFault.{ReadFault}
@@ -146,3 +146,64 @@ long_by false long is = is
 pub name_long : (word : List ℕ) (rest : List Token) → 64 < length word → name (Word word ∷ rest) ≡ None
 unfolding name
 name_long word rest long = rw (long_by (is_keyword word) (nat_le (length word) 64) (lt-leb-false (length word) 64 long)) refl
+
+int_far : (byte : ℕ) (rest : List Token) → 128 ≤ byte → int (Mark byte ∷ rest) ≡ None
+unfolding int
+int_far byte [] high = refl
+int_far byte (Number number ∷ rest) high = rw (ne_eqb byte 45 (λ is. omega arith)) refl
+int_far byte (Mark other ∷ rest) high = refl
+int_far byte (Word found ∷ rest) high = refl
+int_far byte (Quoted value ∷ rest) high = refl
+
+pub int_great : (number : ℕ) (rest : List Token) → 2 ^ 63 ≤ number → int (Number number ∷ rest) ≡ None
+unfolding int
+int_great number rest high = rw (le-ltb number (2 ^ 63) high) refl
+
+pub int_some : (number : ℕ) (rest : List Token) → number < 2 ^ 63 → int (Number number ∷ rest) ≡ Some (pos number, rest)
+unfolding int
+int_some number rest low = rw (lt-ltb number (2 ^ 63) low) refl
+
+int_nothing : int [] ≡ None
+unfolding int
+int_nothing = refl
+
+pub int_front : ReadsFront int
+int_front = reads_front int (record { nothing = int_nothing; far = int_far; great = λ number rest high. int_great number rest (omega arith) })
+
+-- a number behind a `-`
+abbrev pub below : Rule ℤ
+below tokens = int (Mark 45 ∷ tokens)
+
+pub below_great : (number : ℕ) (rest : List Token) → 2 ^ 63 < number → below (Number number ∷ rest) ≡ None
+unfolding int
+below_great number rest high = rw (lt-leb-false number (2 ^ 63) high) refl
+
+pub below_some : (number : ℕ) (rest : List Token) → number ≤ 2 ^ 63 → below (Number number ∷ rest) ≡ Some (negative number, rest)
+unfolding int
+below_some number rest low = rw (le-leb number (2 ^ 63) low) refl
+
+pub below_front : ReadsFront below
+unfolding int
+below_front = reads_front below (record { nothing = refl; far = λ byte rest high. refl; great = λ number rest high. below_great number rest (omega arith) })
+
+pub below_none : (token : held_token.Token) (rest : List Token) → ((number : ℕ) → token ≡ held.Number number → ⊥) → below (seen token ∷ rest) ≡ None
+unfolding int
+below_none (held.Number number) rest other = absurd (other number refl)
+below_none (held.Mark byte) rest other = refl
+below_none (held.Word found) rest other = refl
+below_none (held.Quoted value) rest other = refl
+
+pub int_sign : (sign : ℕ) (rest : List Token) → sign ≢ 45 → int (Mark sign ∷ rest) ≡ None
+unfolding int
+int_sign sign [] other = refl
+int_sign sign (Number number ∷ rest) other = rw (ne_eqb sign 45 other) refl
+int_sign sign (Mark byte ∷ rest) other = refl
+int_sign sign (Word found ∷ rest) other = refl
+int_sign sign (Quoted value ∷ rest) other = refl
+
+pub int_none : (token : held_token.Token) (rest : List Token) → ((sign : ℕ) → token ≡ held.Mark sign → ⊥) → ((number : ℕ) → token ≡ held.Number number → ⊥) → int (seen token ∷ rest) ≡ None
+unfolding int
+int_none (held.Number number) rest unsigned other = absurd (other number refl)
+int_none (held.Mark byte) rest unsigned other = absurd (unsigned byte refl)
+int_none (held.Word found) rest unsigned other = refl
+int_none (held.Quoted value) rest unsigned other = refl

@@ -130,7 +130,10 @@ fn int(alloc: Global, text: &str) -> Result<(i64, &str), ReadFault>
     ensures { Gives (λ read. (read.0, tokens read.1.now)) result (grammar.int (tokens text.now)) }
 {
     let (token, rest) = next_token(alloc, text)?;
-    if let Token::Mark(b'-') = token {
+    if let Token::Mark(sign) = token {
+        if sign != b'-' {
+            return Err(ReadFault::Syntax);
+        }
         return negative_int(alloc, rest);
     }
     let Token::Number(number) = token else {
