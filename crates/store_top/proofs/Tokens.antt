@@ -190,3 +190,6 @@ tokens_mark (byte ∷ bytes) first some at dark word digit quote =
     let found : Found = record { token = Mark first; taken = 1 } in
     let is : token_at first bytes ≡ found = token_at_is first bytes ∙ rw (word, digit, ne_eqb first 39 quote) refl in
     ap (λ b. tokens (b ∷ bytes)) at ∙ tokens_found first bytes found dark is
+
+end_by : (white n : ℕ) (bytes : List ℕ) → white ≡ length (take_while is_white bytes) → (white == length bytes) ≡ (length (tokens bytes) == 0)
+end_by white n bytes is = ?

@@ -7,8 +7,9 @@ ghost use Rattle.own_base.specs.declared.value.Value.TheVariants as value;
 ghost use Rattle.own_model.specs.declared.statement.Statement.TheVariants as statement;
 ghost use Rattle.own_model.specs.Grammar as grammar;
 ghost use Rattle.store_top.specs.Read.{Gives};
+ghost use Rattle.store_top.specs.Whole.{WholeOf};
 
-use crate::token::{ReadFault, Token, next_token};
+use crate::token::{ReadFault, Token, is_end, next_token};
 use own_base::{List, Name, Text, Value};
 use own_model::{Attr, ColumnDef, CreateTable, Items, Kind, Part, Select, Statement};
 use std::alloc::{AllocError, Global};
@@ -246,4 +247,31 @@ fn select(alloc: Global, text: &str) -> Result<(Statement, &str), ReadFault>
         order: None,
     };
     Ok((Statement::Select(select), rest))
+}
+
+/// What was read, where nothing is behind it.
+fn whole(read: Result<(Statement, &str), ReadFault>) -> Result<Statement, ReadFault>
+    ensures { WholeOf read.entry result }
+{
+    let (statement, rest) = read?;
+    if !is_end(rest) {
+        return Err(ReadFault::Syntax);
+    }
+    Ok(statement)
+}
+
+/// The one statement that a text is.
+#[tactic(auto, unfolding(own_model::specs::Grammar::statement_of))]
+pub fn statement_of(alloc: Global, text: &str) -> Result<Statement, ReadFault>
+    ensures { Gives (λ statement. statement) result (grammar.statement_of (tokens text.now)) }
+{
+    let read = whole(create(alloc, text));
+    if let Err(ReadFault::Syntax) = read {
+        let read = whole(insert(alloc, text));
+        if let Err(ReadFault::Syntax) = read {
+            return whole(select(alloc, text));
+        }
+        return read;
+    }
+    read
 }

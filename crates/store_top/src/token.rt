@@ -1,4 +1,4 @@
-ghost use Rattle.std.specs.Prelude.{◌≡◌, ◌≢◌, ◌<◌, ◌^◌, ◌∷◌, None, Some, IfOk, MatchOption, SomeIff, length, map, true, false, slice_index, string_bytes};
+ghost use Rattle.std.specs.Prelude.{◌≡◌, ◌==◌, ◌≢◌, ◌<◌, ◌^◌, ◌∷◌, None, Some, IfOk, MatchOption, SomeIff, length, map, true, false, slice_index, string_bytes};
 ghost use Rattle.std.specs.List.{take_while};
 ghost use Rattle.std.specs.Char.{to_ascii_lowercase};
 ghost use Rattle.std.specs.Str.Parse.{AllDigits, digits_value};
@@ -190,4 +190,11 @@ pub fn next_token(alloc: Global, text: &str) -> Result<(Token<'_>, &str), ReadFa
         return quoted_token(alloc, text);
     }
     mark_token(text, first)
+}
+
+/// Whether no token is left.
+pub fn is_end(text: &str) -> bool
+    ensures { result ≡ (length (tokens text.now) == 0) }
+{
+    white_len(text.as_bytes()) == text.len()
 }
