@@ -6,7 +6,8 @@ use Rattle.std.specs.List.{take_while, prefix_len, list_all}
 use Rattle.std.specs.Str.Parse.{AllDigits, digits_value}
 use Rattle.std.proofs.lemmas.Bool.Decides.{nat_tests}
 use Rattle.std.proofs.lemmas.List.Folds.{length-prefix_len}
-use Rattle.std.proofs.lemmas.List.Sums.{take_while-cons}
+use Rattle.std.proofs.lemmas.List.Sums.{take_while-cons, prefix_len-le-length}
+use Rattle.std.proofs.lemmas.List.{length-drop}
 use Rattle.std.specs.Str.{IsUtf8, IsCharBoundary}
 use Rattle.store_top.proofs.Cutting.{run_boundary}
 use Rattle.std.proofs.lemmas.Bool.{ne_eqb}
@@ -191,5 +192,21 @@ tokens_mark (byte ∷ bytes) first some at dark word digit quote =
     let is : token_at first bytes ≡ found = token_at_is first bytes ∙ rw (word, digit, ne_eqb first 39 quote) refl in
     ap (λ b. tokens (b ∷ bytes)) at ∙ tokens_found first bytes found dark is
 
-end_by : (white n : ℕ) (bytes : List ℕ) → white ≡ length (take_while is_white bytes) → (white == length bytes) ≡ (length (tokens bytes) == 0)
-end_by white n bytes is = ?
+ends_by : (rest : List ℕ) → is_white (get_or rest 0 0) ≡ false → (length rest == 0) ≡ (length (tokens rest) == 0)
+ends_by [] dark = ap (λ (found : List Token). length found == 0) (sym tokens-nil)
+ends_by (byte ∷ bytes) dark =
+    let found = (token_at byte bytes).token in
+    let behind = tokens_behind ((token_at byte bytes).taken - 1) bytes in
+    let one : tokens (byte ∷ bytes) ≡ found ∷ behind = tokens-cons byte bytes ∙ rw dark refl in
+    let here : (length (byte ∷ bytes) == 0) ≡ false = ne_eqb (length (byte ∷ bytes)) 0 (λ is. absurd (omega arith)) in
+    let there : (length (found ∷ behind) == 0) ≡ false = ne_eqb (length (found ∷ behind)) 0 (λ is. absurd (omega arith)) in
+    here ∙ sym (ap (λ (all : List Token). length all == 0) one ∙ there)
+
+-- a text of nothing but white space has no token
+pub white_ends : (bytes : List ℕ) → (length (take_while is_white bytes) == length bytes) ≡ (length (tokens bytes) == 0)
+white_ends bytes =
+    let rest = drop (length (take_while is_white bytes)) bytes in
+    let size : length rest ≡ length bytes - length (take_while is_white bytes) = length-drop (length (take_while is_white bytes)) bytes in
+    let within : length (take_while is_white bytes) ≤ length bytes = omega (arith, length-prefix_len is_white bytes, prefix_len-le-length is_white bytes) in
+    let all : (length (take_while is_white bytes) == length bytes) ≡ (length rest == 0) = grind (arith, nat_tests) in
+    all ∙ ends_by rest (dark_behind bytes) ∙ ap (λ (found : List Token). length found == 0) (tokens_white bytes)
