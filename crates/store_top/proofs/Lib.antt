@@ -4,4 +4,3 @@ pub mod Tokens
 pub mod Unquoting
 pub mod FrontTokens
 pub mod RuleSteps
-pub mod Numbering

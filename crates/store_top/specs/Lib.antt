@@ -1,5 +1,4 @@
 pub mod Reading
 pub mod CallText
 pub mod Read
-pub mod Input
 pub mod Whole

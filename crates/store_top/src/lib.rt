@@ -3,7 +3,4 @@
 
 mod call_text;
 mod grammar;
-mod script;
 mod token;
-
-pub use script::read_script;
