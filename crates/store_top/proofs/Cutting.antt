@@ -81,18 +81,18 @@ cuts_here byte bytes None is behind = absurd (behind bytes (cc))
 cuts_here byte bytes (Some text) is behind = let same : bytes ≡ text.now = cc in rw same refl
 
 cuts_at : (opened close : Bool) (quoted : Bool) (byte : ℕ) (bytes : List ℕ) (place : ℕ) (rest : Option (Bor (List ℕ))) → (close ≡ true → byte ≡ 59)
-  → (IsBehind bytes place rest → CutsAt quoted bytes place rest)
-  → IsBehind (byte ∷ bytes) (cond (close && opened) 0 (suc place)) rest
-  → cond (close && opened) (record { bytes = []; closed = true } ∷ pieces false bytes) (onto_first byte (pieces quoted bytes)) ≡ record { bytes = take (cond (close && opened) 0 (suc place)) (byte ∷ bytes); closed = is_some rest } ∷ pieces_of rest
+    → (IsBehind bytes place rest → CutsAt quoted bytes place rest)
+    → IsBehind (byte ∷ bytes) (cond (close && opened) 0 (suc place)) rest
+    → cond (close && opened) (record { bytes = []; closed = true } ∷ pieces false bytes) (onto_first byte (pieces quoted bytes)) ≡ record { bytes = take (cond (close && opened) 0 (suc place)) (byte ∷ bytes); closed = is_some rest } ∷ pieces_of rest
 cuts_at true true quoted byte bytes place rest is later behind = cuts_here byte bytes rest (is refl) behind
 cuts_at false true quoted byte bytes place rest is later behind = cuts_later quoted quoted byte bytes place rest (later behind)
 cuts_at opened false quoted byte bytes place rest is later behind = cuts_later quoted quoted byte bytes place rest (later behind)
 
 cuts_by : (quote close quoted : Bool) (byte : ℕ) (bytes : List ℕ) (turned same : ℕ) (rest : Option (Bor (List ℕ))) → (close ≡ true → byte ≡ 59)
-  → (IsBehind bytes turned rest → CutsAt (not quoted) bytes turned rest)
-  → (IsBehind bytes same rest → CutsAt quoted bytes same rest)
-  → IsBehind (byte ∷ bytes) (cond quote (suc turned) (cond (close && not quoted) 0 (suc same))) rest
-  → cond quote (onto_first byte (pieces (not quoted) bytes)) (cond (close && not quoted) (record { bytes = []; closed = true } ∷ pieces false bytes) (onto_first byte (pieces quoted bytes))) ≡ record { bytes = take (cond quote (suc turned) (cond (close && not quoted) 0 (suc same))) (byte ∷ bytes); closed = is_some rest } ∷ pieces_of rest
+    → (IsBehind bytes turned rest → CutsAt (not quoted) bytes turned rest)
+    → (IsBehind bytes same rest → CutsAt quoted bytes same rest)
+    → IsBehind (byte ∷ bytes) (cond quote (suc turned) (cond (close && not quoted) 0 (suc same))) rest
+    → cond quote (onto_first byte (pieces (not quoted) bytes)) (cond (close && not quoted) (record { bytes = []; closed = true } ∷ pieces false bytes) (onto_first byte (pieces quoted bytes))) ≡ record { bytes = take (cond quote (suc turned) (cond (close && not quoted) 0 (suc same))) (byte ∷ bytes); closed = is_some rest } ∷ pieces_of rest
 cuts_by true close quoted byte bytes turned same rest is turn stay behind = cuts_later quoted (not quoted) byte bytes turned rest (turn behind)
 cuts_by false close quoted byte bytes turned same rest is turn stay behind = cuts_at (not quoted) close quoted byte bytes same rest is stay behind
 
@@ -102,8 +102,8 @@ cuts_nothing (Some text) behind = cc
 
 -- a text is its first piece, and the pieces behind it
 pub pieces_cut : (quoted : Bool) (bytes : List ℕ) (rest : Option (Bor (List ℕ)))
-  → IsBehind bytes (piece_len quoted bytes) rest
-  → CutsAt quoted bytes (piece_len quoted bytes) rest
+    → IsBehind bytes (piece_len quoted bytes) rest
+    → CutsAt quoted bytes (piece_len quoted bytes) rest
 pieces_cut quoted [] rest = rw (piece_len-nil, pieces-nil) (cuts_nothing rest)
 pieces_cut quoted (byte ∷ bytes) rest = rw (piece_len-cons quoted byte bytes, pieces-cons quoted byte bytes) (cuts_by (byte == 39) (byte == 59) quoted byte bytes _ _ rest (eqb-true byte 59) (pieces_cut (not quoted) bytes rest) (pieces_cut quoted bytes rest))
 
@@ -144,9 +144,9 @@ from_first_is (byte ∷ bytes) = rw from_first-cons (from_first_by (is_white byt
 
 -- what `cut` gives
 pub cut_is : (bytes : List ℕ) (place : ℕ) (piece back : List ℕ) (rest : Option (Bor (List ℕ)))
-  → place ≡ piece_len false bytes → piece ≡ take place bytes → back ≡ drop place bytes
-  → MatchOption rest ((more : List ℕ) → back ≢ 59 ∷ more) (λ behind. back ≡ 59 ∷ behind.now)
-  → pieces false bytes ≡ record { bytes = piece; closed = is_some rest } ∷ pieces_of rest
+    → place ≡ piece_len false bytes → piece ≡ take place bytes → back ≡ drop place bytes
+    → MatchOption rest ((more : List ℕ) → back ≢ 59 ∷ more) (λ behind. back ≡ 59 ∷ behind.now)
+    → pieces false bytes ≡ record { bytes = piece; closed = is_some rest } ∷ pieces_of rest
 cut_is bytes place piece back rest at front behind strips =
     let here : back ≡ drop (piece_len false bytes) bytes = behind ∙ ap (λ n. drop n bytes) at in
     let P : List ℕ → Type 0 = λ text. MatchOption rest ((more : List ℕ) → text ≢ 59 ∷ more) (λ after. text ≡ 59 ∷ after.now) in
@@ -163,9 +163,9 @@ reverse_drop bytes n within =
 
 -- what `trim` gives
 pub trim_is : (bytes rest found : List ℕ) (front behind : ℕ)
-  → front ≡ length (take_while is_white bytes) → rest ≡ drop front bytes
-  → behind ≡ length (take_while is_white (reverse rest)) → found ≡ take (length rest - behind) rest
-  → found ≡ trimmed bytes
+    → front ≡ length (take_while is_white bytes) → rest ≡ drop front bytes
+    → behind ≡ length (take_while is_white (reverse rest)) → found ≡ take (length rest - behind) rest
+    → found ≡ trimmed bytes
 trim_is bytes rest found front behind in_front dropped at_end taken =
     let first : from_first bytes ≡ rest = from_first_is bytes ∙ ap (λ n. drop n bytes) (sym (in_front ∙ length-prefix_len is_white bytes)) ∙ sym dropped in
     let last : behind ≡ prefix_len is_white (reverse rest) = at_end ∙ length-prefix_len is_white (reverse rest) in

@@ -107,7 +107,7 @@ lt-leb-false a b less = false_from_ne_true (nat_le a b) (λ is. absurd (omega (a
 
 -- a keyword found, or another word
 pub word_by_test : (wanted found : List ℕ) (rest : List Token) (same : Bool) → map to_ascii_lowercase wanted ≡ wanted → (IsTrue same ↔ (map to_ascii_lowercase found ≡ map to_ascii_lowercase wanted))
-  → word wanted (Word (map to_ascii_lowercase found) ∷ rest) ≡ cond same (Some (wanted, rest)) None
+    → word wanted (Word (map to_ascii_lowercase found) ∷ rest) ≡ cond same (Some (wanted, rest)) None
 unfolding word
 word_by_test wanted found rest true lower test =
     let is : map to_ascii_lowercase found ≡ wanted = test.0 refl ∙ lower in

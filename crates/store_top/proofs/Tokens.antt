@@ -94,7 +94,7 @@ continues_lower : (byte : ℕ) → continues_word byte ≡ true → continues_na
 continues_lower byte continues = grind (arith, nat_tests)
 
 by_first : (continues : Bool) (byte : ℕ) (bytes : List ℕ) → (continues ≡ true → continues_name (to_ascii_lowercase byte) ≡ true) → list_all continues_name (map to_ascii_lowercase (take_while continues_word bytes)) ≡ true
-  → list_all continues_name (map to_ascii_lowercase (cond continues (byte ∷ take_while continues_word bytes) [])) ≡ true
+    → list_all continues_name (map to_ascii_lowercase (cond continues (byte ∷ take_while continues_word bytes) [])) ≡ true
 by_first true byte bytes lower later = rw (lower refl, later) refl
 by_first false byte bytes lower later = refl
 
@@ -133,8 +133,8 @@ pub digits_boundary : (bytes : List ℕ) → IsUtf8 bytes → IsCharBoundary byt
 digits_boundary bytes text = run_boundary is_digit digit_ascii bytes text
 
 white_by : (white : Bool) (byte : ℕ) (bytes : List ℕ) (found : List Token) → tokens (drop (length (take_while is_white bytes)) bytes) ≡ tokens bytes
-  → tokens (byte ∷ bytes) ≡ cond white (tokens bytes) found
-  → tokens (drop (length (cond white (byte ∷ take_while is_white bytes) [])) (byte ∷ bytes)) ≡ cond white (tokens bytes) found
+    → tokens (byte ∷ bytes) ≡ cond white (tokens bytes) found
+    → tokens (drop (length (cond white (byte ∷ take_while is_white bytes) [])) (byte ∷ bytes)) ≡ cond white (tokens bytes) found
 white_by true byte bytes found later is = later
 white_by false byte bytes found later is = is
 
@@ -146,7 +146,7 @@ tokens_white (byte ∷ bytes) = ap (λ (text : List ℕ). tokens (drop (length t
     ∙ sym (tokens-cons byte bytes)
 
 dark_by : (white : Bool) (byte : ℕ) (bytes : List ℕ) → is_white byte ≡ white → is_white (get_or (drop (length (take_while is_white bytes)) bytes) 0 0) ≡ false
-  → is_white (get_or (drop (length (cond white (byte ∷ take_while is_white bytes) [])) (byte ∷ bytes)) 0 0) ≡ false
+    → is_white (get_or (drop (length (cond white (byte ∷ take_while is_white bytes) [])) (byte ∷ bytes)) 0 0) ≡ false
 dark_by true byte bytes is later = later
 dark_by false byte bytes is later = is
 

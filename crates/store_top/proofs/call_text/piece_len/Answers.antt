@@ -7,9 +7,9 @@ use Rattle.store_top.proofs.call_text.piece_len.Goals.{then-byte-eq39, else-byte
 -- each byte that is passed is none that is sought
 pub loop-place-preserved : goal.loop-place-preserved
 loop-place-preserved c = elim c.if-byte-eq39.branch [
-    then-byte-eq39 w ↦ grind (arith, common_steps, piece_len_step)
+  | then-byte-eq39 w ↦ grind (arith, common_steps, piece_len_step)
   | else-byte-eq39+else-byte-eq59 w ↦ elim w.else-byte-eq59.branch [
-      else-byte-eq59-via-then-byte-eq59+else-not-quoted w' ↦ grind (arith, common_steps, piece_len_step)
+    | else-byte-eq59-via-then-byte-eq59+else-not-quoted w' ↦ grind (arith, common_steps, piece_len_step)
     | else-byte-eq59-via-else-byte-eq59 w' ↦ grind (arith, common_steps, piece_len_step)
-    ]
   ]
+]

@@ -18,8 +18,8 @@ returns-then-sign-ne45 c = steps int (tokens c.args.text.now) (tokens c.in_ok-to
 pub returns-in-Mark : goal.returns-in-Mark
 returns-in-Mark c =
     let front : int (tokens c.args.text.now) ≡ int (Mark 45 ∷ tokens c.in_ok-token.rest.now) = steps int (tokens c.args.text.now) (tokens c.in_ok-token.rest.now) (seen c.in_ok-token.token) int_front c.in_ok-token.ensures.read
-      ∙ ap (λ token. int (seen token ∷ tokens c.in_ok-token.rest.now)) c.in-Mark.is
-      ∙ ap (λ sign. int (Mark sign ∷ tokens c.in_ok-token.rest.now)) c.if-sign-ne45.false in
+    ∙ ap (λ token. int (seen token ∷ tokens c.in_ok-token.rest.now)) c.in-Mark.is
+    ∙ ap (λ sign. int (Mark sign ∷ tokens c.in_ok-token.rest.now)) c.if-sign-ne45.false in
     rw front c.negative_int.ensures
 
 pub returns-in_default-token : goal.returns-in_default-token

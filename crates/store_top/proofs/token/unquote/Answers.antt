@@ -24,9 +24,11 @@ loop-front-preserved c =
     let more = c.in-Some-strip_prefix.more in
     let parts = split_parts 39 c.loop-front.rest.now (Some (c.in-Some.front, c.in-Some.behind)) c.in-Some.ensures.cases (lit< tt) in
     let doubled = strip_prefix_char 39 behind (Some more) c.in-Some-strip_prefix.ensures.cases (lit< tt) in
-    let pushed : string_bytes c.push.new.self ≡ value ++ (front ++ (39 ∷ [])) = c.in_ok-push.ensures.bytes ∙ ap (λ (mark : List ℕ). string_bytes c.push_str.new.self ++ mark) (c.in_ok-push.ensures.ascii (lit< tt)) ∙ ap (λ bytes. bytes ++ (39 ∷ [])) c.in_ok-push_str.ensures.bytes ∙ append_assoc value front (39 ∷ []) in
-    (search rules, c.loop-front.invariant.1 ∙ ap (onto_value value) (unquoted_more c.loop-front.rest.now front behind more.now parts doubled)
-    ∙ sym (onto_value-append value (front ++ (39 ∷ [])) (unquoted more.now)) ∙ ap (λ (bytes : List ℕ). onto_value bytes (unquoted more.now)) (sym pushed))
+    let pushed : string_bytes c.push.new.self ≡ value ++ (front ++ (39 ∷ [])) = c.in_ok-push.ensures.bytes ∙ ap (λ (mark : List ℕ). string_bytes c.push_str.new.self ++ mark) (c.in_ok-push.ensures.ascii (lit< tt)) ∙ ap (λ bytes. bytes ++ (39 ∷ [])) c.in_ok-push_str.ensures.bytes ∙ append_assoc value front (39 ∷ []) in (
+      search rules,
+      c.loop-front.invariant.1 ∙ ap (onto_value value) (unquoted_more c.loop-front.rest.now front behind more.now parts doubled)
+          ∙ sym (onto_value-append value (front ++ (39 ∷ [])) (unquoted more.now)) ∙ ap (λ (bytes : List ℕ). onto_value bytes (unquoted more.now)) (sym pushed),
+    )
 
 -- no quote is left
 pub returns : goal.returns
