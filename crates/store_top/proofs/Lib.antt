@@ -4,3 +4,4 @@ pub mod Tokens
 pub mod Unquoting
 pub mod FrontTokens
 pub mod RuleSteps
+pub mod Numbering

@@ -3,4 +3,7 @@
 
 mod call_text;
 mod grammar;
+mod script;
 mod token;
+
+pub use script::read_script;
