@@ -1,5 +1,5 @@
 -- The calls of a text, one by one.
-use Rattle.std.proofs.Common.{◌≡◌, ℕ, ◌+◌, ◌<◌, ◌≤◌, List, [], ◌∷◌, length, Bool, true, false, Option, None, Some, arith, refl, ap, ◌∙◌, sym, cond, suc, lt-ltb}
+use Rattle.std.proofs.Common.{◌≡◌, ℕ, ◌<◌, List, ◌∷◌, length, false, Option, None, Some, refl, ◌∙◌, cond, lt-ltb}
 use Rattle.std.specs.Prelude.{is_some, nat_lt, map, filter}
 use denote.Ref.{Bor}
 use Rattle.own_model.specs.Script.{Piece, pieces, trimmed, trimmed_piece, has_bytes, call_texts}

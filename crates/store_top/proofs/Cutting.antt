@@ -10,11 +10,11 @@ use Rattle.std.specs.Str.{IsUtf8, IsCharBoundary}
 use Rattle.std.proofs.lemmas.Bool.{eqb-true}
 use Rattle.std.proofs.lemmas.List.{drop_all}
 use Rattle.std.proofs.lemmas.Str.{IsCharBoundary-end, IsCharBoundary-start, IsCharBoundary-before_ascii, IsCharBoundary-after_ascii}
-use Rattle.std.proofs.lemmas.List.Sums.{prefix_len-le-length, prefix_len_passes, prefix_len_stops}
+use Rattle.std.proofs.lemmas.List.Sums.{prefix_len-le-length, prefix_len_passes}
 use Rattle.std.proofs.lemmas.List.Folds.{length-prefix_len}
 use denote.Ref.{Bor}
 use Rattle.own_model.specs.Token.{is_white}
-use Rattle.own_model.specs.Script.{Piece, pieces, onto_first, from_first, trimmed}
+use Rattle.own_model.specs.Script.{pieces, onto_first, from_first, trimmed}
 use Rattle.store_top.specs.Reading.{piece_len, pieces_of}
 
 -- how the length goes on at a byte

@@ -1,6 +1,6 @@
 -- The tokens that rules take.
-use Rattle.std.proofs.Common.{◌≡◌, ℕ, ◌+◌, ◌<◌, ◌≤◌, ◌^◌, List, [], ◌∷◌, length, Option, None, Some, arith, refl, lt-ltb}
-use Rattle.std.proofs.lemmas.Bool.{ltb-false, le-ltb}
+use Rattle.std.proofs.Common.{◌≡◌, ℕ, ◌<◌, ◌≤◌, ◌^◌, List, [], ◌∷◌, length, None, Some, arith, refl, lt-ltb}
+use Rattle.std.proofs.lemmas.Bool.{le-ltb}
 use Rattle.own_model.specs.Token.{Token, Word, Number, Quoted, Mark, tokens}
 use Rattle.store_top.specs.Read.{front_token}
 use Rattle.store_top.proofs.Tokens.{tokens-nil}

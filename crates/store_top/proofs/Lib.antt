@@ -5,3 +5,5 @@ pub mod Unquoting
 pub mod FrontTokens
 pub mod RuleSteps
 pub mod Numbering
+pub mod Scripts
+pub mod Results

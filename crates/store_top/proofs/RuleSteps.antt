@@ -1,6 +1,6 @@
 -- Each rule reads the token in front, and goes on by it.
-use Rattle.std.proofs.Common.{◌≡◌, ◌≢◌, ℕ, ℤ, pos, ◌+◌, ◌<◌, ◌≤◌, ◌^◌, List, [], ◌∷◌, length, Bool, true, false, Option, None, Some, Result, Ok, Err, arith, refl, sym, ap, ◌∙◌, cond, lt-ltb, map, subst}
-use Rattle.std.specs.Prelude.{nat_lt, nat_le, not, ◌&&◌, IsTrue, ◌↔◌, ◌==◌, IsErrAnd, string_bytes}
+use Rattle.std.proofs.Common.{◌≡◌, ◌≢◌, ℕ, ℤ, pos, ◌<◌, ◌≤◌, ◌^◌, List, [], ◌∷◌, length, Bool, true, false, None, Some, Result, Ok, Err, arith, refl, sym, ap, ◌∙◌, cond, lt-ltb, map, subst}
+use Rattle.std.specs.Prelude.{nat_lt, nat_le, not, ◌&&◌, IsTrue, ◌↔◌, IsErrAnd}
 use Rattle.std.specs.Char.{to_ascii_lowercase}
 use Rattle.std.specs.Str.{bytes_eq}
 use Rattle.std.proofs.lemmas.Bool.{le-leb, le-ltb, leb-true, ltb-false, ne_eqb, eq-eqb, false_from_ne_true}

@@ -1,8 +1,8 @@
 -- The first token of a text.
-use Rattle.std.proofs.Common.{◌≡◌, ◌≢◌, ℕ, zero, suc, ◌+◌, ◌-◌, ◌*◌, ◌<◌, ◌≤◌, List, [], ◌∷◌, length, take, drop, get_or, Bool, true, false, Option, None, Some, arith, refl, sym, ap, ◌∙◌, cond, subst}
-use Rattle.std.specs.Prelude.{map, ◌&&◌, ◌||◌, ◌==◌, nat_le}
+use Rattle.std.proofs.Common.{◌≡◌, ◌≢◌, ℕ, zero, suc, ◌+◌, ◌-◌, ◌<◌, ◌≤◌, List, [], ◌∷◌, length, take, drop, get_or, Bool, true, false, Option, None, Some, arith, refl, sym, ap, ◌∙◌, cond}
+use Rattle.std.specs.Prelude.{map, ◌==◌}
 use Rattle.std.specs.Char.{to_ascii_lowercase, digit_value}
-use Rattle.std.specs.List.{take_while, prefix_len, list_all}
+use Rattle.std.specs.List.{take_while, list_all}
 use Rattle.std.specs.Str.Parse.{AllDigits, digits_value}
 use Rattle.std.proofs.lemmas.Bool.Decides.{nat_tests}
 use Rattle.std.proofs.lemmas.List.Folds.{length-prefix_len}

@@ -1,5 +1,5 @@
 -- What the rules of the reader give.
-use Rattle.std.specs.Prelude.{◌≡◌, ℕ, ◌^◌, List, [], ◌∷◌, ◌++◌, drop, map, nat_lt, Bool, false, IsTrue, Option, None, Some, Result, Ok, Err, string_bytes, if◌then◌else◌}
+use Rattle.std.specs.Prelude.{◌≡◌, ℕ, ◌^◌, List, [], ◌∷◌, ◌++◌, drop, map, nat_lt, false, IsTrue, Option, None, Some, Result, Ok, Err, string_bytes, if◌then◌else◌}
 use Rattle.std.specs.Char.{to_ascii_lowercase}
 use Rattle.own_base.specs.Name.{is_spelled}
 use Rattle.own_model.specs.Token.{quoted_value, Word, Number, Quoted, Mark}

@@ -1,5 +1,5 @@
 -- What the parts of the reader give, in the words of the definitions of an input.
-use Rattle.std.specs.Prelude.{ℕ, suc, List, [], ◌∷◌, Bool, true, false, not, ◌==◌, ◌&&◌, Option, None, Some, if◌then◌else◌}
+use Rattle.std.specs.Prelude.{ℕ, suc, List, [], ◌∷◌, Bool, false, not, ◌==◌, ◌&&◌, Option, None, Some, if◌then◌else◌}
 use denote.Ref.{Bor}
 use Rattle.own_model.specs.Script.{Piece, pieces, call_texts}
 

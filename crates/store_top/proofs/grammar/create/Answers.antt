@@ -1,4 +1,4 @@
-use Rattle.std.proofs.Common.{◌≡◌, ◌∙◌, ap, refl, sym, Some, false}
+use Rattle.std.proofs.Common.{◌≡◌, ◌∙◌, refl, sym, false}
 use Rattle.std.specs.Str.{bytes_eq}
 use Rattle.own_model.specs.Grammar.{create}
 use Rattle.store_top.proofs.grammar.create.Goals as goal

@@ -1,6 +1,6 @@
 use Rattle.std.proofs.Common.{to_z, w64, pos}
 use Rattle.std.proofs.lemmas.Int.{ints}
-use Rattle.std.proofs.Common.{◌≡◌, ◌∙◌, ◌∷◌, ap, arith, refl, sym, Some}
+use Rattle.std.proofs.Common.{◌≡◌, ◌∙◌, ◌∷◌, ap, arith, sym, Some}
 use Rattle.own_model.specs.Grammar.{int}
 use Rattle.own_model.specs.Token.{tokens, Mark}
 use Rattle.store_top.specs.Read.{seen}

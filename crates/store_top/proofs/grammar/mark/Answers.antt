@@ -1,4 +1,4 @@
-use Rattle.std.proofs.Common.{◌≡◌, ◌∙◌, ◌∷◌, ap, arith, refl}
+use Rattle.std.proofs.Common.{◌∙◌, ◌∷◌, ap}
 use Rattle.own_model.specs.Grammar.{mark}
 use Rattle.own_model.specs.Token.{Mark, tokens}
 use Rattle.store_top.specs.Read.{seen}

@@ -1,4 +1,4 @@
-use Rattle.std.proofs.Common.{◌≡◌, ◌∙◌, ◌∷◌, ◌<◌, ◌≤◌, ap, arith, refl, length, sym, Some, map, List, ℕ, true, false}
+use Rattle.std.proofs.Common.{◌≡◌, ◌∙◌, ◌∷◌, ◌<◌, ◌≤◌, ap, arith, length, sym, Some, map, true, false}
 use Rattle.std.specs.Char.{to_ascii_lowercase}
 use Rattle.std.specs.String.{string_bytes}
 use Rattle.own_model.specs.Grammar.{name, is_keyword}

@@ -3,7 +3,7 @@ use Rattle.std.proofs.Common.{rules}
 use Rattle.std.proofs.lemmas.Int.{ints}
 use Rattle.std.proofs.Common.{w64}
 use Rattle.std.proofs.lemmas.Int.{to_z-of_z}
-use Rattle.std.proofs.Common.{◌≡◌, ◌∙◌, ◌∷◌, ap, arith, refl, sym, Some}
+use Rattle.std.proofs.Common.{◌∙◌, ◌∷◌, ap, arith, sym, Some}
 use Rattle.own_model.specs.Token.{tokens}
 use Rattle.store_top.specs.Read.{seen}
 use Rattle.store_top.proofs.RuleSteps.{fails_on, steps, below, below_front, below_none, below_some, below_great}

@@ -1,4 +1,4 @@
-use Rattle.std.proofs.Common.{◌≡◌, ◌∙◌, ◌∷◌, ◌<◌, ◌≤◌, ap, arith, refl, length, sym, Some}
+use Rattle.std.proofs.Common.{◌∙◌, ◌∷◌, ◌<◌, ◌≤◌, ap, arith, length, sym, Some}
 use Rattle.std.specs.String.{string_bytes}
 use Rattle.own_model.specs.Grammar.{text}
 use Rattle.own_model.specs.Token.{tokens}

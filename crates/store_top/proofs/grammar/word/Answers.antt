@@ -1,5 +1,4 @@
-use Rattle.std.proofs.Common.{◌≡◌, ◌∙◌, sym, ap, map, Some, ◌∷◌, refl}
-use Rattle.std.specs.Char.{to_ascii_lowercase}
+use Rattle.std.proofs.Common.{◌∙◌, ap, ◌∷◌, refl}
 use Rattle.own_model.specs.Grammar.{word}
 use Rattle.own_model.specs.Token.{tokens}
 use Rattle.store_top.specs.Read.{seen}

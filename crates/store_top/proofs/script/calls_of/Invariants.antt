@@ -4,10 +4,13 @@ use Rattle.store_top.specs.Reading.{call_texts_of}
 use Rattle.store_top.proofs.script.calls_of.Given as goal
 
 -- the calls so far, and those that are left, are the text's
-abbrev pub invariant-loop-rest : goal.invariant-loop-rest
-invariant-loop-rest l = (numbered 1 (map request_of (call_texts l.text)) ≡ l.calls ++ numbered (l.number + 1) (map request_of (call_texts_of l.rest)))
-    × (length (call_texts l.text) ≡ l.number + length (call_texts_of l.rest)) × (l.number ≤ 200000)
+abbrev pub invariant-loop-call : goal.invariant-loop-call
+invariant-loop-call l = record {
+  told : numbered 1 (map request_of (call_texts l.text)) ≡ l.calls.items ++ numbered (l.number + 1) (map request_of (call_texts_of l.rest));
+  counted : length (call_texts l.text) ≡ l.number + length (call_texts_of l.rest);
+  few : l.number ≤ 200000;
+}
 
 -- the calls left
-abbrev pub decreases-loop-rest : goal.decreases-loop-rest
-decreases-loop-rest l = length (call_texts_of l.rest)
+abbrev pub decreases-loop-call : goal.decreases-loop-call
+decreases-loop-call l = length (call_texts_of l.rest)

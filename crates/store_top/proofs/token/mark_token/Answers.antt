@@ -1,6 +1,6 @@
-use Rattle.std.proofs.Common.{◌≡◌, ◌∷◌, ◌∙◌, ap, arith, drop}
+use Rattle.std.proofs.Common.{◌∙◌, ap, arith, drop}
 use Rattle.std.proofs.lemmas.Str.{IsCharBoundary-after_ascii}
-use Rattle.own_model.specs.Token.{Mark, tokens}
+use Rattle.own_model.specs.Token.{tokens}
 use Rattle.store_top.specs.Read.{front_token}
 use Rattle.store_top.proofs.Tokens.{tokens_mark}
 use Rattle.store_top.proofs.FrontTokens.{front_mark, front_far_mark}

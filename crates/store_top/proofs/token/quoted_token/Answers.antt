@@ -1,8 +1,7 @@
-use Rattle.std.proofs.Common.{◌≡◌, ◌∙◌, Some, None, ap, sym, arith, drop, lit<, List, ℕ, subst}
+use Rattle.std.proofs.Common.{◌≡◌, ◌∙◌, Some, None, ap, sym, arith, drop, lit<}
 use Rattle.std.specs.String.{string_bytes}
-use Rattle.std.specs.Prelude.{MatchOption}
 use Rattle.std.proofs.lemmas.Str.{IsCharBoundary-after_ascii}
-use Rattle.own_model.specs.Token.{Mark, tokens}
+use Rattle.own_model.specs.Token.{tokens}
 use Rattle.store_top.specs.Read.{front_token, unquoted}
 use Rattle.store_top.proofs.Tokens.{tokens_quoted, tokens_open}
 use Rattle.store_top.proofs.FrontTokens.{front_mark, front_quoted}
