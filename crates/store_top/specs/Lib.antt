@@ -1,5 +1,10 @@
+pub mod CallText
 pub mod Engine
 pub mod Flat
 pub mod Gap
+pub mod Input
 pub mod KeyRef
+pub mod Read
+pub mod Reading
 pub mod Steps
+pub mod Whole

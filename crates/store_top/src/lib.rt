@@ -1,8 +1,12 @@
 //! The store's one public call: from the words and the bytes of an input to the bytes of its replies.
 #![tactic(auto)]
 
+mod call_text;
 mod engine;
 mod flat;
+mod grammar;
 mod key_ref;
 mod print;
+mod script;
 mod steps;
+mod token;
