@@ -6,5 +6,7 @@ pub mod Input
 pub mod KeyRef
 pub mod Read
 pub mod Reading
+pub mod Status
 pub mod Steps
+pub mod Top
 pub mod Whole

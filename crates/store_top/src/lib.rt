@@ -7,6 +7,11 @@ mod flat;
 mod grammar;
 mod key_ref;
 mod print;
+mod running;
 mod script;
+mod served;
 mod steps;
 mod token;
+
+pub use running::run;
+pub use served::{Served, TopFault};
