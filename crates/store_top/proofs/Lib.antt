@@ -6,7 +6,7 @@ pub mod Placed
 pub mod Put
 pub mod Results
 pub mod RuleSteps
-pub mod Running
+pub mod Runs
 pub mod Scripts
 pub mod Serving
 pub mod Tokens

@@ -113,7 +113,7 @@ fn serve_source<R: Source, W: Sink>(alloc: Global, source: &mut R, sink: &mut W)
         → RunsInPart (R.remaining source.old) (R.remaining source.new) (W.written sink.old) (W.written sink.new) result.history }
     ensures memory { result.fault ≡ Some TopFault.Memory
         → ((sink.new ≡ sink.old) × (result.history ≡ []))
-            ⊎ RunsInPart (R.remaining source.old) (R.remaining source.new) (W.written sink.old) (W.written sink.new) result.history }
+        ⊎ RunsInPart (R.remaining source.old) (R.remaining source.new) (W.written sink.old) (W.written sink.new) result.history }
     ensures silent { IsBeforeCalls result.fault → (sink.new ≡ sink.old) × (result.history ≡ []) }
     ensures possible { IsWithoutDisk result.fault }
     ensures lawful { result.fault ≢ Some TopFault.Usage }
@@ -162,7 +162,7 @@ pub fn run<Rt: Threads + Wait + Sync, R: Source, W: Sink, D: Disk + Send, G: Gat
         → RunsInPart (R.remaining source.old) (R.remaining source.new) (W.written sink.old) (W.written sink.new) result.history }
     ensures memory { result.fault ≡ Some TopFault.Memory
         → ((sink.new ≡ sink.old) × (result.history ≡ []))
-            ⊎ RunsInPart (R.remaining source.old) (R.remaining source.new) (W.written sink.old) (W.written sink.new) result.history }
+        ⊎ RunsInPart (R.remaining source.old) (R.remaining source.new) (W.written sink.old) (W.written sink.new) result.history }
 
     // Any other fault comes before any call, and nothing is written; none tells of a disk.
     ensures silent { IsBeforeCalls result.fault → (sink.new ≡ sink.old) × (result.history ≡ []) }

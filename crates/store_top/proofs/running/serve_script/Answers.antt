@@ -1,4 +1,4 @@
-use Rattle.store_top.proofs.Running.{runs-none}
+use Rattle.store_top.proofs.Runs.{runs-none}
 use Rattle.store_top.proofs.running.serve_script.Goals as goal
 
 -- memory was refused before the first call
