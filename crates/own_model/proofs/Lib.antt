@@ -1,3 +1,4 @@
 pub mod Histories
 pub mod KeyOrder
 pub mod Ordered
+pub mod Readings
