@@ -2,3 +2,5 @@ pub mod Histories
 pub mod KeyOrder
 pub mod Ordered
 pub mod Readings
+pub mod Serials
+pub mod Tables

@@ -1,0 +1,97 @@
+-- Every history of few entries is Serial.
+use Rattle.std.proofs.Common.{◌≡◌, ℕ, zero, suc, ◌+◌, ◌*◌, ◌<◌, ◌≤◌, List, [], ◌∷◌, ◌++◌, length, map, fold, take, Bool, true, false, refl, ap, sym, subst, ◌∙◌, arith}
+use Rattle.std.specs.Prelude.{Option, Some, None, Result, Ok, Err, slice_get, slice_set, sum_by, nat_lt, if◌then◌else◌}
+use Rattle.std.specs.List.{AllByRecursion, list_any}
+use Rattle.std.proofs.lemmas.Bool.{lt-leb}
+use Rattle.std.proofs.lemmas.List.{length-take-le}
+use Rattle.std.proofs.lemmas.List.Sums.{sum_by_push}
+use Rattle.own_base.specs.Row.{row_size}
+use Rattle.own_base.specs.declared.value.Key.{Key}
+use Rattle.own_model.specs.declared.history.Entry.{Entry}
+use Rattle.own_model.specs.declared.request.Request.{Request}
+use Rattle.own_model.specs.declared.request.Request.TheVariants.{Run, Syntax, Limit, End}
+use Rattle.own_model.specs.declared.schema.TableDef.{TableDef}
+use Rattle.own_model.specs.declared.statement.Statement.{Statement}
+use Rattle.own_model.specs.declared.statement.Statement.TheVariants as statement
+use Rattle.own_model.specs.Create.{create, definition_of}
+use Rattle.own_model.specs.Db.{Db, Row, Table, empty, key_of, table_from}
+use Rattle.own_model.specs.Fault.{fault, row_count, weight}
+use Rattle.own_model.specs.History.{History, World, flat, happens, left_by, world}
+use Rattle.own_model.specs.Readable.{IsReadable}
+use Rattle.own_model.specs.Run.{has_key, insert, put, run, with_row, with_tuple}
+use Rattle.own_model.specs.Serial.{Serial}
+use Rattle.own_model.specs.Sound.{AreRowsOf, IsRowOf, Sound}
+use Rattle.own_model.proofs.Ordered.{ordered-empty, ordered-flat}
+use Rattle.own_model.proofs.Readings.{IsPair, IsPlain, TakesPairs, plain-written}
+use Rattle.own_model.proofs.Tables.{IsAt, all-with_row, found-at, length-with_row, rows-append, rows-at, rows-set, size-with_row, sum-set}
+
+-- a number and a text take at most 4,224
+size-pair : (tuple : Row) → IsPair tuple → row_size tuple ≤ 4224
+size-pair tuple pair = let short = pair.short in rw (pair.is) (omega arith)
+
+-- A database of so few rows: each table takes pairs, and each row is one of its table's.
+record HasFew (db : Db) (most : ℕ) : Type 0 where
+  pairs : AllByRecursion TakesPairs db.schema.tables
+  rows : AreRowsOf db.schema.tables db.rows
+  count : row_count db ≤ most
+  light : weight db ≤ 4224 * most
+
+more : (db : Db) (most : ℕ) → HasFew db most → HasFew db (most + 1)
+more db most few = record { pairs = few.pairs; rows = few.rows; count = (let c = few.count in omega arith); light = (let w = few.light in omega arith) }
+
+-- what holds of each table holds of one
+pairs-at : (tables : List TableDef) (place : ℕ) (table : TableDef) → AllByRecursion TakesPairs tables → slice_get tables place ≡ Some table → TakesPairs table
+pairs-at [] place table all is = cc
+pairs-at (first ∷ tables) zero table all is = let same : first ≡ table = cc in subst TakesPairs same all.0
+pairs-at (first ∷ tables) (suc place) table all is = pairs-at tables place table all.1 is
+
+pairs-append : (tables : List TableDef) (new : TableDef) → AllByRecursion TakesPairs tables → TakesPairs new → AllByRecursion TakesPairs (tables ++ new ∷ [])
+pairs-append [] new all takes = (takes, tt)
+pairs-append (table ∷ tables) new all takes = (all.0, pairs-append tables new all.1 takes)
+
+-- a tuple more
+few-with_row : (db : Db) (tuple : Row) (table : Table) (place most : ℕ) → IsPair tuple → IsAt db.schema.tables db.rows table place → HasFew db most
+    → HasFew (record db { rows = slice_set db.rows place (with_row table.definition tuple table.rows) }) (most + 1)
+few-with_row db tuple table place most pair at few = record {
+  pairs = few.pairs;
+  rows = rows-set db.schema.tables db.rows place table.definition (with_row table.definition tuple table.rows) few.rows at.has_definition
+      (all-with_row table.definition tuple (IsRowOf table.definition) table.rows
+      (pairs-at db.schema.tables place table.definition few.pairs at.has_definition tuple pair)
+      (rows-at db.schema.tables db.rows place table.definition table.rows few.rows at.has_definition at.has_rows));
+  count = (let longer = sum-set length db.rows place table.rows (with_row table.definition tuple table.rows) 1 at.has_rows
+      (length-with_row table.definition tuple table.rows) in let c = few.count in omega arith);
+  light = (let heavier = sum-set (sum_by row_size) db.rows place table.rows (with_row table.definition tuple table.rows) (row_size tuple) at.has_rows
+      (size-with_row table.definition tuple table.rows) in let w = few.light in let s = size-pair tuple pair in omega arith);
+}
+
+-- rows with a tuple have it at its place
+tuple_step : (table : TableDef) (rows : List Row) (tuple : Row) (new : List Row) (b : Bool) → list_any (has_key table (key_of table tuple)) rows ≡ b
+    → with_tuple table rows tuple ≡ Ok new → with_row table tuple rows ≡ new
+unfolding with_tuple
+tuple_step table rows tuple new true is by = let never : ◌≡◌ {A = Result (List Row) Key} (Err (key_of table tuple)) (Ok new) = rw is at by in cc
+tuple_step table rows tuple new false is by = let both : ◌≡◌ {A = Result (List Row) Key} (Ok (with_row table tuple rows)) (Ok new) = rw is at by in cc
+
+put_step : (db : Db) (name : List ℕ) (tuple : Row) (table : Table) (most : ℕ) → IsPair tuple → table_from 0 name db.schema.tables db.rows ≡ Some table → HasFew db most
+    → (r : Result (List Row) Key) → with_tuple table.definition table.rows tuple ≡ r → HasFew (put db name table.number r).db (most + 1)
+put_step db name tuple table most pair found few (Ok new) by =
+    let there = found-at 0 name db.schema.tables db.rows table found in
+    let number : there.0 ≡ table.number = (let n = there.1 in omega arith) in
+    let same : with_row table.definition tuple table.rows ≡ new = tuple_step table.definition table.rows tuple new _ refl by in
+    rw (← same, ← number) (few-with_row db tuple table there.0 most pair there.2 few)
+put_step db name tuple table most pair found few (Err key) by = more db most few
+
+insert_step : (db : Db) (name : List ℕ) (tuple : Row) (most : ℕ) → IsPair tuple → HasFew db most → (found : Option Table) → table_from 0 name db.schema.tables db.rows ≡ found
+    → HasFew (insert db name tuple).db (most + 1)
+unfolding insert
+insert_step db name tuple most pair few None is = rw is (more db most few)
+insert_step db name tuple most pair few (Some table) is = rw is (put_step db name tuple table most pair is few _ refl)
+
+-- a table more
+few-create : (db : Db) (most : ℕ) (table : TableDef) → TakesPairs table → HasFew db most
+    → HasFew (record db { schema = record db.schema { tables = db.schema.tables ++ table ∷ [] }; rows = db.rows ++ [] ∷ [] }) (most + 1)
+few-create db most table takes few = record {
+  pairs = pairs-append db.schema.tables table few.pairs takes;
+  rows = rows-append db.schema.tables db.rows table few.rows;
+  count = (let same = sum_by_push length db.rows [] in let c = few.count in omega arith);
+  light = (let same = sum_by_push (sum_by row_size) db.rows [] in let w = few.light in omega arith);
+}
