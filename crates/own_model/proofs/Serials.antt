@@ -7,6 +7,7 @@ use Rattle.std.proofs.lemmas.List.{length-take-le}
 use Rattle.std.proofs.lemmas.List.Sums.{sum_by_push}
 use Rattle.own_base.specs.Row.{row_size}
 use Rattle.own_base.specs.declared.value.Key.{Key}
+use Rattle.own_model.specs.declared.create.CreateTable.{CreateTable}
 use Rattle.own_model.specs.declared.history.Entry.{Entry}
 use Rattle.own_model.specs.declared.request.Request.{Request}
 use Rattle.own_model.specs.declared.request.Request.TheVariants.{Run, Syntax, Limit, End}
@@ -17,7 +18,7 @@ use Rattle.own_model.specs.Create.{create, definition_of}
 use Rattle.own_model.specs.Db.{Db, Row, Table, empty, key_of, table_from}
 use Rattle.own_model.specs.Fault.{fault, row_count, weight}
 use Rattle.own_model.specs.History.{History, World, flat, happens, left_by, world}
-use Rattle.own_model.specs.Readable.{IsReadable}
+use Rattle.own_model.specs.Readable.{HasReadable, IsReadable}
 use Rattle.own_model.specs.Run.{has_key, insert, put, run, with_row, with_tuple}
 use Rattle.own_model.specs.Serial.{Serial}
 use Rattle.own_model.specs.Sound.{AreRowsOf, IsRowOf, Sound}
@@ -87,11 +88,81 @@ insert_step db name tuple most pair few None is = rw is (more db most few)
 insert_step db name tuple most pair few (Some table) is = rw is (put_step db name tuple table most pair is few _ refl)
 
 -- a table more
-few-create : (db : Db) (most : ℕ) (table : TableDef) → TakesPairs table → HasFew db most
-    → HasFew (record db { schema = record db.schema { tables = db.schema.tables ++ table ∷ [] }; rows = db.rows ++ [] ∷ [] }) (most + 1)
+few-create : (db : Db) (most : ℕ) (table : CreateTable) → TakesPairs (definition_of table) → HasFew db most → HasFew (create db table) (most + 1)
+unfolding create
 few-create db most table takes few = record {
-  pairs = pairs-append db.schema.tables table few.pairs takes;
-  rows = rows-append db.schema.tables db.rows table few.rows;
+  pairs = pairs-append db.schema.tables (definition_of table) few.pairs takes;
+  rows = rows-append db.schema.tables db.rows (definition_of table) few.rows;
   count = (let same = sum_by_push length db.rows [] in let c = few.count in omega arith);
   light = (let same = sum_by_push (sum_by row_size) db.rows [] in let w = few.light in omega arith);
+}
+
+-- a statement of the grammar adds one row at most
+few-run : (db : Db) (statement : Statement) (most : ℕ) → IsPlain statement → HasFew db most → HasFew (run db statement).db (most + 1)
+unfolding run
+few-run db (statement.CreateTable table) most plain few = few-create db most table plain few
+few-run db (statement.Insert table None []) most plain few = more db most few
+few-run db (statement.Insert table None (tuple ∷ [])) most plain few = insert_step db table tuple most plain.0 few _ refl
+few-run db (statement.Insert table None (tuple ∷ next ∷ tuples)) most plain few = more db most few
+few-run db (statement.Insert table (Some columns) tuples) most plain few = more db most few
+few-run db (statement.Select query) most plain few = more db most few
+few-run db (statement.CreateView view) most plain few = more db most few
+few-run db (statement.Update table sets cond) most plain few = more db most few
+few-run db (statement.Delete table cond) most plain few = more db most few
+few-run db statement.Begin most plain few = more db most few
+few-run db statement.Commit most plain few = more db most few
+few-run db statement.Rollback most plain few = more db most few
+few-run db (statement.GdprGet table key) most plain few = more db most few
+few-run db (statement.GdprForget table key) most plain few = more db most few
+few-run db statement.Explain most plain few = more db most few
+few-run db statement.Checkpoint most plain few = more db most few
+
+-- so does a request
+few-left_by : (db : Db) (request : Request) (most : ℕ) → IsReadable request → HasFew db most → HasFew (left_by db request) (most + 1)
+unfolding left_by
+few-left_by db (Run statement) most readable few = few-run db statement most (plain-written statement readable) few
+few-left_by db (Syntax byte) most readable few = more db most few
+few-left_by db (Limit passed) most readable few = absurd readable
+few-left_by db End most readable few = more db most few
+
+few-fold : (before : World) (history : History) (most : ℕ) → AllByRecursion HasReadable history → HasFew before.flat most
+    → HasFew (fold happens before history).flat (most + length history)
+few-fold before [] most readable few = subst (HasFew before.flat) (omega arith) few
+few-fold before (entry ∷ history) most readable few =
+    let step = few-fold (happens before entry) history (most + 1) readable.1 (few-left_by before.flat entry.request most readable.0 few) in
+    subst (HasFew (fold happens before (entry ∷ history)).flat) (omega arith) step
+
+few-empty : HasFew empty 0
+few-empty = record { pairs = tt; rows = tt; count = omega arith; light = omega arith }
+
+-- a history leaves at most a row for each entry
+few-flat : (history : History) → AllByRecursion HasReadable history → HasFew (flat empty history) (length history)
+unfolding flat world
+few-flat history readable = subst (HasFew (flat empty history)) (omega arith) (few-fold _ history 0 readable few-empty)
+
+-- so few rows pass no limit
+faultless-few : (db : Db) (most : ℕ) → most ≤ 200001 → HasFew db most → fault db ≡ None
+unfolding fault
+faultless-few db most limit few =
+    let rows : nat_lt 1000000 (row_count db) ≡ false = (let c = few.count in lt-leb _ _ (omega arith)) in
+    let light : nat_lt 1073741824 (weight db) ≡ false = (let w = few.light in lt-leb _ _ (omega arith)) in
+    rw (rows, light) refl
+
+-- a front of a list has what all of it has
+all-take : {X : Type 0} (P : X → Type 0) (xs : List X) (n : ℕ) → AllByRecursion P xs → AllByRecursion P (take n xs)
+all-take P xs zero all = tt
+all-take P [] (suc n) all = tt
+all-take P (x ∷ xs) (suc n) all = (all.0, all-take P xs n all.1)
+
+-- every history of at most 200,001 entries that can be read is Serial over the empty database
+pub serial-few : (history : History) → length history ≤ 200001 → AllByRecursion HasReadable history → Serial empty history
+serial-few history short readable = record {
+  sound = λ place within.
+    let few = few-flat (take place history) (all-take HasReadable history place readable) in
+    let long : length (take place history) ≡ place = length-take-le place history within in
+    record {
+      faultless = faultless-few (flat empty (take place history)) (length (take place history)) (omega arith) few;
+      ordered = ordered-flat empty (take place history) ordered-empty;
+      rows = few.rows;
+    };
 }

@@ -1,5 +1,6 @@
 -- Which requests an input can give.
 use Rattle.std.specs.Prelude.{◌≡◌, ℕ, ◌≤◌, List, length, Some}
+use Rattle.own_model.specs.declared.history.Entry.{Entry}
 use Rattle.own_model.specs.declared.request.Request.{Request}
 use Rattle.own_model.specs.declared.request.Request.TheVariants.{Run, Syntax, Limit, End}
 use Rattle.own_model.specs.declared.statement.Statement.{Statement}
@@ -18,3 +19,7 @@ IsReadable (Run statement) = IsWritten statement
 IsReadable (Syntax byte) = Unit {0}
 IsReadable (Limit passed) = ⊥
 IsReadable End = Unit {0}
+
+-- an entry of a request that can be read
+abbrev pub HasReadable : Entry → Type 0
+HasReadable entry = IsReadable entry.request
