@@ -1,9 +1,9 @@
 -- Every history of few entries is Serial.
 use Rattle.std.proofs.Common.{◌≡◌, ℕ, zero, suc, ◌+◌, ◌*◌, ◌<◌, ◌≤◌, List, [], ◌∷◌, ◌++◌, length, map, fold, take, Bool, true, false, refl, ap, sym, subst, ◌∙◌, arith}
-use Rattle.std.specs.Prelude.{Option, Some, None, Result, Ok, Err, slice_get, slice_set, sum_by, nat_lt, if◌then◌else◌}
+use Rattle.std.specs.Prelude.{Option, Some, None, Result, Ok, Err, slice_get, slice_set, sum_by, nat_lt, ◌==◌, if◌then◌else◌}
 use Rattle.std.specs.List.{AllByRecursion, list_any}
 use Rattle.std.proofs.lemmas.Bool.{lt-leb}
-use Rattle.std.proofs.lemmas.List.{length-take-le}
+use Rattle.std.proofs.lemmas.List.{length-append, length-map, length-take-le}
 use Rattle.std.proofs.lemmas.List.Sums.{sum_by_push}
 use Rattle.own_base.specs.Row.{row_size}
 use Rattle.own_base.specs.declared.value.Key.{Key}
@@ -11,19 +11,25 @@ use Rattle.own_model.specs.declared.create.CreateTable.{CreateTable}
 use Rattle.own_model.specs.declared.history.Entry.{Entry}
 use Rattle.own_model.specs.declared.request.Request.{Request}
 use Rattle.own_model.specs.declared.request.Request.TheVariants.{Run, Syntax, Limit, End}
+use Rattle.own_model.specs.declared.schema.Schema.{Schema}
 use Rattle.own_model.specs.declared.schema.TableDef.{TableDef}
+use Rattle.own_model.specs.declared.script.ScriptCall.{ScriptCall}
 use Rattle.own_model.specs.declared.statement.Statement.{Statement}
 use Rattle.own_model.specs.declared.statement.Statement.TheVariants as statement
+use Rattle.own_model.specs.Built.{built}
 use Rattle.own_model.specs.Create.{create, definition_of}
 use Rattle.own_model.specs.Db.{Db, Row, Table, empty, key_of, table_from}
 use Rattle.own_model.specs.Fault.{fault, row_count, weight}
 use Rattle.own_model.specs.History.{History, World, flat, happens, left_by, world}
+use Rattle.own_model.specs.Made.{Called, Want, Spared, Unshown, Unmade, added, after_call, entry_of, made}
 use Rattle.own_model.specs.Readable.{HasReadable, IsReadable}
 use Rattle.own_model.specs.Run.{has_key, insert, put, run, with_row, with_tuple}
+use Rattle.own_model.specs.Script.{script}
 use Rattle.own_model.specs.Serial.{Serial}
 use Rattle.own_model.specs.Sound.{AreRowsOf, IsRowOf, Sound}
 use Rattle.own_model.proofs.Ordered.{ordered-empty, ordered-flat}
 use Rattle.own_model.proofs.Readings.{IsPair, IsPlain, TakesPairs, plain-written}
+use Rattle.own_model.proofs.Scripts.{AsksReadable, all-append, read-script}
 use Rattle.own_model.proofs.Tables.{IsAt, all-with_row, found-at, length-with_row, rows-append, rows-at, rows-set, size-with_row, sum-set}
 
 -- a number and a text take at most 4,224
@@ -101,21 +107,8 @@ few-create db most table takes few = record {
 few-run : (db : Db) (statement : Statement) (most : ℕ) → IsPlain statement → HasFew db most → HasFew (run db statement).db (most + 1)
 unfolding run
 few-run db (statement.CreateTable table) most plain few = few-create db most table plain few
-few-run db (statement.Insert table None []) most plain few = more db most few
 few-run db (statement.Insert table None (tuple ∷ [])) most plain few = insert_step db table tuple most plain.0 few _ refl
-few-run db (statement.Insert table None (tuple ∷ next ∷ tuples)) most plain few = more db most few
-few-run db (statement.Insert table (Some columns) tuples) most plain few = more db most few
-few-run db (statement.Select query) most plain few = more db most few
-few-run db (statement.CreateView view) most plain few = more db most few
-few-run db (statement.Update table sets cond) most plain few = more db most few
-few-run db (statement.Delete table cond) most plain few = more db most few
-few-run db statement.Begin most plain few = more db most few
-few-run db statement.Commit most plain few = more db most few
-few-run db statement.Rollback most plain few = more db most few
-few-run db (statement.GdprGet table key) most plain few = more db most few
-few-run db (statement.GdprForget table key) most plain few = more db most few
-few-run db statement.Explain most plain few = more db most few
-few-run db statement.Checkpoint most plain few = more db most few
+few-run db _ most plain few = more db most few
 
 -- so does a request
 few-left_by : (db : Db) (request : Request) (most : ℕ) → IsReadable request → HasFew db most → HasFew (left_by db request) (most + 1)
@@ -166,3 +159,69 @@ serial-few history short readable = record {
       rows = few.rows;
     };
 }
+
+-- a request that comes into the history is still one that can be read
+built_step : (request : Request) → IsReadable request → (b : Bool) → IsReadable (if b then request else Syntax 0)
+built_step request readable true = readable
+built_step request readable false = tt
+
+readable-built : (schema : Schema) (request : Request) → IsReadable request → IsReadable (built schema request)
+unfolding built
+readable-built schema (Run (statement.CreateTable table)) readable = built_step (Run (statement.CreateTable table)) readable (length schema.tables == 0)
+readable-built schema _ readable = readable
+
+-- what holds of a list holds of a front
+all-front : {X Y : Type 0} (P : Y → Type 0) (f : X → Y) (xs : List X) (rest : List Y) → AllByRecursion P (map f xs ++ rest) → AllByRecursion (λ x. P (f x)) xs
+all-front P f [] rest all = tt
+all-front P f (x ∷ xs) rest all = (all.0, all-front P f xs rest all.1)
+
+-- a call that asks for what can be read
+abbrev CalledReadable : Called → Type 0
+CalledReadable called = IsReadable called.call.request
+
+-- what calls make of a history has an entry for each of them at most, all of which can be read
+record IsMade (history : History) (most : ℕ) : Type 0 where
+  few : length history ≤ most
+  readable : AllByRecursion HasReadable history
+
+made_step : (history : History) (entry : Entry) (want : Want) (most : ℕ) → IsReadable entry.request → IsMade history most → IsMade (history ++ added entry want) (most + 1)
+made_step history entry Spared most readable is = record {
+  few = (let long = length-append history (entry ∷ []) in let few = is.few in omega arith);
+  readable = all-append HasReadable history (entry ∷ []) is.readable (readable, tt);
+}
+made_step history entry Unshown most readable is = record {
+  few = (let long = length-append history (entry ∷ []) in let few = is.few in omega arith);
+  readable = all-append HasReadable history (entry ∷ []) is.readable (readable, tt);
+}
+made_step history entry Unmade most readable is = record {
+  few = (let long = length-append history [] in let few = is.few in omega arith);
+  readable = all-append HasReadable history [] is.readable tt;
+}
+
+made_fold : (base : Db) (called : List Called) (history : History) (most : ℕ) → AllByRecursion CalledReadable called → IsMade history most
+    → IsMade (fold (after_call base) history called) (most + length called)
+made_fold base [] history most readable is = subst (IsMade history) (omega arith) is
+made_fold base (first ∷ called) history most readable is =
+    let next = made_step history (entry_of base history first.call) first.want most (readable-built (flat base history).schema first.call.request readable.0) is in
+    subst (IsMade (fold (after_call base) history (first ∷ called))) (omega arith)
+    (made_fold base called (after_call base history first) (most + 1) readable.1 next)
+
+-- what calls make that can be read
+is_made : (base : Db) (called : List Called) → AllByRecursion CalledReadable called → IsMade (made base called) (length called)
+unfolding made
+is_made base called readable = subst (IsMade (made base called)) (omega arith) (made_fold base called [] 0 readable (record { few = omega arith; readable = tt }))
+
+-- the history that the first calls of an input make over the empty database is Serial
+pub serial-made : (bytes : List ℕ) (calls : List ScriptCall) (called : List Called) → script bytes ≡ Ok calls
+    → (rest : List ScriptCall) → map (λ (c : Called). c.call) called ++ rest ≡ calls → Serial empty (made empty called)
+serial-made bytes calls called reads rest is =
+    let read = read-script bytes calls reads in
+    let readable : AllByRecursion CalledReadable called =
+        all-front AsksReadable (λ (c : Called). c.call) called rest (subst (AllByRecursion AsksReadable) (sym is) read.readable) in
+    let history = is_made empty called readable in
+    let appended = length-append (map (λ (c : Called). c.call) called) rest in
+    let mapped = length-map called (λ (c : Called). c.call) in
+    let long : length (map (λ (c : Called). c.call) called ++ rest) ≡ length calls = ap length is in
+    let few = read.few in
+    let short = history.few in
+    serial-few (made empty called) (omega arith) history.readable
