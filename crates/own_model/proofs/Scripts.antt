@@ -74,7 +74,7 @@ pub record AreRead (calls : List ScriptCall) : Type 0 where
 
 script_step : (texts : List Piece) (calls : List ScriptCall) (long unread many : Bool) → nat_lt 200000 (length texts) ≡ many
     → ◌≡◌ {A = Result (List ScriptCall) InputFault}
-      (if long then Err TooLong else if unread then Err (NotText 0) else if many then Err (TooManyCalls 0) else Ok (numbered 1 (requests_of texts))) (Ok calls)
+    (if long then Err TooLong else if unread then Err (NotText 0) else if many then Err (TooManyCalls 0) else Ok (numbered 1 (requests_of texts))) (Ok calls)
     → AreRead calls
 script_step texts calls true unread many is by = cc
 script_step texts calls false true many is by = cc

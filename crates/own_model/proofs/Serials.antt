@@ -1,5 +1,5 @@
 -- Every history of few entries is Serial.
-use Rattle.std.proofs.Common.{◌≡◌, ℕ, zero, suc, ◌+◌, ◌*◌, ◌<◌, ◌≤◌, List, [], ◌∷◌, ◌++◌, length, map, fold, take, Bool, true, false, refl, ap, sym, subst, ◌∙◌, arith}
+use Rattle.std.proofs.Common.{◌≡◌, ℕ, zero, suc, ◌+◌, ◌*◌, ◌≤◌, List, [], ◌∷◌, ◌++◌, length, map, fold, take, Bool, true, false, refl, ap, sym, subst, arith}
 use Rattle.std.specs.Prelude.{Option, Some, None, Result, Ok, Err, slice_get, slice_set, sum_by, nat_lt, ◌==◌, if◌then◌else◌}
 use Rattle.std.specs.List.{AllByRecursion, list_any}
 use Rattle.std.proofs.lemmas.Bool.{lt-leb}
@@ -26,7 +26,7 @@ use Rattle.own_model.specs.Readable.{HasReadable, IsReadable}
 use Rattle.own_model.specs.Run.{has_key, insert, put, run, with_row, with_tuple}
 use Rattle.own_model.specs.Script.{script}
 use Rattle.own_model.specs.Serial.{Serial}
-use Rattle.own_model.specs.Sound.{AreRowsOf, IsRowOf, Sound}
+use Rattle.own_model.specs.Sound.{AreRowsOf, IsRowOf}
 use Rattle.own_model.proofs.Ordered.{ordered-empty, ordered-flat}
 use Rattle.own_model.proofs.Readings.{IsPair, IsPlain, TakesPairs, plain-written}
 use Rattle.own_model.proofs.Scripts.{AsksReadable, all-append, read-script}
@@ -151,13 +151,13 @@ all-take P (x ∷ xs) (suc n) all = (all.0, all-take P xs n all.1)
 pub serial-few : (history : History) → length history ≤ 200001 → AllByRecursion HasReadable history → Serial empty history
 serial-few history short readable = record {
   sound = λ place within.
-    let few = few-flat (take place history) (all-take HasReadable history place readable) in
-    let long : length (take place history) ≡ place = length-take-le place history within in
-    record {
-      faultless = faultless-few (flat empty (take place history)) (length (take place history)) (omega arith) few;
-      ordered = ordered-flat empty (take place history) ordered-empty;
-      rows = few.rows;
-    };
+      let few = few-flat (take place history) (all-take HasReadable history place readable) in
+      let long : length (take place history) ≡ place = length-take-le place history within in
+      record {
+        faultless = faultless-few (flat empty (take place history)) (length (take place history)) (omega arith) few;
+        ordered = ordered-flat empty (take place history) ordered-empty;
+        rows = few.rows;
+      };
 }
 
 -- a request that comes into the history is still one that can be read
@@ -217,7 +217,7 @@ pub serial-made : (bytes : List ℕ) (calls : List ScriptCall) (called : List Ca
 serial-made bytes calls called reads rest is =
     let read = read-script bytes calls reads in
     let readable : AllByRecursion CalledReadable called =
-        all-front AsksReadable (λ (c : Called). c.call) called rest (subst (AllByRecursion AsksReadable) (sym is) read.readable) in
+    all-front AsksReadable (λ (c : Called). c.call) called rest (subst (AllByRecursion AsksReadable) (sym is) read.readable) in
     let history = is_made empty called readable in
     let appended = length-append (map (λ (c : Called). c.call) called) rest in
     let mapped = length-map called (λ (c : Called). c.call) in

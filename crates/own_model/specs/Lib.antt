@@ -8,6 +8,7 @@ pub mod Fault
 pub mod Grammar
 pub mod History
 pub mod Made
+pub mod Named
 pub mod Printed
 pub mod Readable
 pub mod Run

@@ -8,6 +8,7 @@ mod condition;
 mod create;
 mod expression;
 mod history;
+pub mod laws;
 mod limit;
 mod refusal;
 mod reply;
