@@ -17,6 +17,8 @@ mod schema;
 mod script;
 mod select;
 mod statement;
+#[cfg(test)]
+mod tests;
 
 pub use bound::{Bound, BoundCond, BoundExpr, BoundItem, BoundOperand, BoundSelect, Source1};
 pub use condition::{Cmp, Cond, Operand};
