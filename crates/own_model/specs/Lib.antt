@@ -10,6 +10,7 @@ pub mod History
 pub mod Made
 pub mod Named
 pub mod Printed
+pub mod Ran
 pub mod Readable
 pub mod Run
 pub mod Script

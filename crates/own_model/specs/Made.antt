@@ -1,5 +1,5 @@
 -- The history that calls make.
-use Rattle.std.specs.Prelude.{ℕ, List, [], ◌∷◌, ◌++◌, fold}
+use Rattle.std.specs.Prelude.{ℕ, List, [], ◌∷◌, ◌++◌, Option, None, Some, fold}
 use Rattle.own_model.specs.declared.history.Entry.{Entry}
 use Rattle.own_model.specs.declared.history.Verdict.TheVariants.{Took}
 use Rattle.own_model.specs.declared.script.ScriptCall.{ScriptCall}
@@ -33,6 +33,12 @@ abbrev pub added : Entry → Want → History
 added entry Spared = entry ∷ []
 added entry Unshown = entry ∷ []
 added entry Unmade = []
+
+-- the place of a call that is made at this place, if memory doesn't refuse it
+abbrev pub place_by : Want → ℕ → Option ℕ
+place_by Spared place = Some place
+place_by Unshown place = Some place
+place_by Unmade place = None
 
 -- a history after one call more
 abbrev pub after_call : Db → History → Called → History

@@ -1,7 +1,7 @@
 -- The text of the replies.
 use Rattle.std.specs.Prelude.{◌≡◌, ◌⊎◌, ℕ, ◌+◌, ◌/◌, ◌%◌, List, [], ◌∷◌, ◌++◌, length, Bool, true, false, nat_lt, ◌==◌, ◌||◌, ◌&&◌, Option, None, Some, codes, if◌then◌else◌}
 use Rattle.std.specs.Fmt.{decimal, signed_decimal}
-use Rattle.std.specs.List.{flat_map, position}
+use Rattle.std.specs.List.{flat_map}
 use Rattle.std.specs.Option.{option_map_or}
 use Rattle.own_base.specs.declared.value.Key.{Key}
 use Rattle.own_base.specs.declared.value.Key.TheVariants as key
@@ -88,9 +88,14 @@ reply_lines place session call reply = place_text place ++ codes " " ++ decimal 
 abbrev pub is_of : ScriptCall → Entry → Bool
 is_of call entry = entry.session.0 == call.session.0 && entry.call == call.call
 
+-- the place that a call has among entries that are numbered from here on
+unfoldable pub place_from : ℕ → ScriptCall → History → Option ℕ
+place_from place call [] = None
+place_from place call (entry ∷ history) = if is_of call entry then Some place else place_from (place + 1) call history
+
 -- the place that a call has in a history
-unfoldable pub place_of : History → ScriptCall → Option ℕ
-place_of history call = position (is_of call) history
+abbrev pub place_of : History → ScriptCall → Option ℕ
+place_of history call = place_from 0 call history
 
 -- what is told of a reply: want of memory may stand in the place of rows
 abbrev pub told : Want → Reply → Reply

@@ -1,5 +1,6 @@
 use crate::request::Request;
 use own_base::{List, SessionNo};
+use std::fmt;
 
 /// Why an input has no script. Bytes count from the first of the input.
 #[derive(Clone, Copy, Debug, PartialEq, Eq)]
@@ -14,6 +15,23 @@ pub enum InputFault {
     TooManyCalls(u32),
     /// Memory was refused.
     Memory,
+}
+
+impl fmt::Display for InputFault {
+    /// Where the input is refused, and why. Until the whole reader comes, the byte is always 0.
+    fn fmt<W: fmt::Write>(&self, f: &mut fmt::Formatter<W>) -> fmt::Result {
+        match self {
+            InputFault::TooLong => write!(f, "input refused at byte 0: too long"),
+            InputFault::NotText(byte) => write!(f, "input refused at byte {byte}: not text"),
+            InputFault::BadSession(byte) => {
+                write!(f, "input refused at byte {byte}: bad session line")
+            }
+            InputFault::TooManyCalls(byte) => {
+                write!(f, "input refused at byte {byte}: too many calls")
+            }
+            InputFault::Memory => write!(f, "out of memory"),
+        }
+    }
 }
 
 /// The calls of an input, in its order, and the End call of each session behind them.

@@ -1,2 +1,12 @@
+pub mod CallTexts
+pub mod Cutting
+pub mod FrontTokens
+pub mod Numbering
 pub mod Placed
 pub mod Put
+pub mod Results
+pub mod RuleSteps
+pub mod Scripts
+pub mod Serving
+pub mod Tokens
+pub mod Unquoting

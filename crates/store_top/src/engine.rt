@@ -7,9 +7,10 @@ ghost use Rattle.own_model.specs.Printed.{Tells};
 ghost use Rattle.store_top.specs.Engine.{Stands, StandsBeforeLast};
 
 use crate::flat::Flat;
-use own_base::Place;
+use own_base::{List, Place};
 use own_model::{Entry, Reply, ScriptCall, Verdict};
 use std::alloc::{AllocError, Global};
+use std::mem::drop;
 
 /// The tables, and the history that made them.
 #[derive(Debug, Drop)]
@@ -38,6 +39,15 @@ impl Engine {
             flat: Flat::new(alloc),
             history,
         })
+    }
+
+    /// The history alone. Takes no memory.
+    pub(crate) fn into_history(self) -> List<Entry>
+        ensures { result ≡ self.history.items }
+    {
+        let Engine { flat, history } = self;
+        drop(flat);
+        List::from_vec(history)
     }
 
     /// Serves a call: its entry comes into the history, and the tables change by it. Where memory is refused, nothing

@@ -1,0 +1,37 @@
+-- What the script of an input is, case by case.
+use Rattle.std.proofs.Common.{◌≡◌, ℕ, ◌<◌, ◌≤◌, List, length, Ok, Err, arith, refl, lt-ltb}
+use Rattle.std.specs.Str.{IsUtf8}
+use Rattle.std.specs.Str.Lossy.{utf8_valid_len}
+use Rattle.std.proofs.lemmas.Str.{utf8_valid_len-IsUtf8}
+use Rattle.std.proofs.lemmas.Bool.{le-ltb, eq-eqb, ne_eqb}
+use Rattle.own_model.specs.declared.script.InputFault.{InputFault}
+use Rattle.own_model.specs.declared.script.InputFault.TheVariants.{TooLong, NotText, BadSession, TooManyCalls, Memory}
+use Rattle.own_model.specs.Script.{script, call_texts, requests_of, numbered}
+use Rattle.store_top.specs.Input.{IsFaultOf, IsManyOf}
+
+pub script_too_long : (bytes : List ℕ) → 67108864 < length bytes → script bytes ≡ Err TooLong
+unfolding script
+script_too_long bytes long = rw (lt-ltb 67108864 (length bytes) long) refl
+
+pub script_not_text : (bytes : List ℕ) → length bytes ≤ 67108864 → utf8_valid_len bytes < length bytes → script bytes ≡ Err (NotText 0)
+unfolding script
+script_not_text bytes short some =
+    rw (le-ltb 67108864 (length bytes) short, ne_eqb (utf8_valid_len bytes) (length bytes) (omega arith)) refl
+
+pub script_too_many : (bytes : List ℕ) → length bytes ≤ 67108864 → IsUtf8 bytes → 200000 < length (call_texts bytes) → script bytes ≡ Err (TooManyCalls 0)
+unfolding script
+script_too_many bytes short text many =
+    rw (le-ltb 67108864 (length bytes) short, eq-eqb (utf8_valid_len bytes) (length bytes) (utf8_valid_len-IsUtf8 bytes text), lt-ltb 200000 (length (call_texts bytes)) many) refl
+
+pub script_calls : (bytes : List ℕ) → length bytes ≤ 67108864 → IsUtf8 bytes → length (call_texts bytes) ≤ 200000 → script bytes ≡ Ok (numbered 1 (requests_of (call_texts bytes)))
+unfolding script
+script_calls bytes short text few =
+    rw (le-ltb 67108864 (length bytes) short, eq-eqb (utf8_valid_len bytes) (length bytes) (utf8_valid_len-IsUtf8 bytes text), le-ltb 200000 (length (call_texts bytes)) few) refl
+
+-- the faults of a text's calls are the input's
+pub many_faults : (bytes : List ℕ) (fault : InputFault) → length bytes ≤ 67108864 → IsUtf8 bytes → IsManyOf (length (call_texts bytes)) fault → IsFaultOf (script bytes) fault
+many_faults bytes Memory short text many = tt
+many_faults bytes TooLong short text many = absurd many
+many_faults bytes (NotText byte) short text many = absurd many
+many_faults bytes (BadSession byte) short text many = absurd many
+many_faults bytes (TooManyCalls byte) short text many = rw (many.1) (script_too_many bytes short text many.0)

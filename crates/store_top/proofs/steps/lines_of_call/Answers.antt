@@ -1,0 +1,17 @@
+use Rattle.std.proofs.Common.{◌++◌, ap, sym, ◌∙◌}
+use Rattle.std.proofs.lemmas.Result.{IfOk-weaker}
+use Rattle.own_model.specs.Db.{empty}
+use Rattle.own_model.proofs.Printing.{told-last}
+use Rattle.store_top.proofs.steps.lines_of_call.Goals as goal
+
+-- what is told at the call's place is the text of the call
+pub returns-in-Ok-clause-serves : goal.returns-in-Ok-clause-serves
+returns-in-Ok-clause-serves c =
+    let history = c.args.engine.now.history.items in
+    let told = c.in-Ok.ensures.told in
+    let last = told-last empty history c.args.call c.in-Ok.answered.reply (rw c.in-Ok.ensures.made at told.1) in
+    record {
+      want = last.0;
+      history_is = c.in-Ok.ensures.made ∙ ap (λ more. history ++ more) (sym last.1);
+      text_is = IfOk-weaker c.print_reply-text.result _ _ (λ text is. is ∙ (rw told.0 last.2)) c.print_reply-text.ensures;
+    }

@@ -1,0 +1,15 @@
+-- Exit statuses.
+use Rattle.std.specs.Prelude.{ℕ, Option, None, Some}
+use Rattle.store_top.specs.declared.served.TopFault.{TopFault}
+use Rattle.store_top.specs.declared.served.TopFault.TheVariants.{Usage, Read, Write, Disk, Damaged, Input, Memory}
+
+-- 0 for a run to its end, and a number for each fault
+abbrev pub status_of : Option TopFault → ℕ
+status_of None = 0
+status_of (Some Usage) = 2
+status_of (Some Read) = 3
+status_of (Some Write) = 4
+status_of (Some Disk) = 5
+status_of (Some (Damaged area offset)) = 6
+status_of (Some (Input fault)) = 7
+status_of (Some Memory) = 8

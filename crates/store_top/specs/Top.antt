@@ -1,0 +1,93 @@
+-- What a run in mode step did, by its fault.
+use Rattle.std.specs.Prelude.{◌≡◌, ◌≢◌, ◌⊎◌, ℕ, ◌≤◌, List, [], ◌∷◌, Bool, true, false, ◌&&◌, length, Option, None, Some, Ok, Err, codes}
+use Rattle.std.specs.Str.{bytes_eq}
+use Rattle.std.specs.Io.KnownBytes.{Consumes, IsAtEnd}
+use Rattle.own_model.specs.declared.script.InputFault.{InputFault}
+use Rattle.own_model.specs.declared.script.InputFault.TheVariants as input
+use Rattle.own_model.specs.declared.script.ScriptCall.{ScriptCall}
+use Rattle.own_model.specs.History.{History}
+use Rattle.own_model.specs.Script.{script}
+use Rattle.store_top.specs.declared.served.TopFault.{TopFault}
+use Rattle.store_top.specs.declared.served.TopFault.TheVariants.{Usage, Read, Write, Disk, Damaged, Input, Memory}
+use Rattle.store_top.specs.Steps.{RunsFront, RunsTo}
+
+-- the one word `step`
+abbrev pub is_step : List (List ℕ) → Bool
+is_step [] = false
+is_step (word ∷ []) = bytes_eq word (codes "step")
+is_step (word ∷ next ∷ words) = false
+
+-- the input was read to its end, all its calls were made, and the text of all of them was written
+pub record RunsWhole (remaining_old remaining_new written_old written_new : Option (List ℕ)) (history : History) : Type 0 where
+  pub bytes : List ℕ
+  pub calls : List ScriptCall
+  pub read : Consumes remaining_old remaining_new bytes
+  pub ends : IsAtEnd remaining_new
+  pub script_is : script bytes ≡ Ok calls
+  pub runs : RunsTo calls history written_old written_new
+
+-- the input was read to its end, a front of its calls was made, and a front of their text was written
+pub record RunsInPart (remaining_old remaining_new written_old written_new : Option (List ℕ)) (history : History) : Type 0 where
+  pub bytes : List ℕ
+  pub calls : List ScriptCall
+  pub read : Consumes remaining_old remaining_new bytes
+  pub ends : IsAtEnd remaining_new
+  pub script_is : script bytes ≡ Ok calls
+  pub runs : RunsFront calls history written_old written_new
+
+-- the bytes that were read have this input fault; they were read to their end, unless they are too many
+pub record RefusesInput (remaining_old remaining_new : Option (List ℕ)) (fault : InputFault) : Type 0 where
+  pub bytes : List ℕ
+  pub read : Consumes remaining_old remaining_new bytes
+  pub ends : fault ≢ input.TooLong → IsAtEnd remaining_new
+  pub script_is : script bytes ≡ Err fault
+
+-- at most so many bytes were read
+pub record ReadsAtMost (remaining_old remaining_new : Option (List ℕ)) (most : ℕ) : Type 0 where
+  pub bytes : List ℕ
+  pub read : Consumes remaining_old remaining_new bytes
+  pub few : length bytes ≤ most
+
+-- what serving calls left, by the fault; in each, what is said of the sink's count of faults
+abbrev pub ServesCalls : List ScriptCall → History → Option (List ℕ) → Option (List ℕ) → Type 0 → Option TopFault → Type 0
+ServesCalls calls history old new rose None = RunsTo calls history old new
+ServesCalls calls history old new rose (Some Write) = rose × RunsFront calls history old new
+ServesCalls calls history old new rose (Some Memory) = RunsFront calls history old new
+ServesCalls calls history old new rose (Some Usage) = ⊥
+ServesCalls calls history old new rose (Some Read) = ⊥
+ServesCalls calls history old new rose (Some Disk) = ⊥
+ServesCalls calls history old new rose (Some (Damaged area offset)) = ⊥
+ServesCalls calls history old new rose (Some (Input fault)) = ⊥
+
+-- what serving the bytes of an input left, by the fault; `silent` says that no call was made and nothing written
+abbrev pub ServesBytes : List ℕ → History → Option (List ℕ) → Option (List ℕ) → Type 0 → Type 0 → Option TopFault → Type 0
+ServesBytes bytes history old new rose silent None = (calls : List ScriptCall) × (script bytes ≡ Ok calls) × RunsTo calls history old new
+ServesBytes bytes history old new rose silent (Some Write) = (calls : List ScriptCall) × (script bytes ≡ Ok calls) × rose × RunsFront calls history old new
+ServesBytes bytes history old new rose silent (Some Memory) = silent ⊎ ((calls : List ScriptCall) × (script bytes ≡ Ok calls) × RunsFront calls history old new)
+ServesBytes bytes history old new rose silent (Some (Input fault)) = (script bytes ≡ Err fault) × (fault ≢ input.Memory) × silent
+ServesBytes bytes history old new rose silent (Some Usage) = ⊥
+ServesBytes bytes history old new rose silent (Some Read) = ⊥
+ServesBytes bytes history old new rose silent (Some Disk) = ⊥
+ServesBytes bytes history old new rose silent (Some (Damaged area offset)) = ⊥
+
+-- the faults that come before any call
+abbrev pub IsBeforeCalls : Option TopFault → Type 0
+IsBeforeCalls None = ⊥
+IsBeforeCalls (Some Usage) = Unit {0}
+IsBeforeCalls (Some Read) = Unit {0}
+IsBeforeCalls (Some (Input fault)) = Unit {0}
+IsBeforeCalls (Some Write) = ⊥
+IsBeforeCalls (Some Memory) = ⊥
+IsBeforeCalls (Some Disk) = ⊥
+IsBeforeCalls (Some (Damaged area offset)) = ⊥
+
+-- the faults that there are while no disk is used
+abbrev pub IsWithoutDisk : Option TopFault → Type 0
+IsWithoutDisk None = Unit {0}
+IsWithoutDisk (Some Usage) = Unit {0}
+IsWithoutDisk (Some Read) = Unit {0}
+IsWithoutDisk (Some (Input fault)) = fault ≢ input.Memory
+IsWithoutDisk (Some Write) = Unit {0}
+IsWithoutDisk (Some Memory) = Unit {0}
+IsWithoutDisk (Some Disk) = ⊥
+IsWithoutDisk (Some (Damaged area offset)) = ⊥

@@ -1,0 +1,326 @@
+ghost use Rattle.std.specs.Prelude.{◌≡◌, ◌<◌, ◌≤◌, ◌^◌, [], ◌∷◌, None, map, IfOk};
+ghost use Rattle.std.specs.Char.{to_ascii_lowercase};
+ghost use Rattle.std.specs.List.{list_any};
+ghost use Rattle.std.specs.Str.{bytes_eq};
+ghost use Rattle.own_model.specs.Token.{Mark, tokens};
+ghost use Rattle.own_base.specs.declared.value.Value.TheVariants as value;
+ghost use Rattle.own_model.specs.declared.statement.Statement.TheVariants as statement;
+ghost use Rattle.own_model.specs.Grammar as grammar;
+ghost use Rattle.store_top.specs.Read.{Gives};
+ghost use Rattle.store_top.specs.Whole.{WholeOf};
+
+use crate::token::{ReadFault, Token, is_end, next_token};
+use own_base::{List, Name, Text, Value};
+use own_model::{Attr, ColumnDef, CreateTable, Items, Kind, Part, Select, Statement};
+use std::alloc::{AllocError, Global};
+
+/// The words that can't be names.
+const KEYWORDS: [&str; 54] = [
+    "accessed_by",
+    "accesses",
+    "and",
+    "anon",
+    "as",
+    "asc",
+    "begin",
+    "by",
+    "checkpoint",
+    "commit",
+    "compliance",
+    "create",
+    "ctx",
+    "data_subject",
+    "del",
+    "delete",
+    "delete_row",
+    "desc",
+    "explain",
+    "foreign",
+    "forget",
+    "from",
+    "gdpr",
+    "get",
+    "group",
+    "inner",
+    "insert",
+    "int",
+    "into",
+    "is",
+    "join",
+    "key",
+    "not",
+    "null",
+    "on",
+    "only",
+    "or",
+    "order",
+    "owned_by",
+    "owns",
+    "primary",
+    "references",
+    "rollback",
+    "select",
+    "set",
+    "start",
+    "table",
+    "text",
+    "transaction",
+    "unique",
+    "update",
+    "values",
+    "view",
+    "where",
+];
+
+/// Whether the word is one of these.
+fn is_among(word: &str, words: &[&str]) -> bool
+    ensures { result ≡ list_any (λ other. bytes_eq word.now other.now) words.now }
+{
+    words.iter().any(|other| word == *other)
+}
+
+/// Whether the word, in lower case, can't be a name.
+fn is_keyword(word: &str) -> bool
+    ensures { result ≡ grammar.is_keyword word.now }
+{
+    is_among(word, &KEYWORDS)
+}
+
+/// The keyword, in any case. What is behind it.
+fn word<'a>(alloc: Global, wanted: &str, text: &'a str) -> Result<&'a str, ReadFault>
+    requires { map to_ascii_lowercase wanted.now ≡ wanted.now }
+    ensures { Gives (λ rest. (wanted.now, tokens rest.now)) result (grammar.word wanted.now (tokens text.now)) }
+{
+    let (token, rest) = next_token(alloc, text)?;
+    let Token::Word(found) = token else {
+        return Err(ReadFault::Syntax);
+    };
+    if !found.eq_ignore_ascii_case(wanted) {
+        return Err(ReadFault::Syntax);
+    }
+    Ok(rest)
+}
+
+/// The mark, which is a byte of ASCII. What is behind it.
+fn mark(alloc: Global, wanted: u8, text: &str) -> Result<&str, ReadFault>
+    requires { wanted < 128 }
+    ensures { Gives (λ rest. (wanted, tokens rest.now)) result (grammar.mark wanted (tokens text.now)) }
+{
+    let (token, rest) = next_token(alloc, text)?;
+    let Token::Mark(found) = token else {
+        return Err(ReadFault::Syntax);
+    };
+    if found != wanted {
+        return Err(ReadFault::Syntax);
+    }
+    Ok(rest)
+}
+
+/// A name, in lower case: a word of at most 64 bytes that is no keyword. What is behind it.
+fn name(alloc: Global, text: &str) -> Result<(Name, &str), ReadFault>
+    ensures { Gives (λ read. (read.0, tokens read.1.now)) result (grammar.name (tokens text.now)) }
+{
+    let (token, rest) = next_token(alloc, text)?;
+    let Token::Word(found) = token else {
+        return Err(ReadFault::Syntax);
+    };
+    if found.len() > 64 {
+        return Err(ReadFault::Syntax);
+    }
+    let mut word = String::from_str(alloc, found)?;
+    word.make_ascii_lowercase();
+    if is_keyword(word.as_str()) {
+        return Err(ReadFault::Syntax);
+    }
+    Ok((Name::from_str(alloc, word.as_str())?, rest))
+}
+
+/// A text of at most 4,096 bytes. What is behind it.
+fn text(alloc: Global, text: &str) -> Result<(Text, &str), ReadFault>
+    ensures { Gives (λ read. (read.0, tokens read.1.now)) result (grammar.text (tokens text.now)) }
+{
+    let (token, rest) = next_token(alloc, text)?;
+    let Token::Quoted(value) = token else {
+        return Err(ReadFault::Syntax);
+    };
+    if value.len() > 4_096 {
+        return Err(ReadFault::Syntax);
+    }
+    Ok((Text::from_string(value), rest))
+}
+
+/// The number below zero that is as great.
+fn negative(number: u64) -> i64
+    requires { number ≤ 2 ^ 63 }
+    ensures { result ≡ grammar.negative number }
+{
+    if number == 1 << 63 {
+        i64::MIN
+    } else {
+        -(number as i64)
+    }
+}
+
+/// A number behind a `-`. What is behind it.
+fn negative_int(alloc: Global, text: &str) -> Result<(i64, &str), ReadFault>
+    ensures { Gives (λ read. (read.0, tokens read.1.now)) result (grammar.int (Mark 45 ∷ tokens text.now)) }
+{
+    let (token, rest) = next_token(alloc, text)?;
+    let Token::Number(number) = token else {
+        return Err(ReadFault::Syntax);
+    };
+    if number > 1 << 63 {
+        return Err(ReadFault::Syntax);
+    }
+    Ok((negative(number), rest))
+}
+
+/// A number of i64, with its sign. What is behind it.
+fn int(alloc: Global, text: &str) -> Result<(i64, &str), ReadFault>
+    ensures { Gives (λ read. (read.0, tokens read.1.now)) result (grammar.int (tokens text.now)) }
+{
+    let (token, rest) = next_token(alloc, text)?;
+    if let Token::Mark(sign) = token {
+        if sign != b'-' {
+            return Err(ReadFault::Syntax);
+        }
+        return negative_int(alloc, rest);
+    }
+    let Token::Number(number) = token else {
+        return Err(ReadFault::Syntax);
+    };
+    if number >= 1 << 63 {
+        return Err(ReadFault::Syntax);
+    }
+    Ok((number as i64, rest))
+}
+
+/// The table of a CREATE with a number for its key and a text.
+fn create_of(alloc: Global, table: Name, key: Name, column: Name) -> Result<Statement, AllocError>
+    ensures { IfOk result (λ made. made ≡ grammar.create_of table key column) }
+{
+    let mut attrs = List::new(alloc);
+    attrs.push(Attr::Key).map_err(|refused| refused.0)?;
+    let key = Part::Column(ColumnDef {
+        name: key,
+        kind: Kind::Int,
+        attrs,
+    });
+    let column = Part::Column(ColumnDef {
+        name: column,
+        kind: Kind::Text,
+        attrs: List::new(alloc),
+    });
+    let mut parts = List::new(alloc);
+    parts.push(key).map_err(|refused| refused.0)?;
+    parts.push(column).map_err(|refused| refused.0)?;
+    Ok(Statement::CreateTable(CreateTable {
+        name: table,
+        subject: true,
+        parts,
+    }))
+}
+
+/// `CREATE DATA_SUBJECT TABLE name ( name INT PRIMARY KEY , name TEXT )`, where the columns' names differ.
+#[tactic(auto, unfolding(own_model::specs::Grammar::create))]
+fn create(alloc: Global, text: &str) -> Result<(Statement, &str), ReadFault>
+    ensures { Gives (λ read. (read.0, tokens read.1.now)) result (grammar.create (tokens text.now)) }
+{
+    let rest = word(alloc, "create", text)?;
+    let rest = word(alloc, "data_subject", rest)?;
+    let rest = word(alloc, "table", rest)?;
+    let (table, rest) = name(alloc, rest)?;
+    let rest = mark(alloc, b'(', rest)?;
+    let (key, rest) = name(alloc, rest)?;
+    let rest = word(alloc, "int", rest)?;
+    let rest = word(alloc, "primary", rest)?;
+    let rest = word(alloc, "key", rest)?;
+    let rest = mark(alloc, b',', rest)?;
+    let (column, rest) = name(alloc, rest)?;
+    let rest = word(alloc, "text", rest)?;
+    let rest = mark(alloc, b')', rest)?;
+    if key == column {
+        return Err(ReadFault::Syntax);
+    }
+    Ok((create_of(alloc, table, key, column)?, rest))
+}
+
+/// The row of an INSERT, alone.
+fn insert_of(alloc: Global, table: Name, key: i64, column: Text) -> Result<Statement, AllocError>
+    ensures { IfOk result (λ made. made ≡ statement.Insert table None ((value.Int key ∷ value.Text column ∷ []) ∷ [])) }
+{
+    let mut row = List::new(alloc);
+    row.push(Value::Int(key)).map_err(|refused| refused.0)?;
+    row.push(Value::Text(column)).map_err(|refused| refused.0)?;
+    let mut rows = List::new(alloc);
+    rows.push(row).map_err(|refused| refused.0)?;
+    Ok(Statement::Insert {
+        table,
+        columns: None,
+        rows,
+    })
+}
+
+/// `INSERT INTO name VALUES ( int , text )`.
+#[tactic(auto, unfolding(own_model::specs::Grammar::insert))]
+fn insert(alloc: Global, text: &str) -> Result<(Statement, &str), ReadFault>
+    ensures { Gives (λ read. (read.0, tokens read.1.now)) result (grammar.insert (tokens text.now)) }
+{
+    let rest = word(alloc, "insert", text)?;
+    let rest = word(alloc, "into", rest)?;
+    let (table, rest) = name(alloc, rest)?;
+    let rest = word(alloc, "values", rest)?;
+    let rest = mark(alloc, b'(', rest)?;
+    let (key, rest) = int(alloc, rest)?;
+    let rest = mark(alloc, b',', rest)?;
+    let (column, rest) = self::text(alloc, rest)?;
+    let rest = mark(alloc, b')', rest)?;
+    Ok((insert_of(alloc, table, key, column)?, rest))
+}
+
+/// `SELECT * FROM name`.
+#[tactic(auto, unfolding(own_model::specs::Grammar::select))]
+fn select(alloc: Global, text: &str) -> Result<(Statement, &str), ReadFault>
+    ensures { Gives (λ read. (read.0, tokens read.1.now)) result (grammar.select (tokens text.now)) }
+{
+    let rest = word(alloc, "select", text)?;
+    let rest = mark(alloc, b'*', rest)?;
+    let rest = word(alloc, "from", rest)?;
+    let (from, rest) = name(alloc, rest)?;
+    let select = Select {
+        items: Items::Star,
+        from,
+        join: None,
+        cond: None,
+        group: None,
+        order: None,
+    };
+    Ok((Statement::Select(select), rest))
+}
+
+/// What was read, where nothing is behind it.
+fn whole(read: Result<(Statement, &str), ReadFault>) -> Result<Statement, ReadFault>
+    ensures { WholeOf read.entry result }
+{
+    let (statement, rest) = read?;
+    if !is_end(rest) {
+        return Err(ReadFault::Syntax);
+    }
+    Ok(statement)
+}
+
+/// The one statement that a text is.
+#[tactic(auto, unfolding(own_model::specs::Grammar::statement_of))]
+pub fn statement_of(alloc: Global, text: &str) -> Result<Statement, ReadFault>
+    ensures { Gives (λ statement. statement) result (grammar.statement_of (tokens text.now)) }
+{
+    let read = whole(create(alloc, text));
+    if let Err(ReadFault::Syntax) = read {
+        let read = whole(insert(alloc, text));
+        if let Err(ReadFault::Syntax) = read {
+            return whole(select(alloc, text));
+        }
+        return read;
+    }
+    read
+}

@@ -1,0 +1,183 @@
+ghost use Rattle.std.specs.Prelude.{◌≡◌, ◌≢◌, ◌≤◌, ◌↔◌, ◌⊎◌, [], map, Some, None, false, string_bytes, vec_len};
+ghost use Rattle.std.specs.Vec.{vec_capacity};
+ghost use Rattle.outer_world.specs.FaultCount.{CountRose};
+ghost use Rattle.own_model.specs.declared.script.InputFault.{InputFault as InputFaultSeen};
+ghost use Rattle.store_top.specs.Engine.{Stands};
+ghost use Rattle.store_top.specs.Status.{status_of};
+ghost use Rattle.store_top.specs.Steps.{IsNumbered};
+ghost use Rattle.store_top.specs.Top.{is_step, IsBeforeCalls, IsWithoutDisk, ReadsAtMost, RefusesInput, RunsInPart, RunsWhole, ServesBytes, ServesCalls};
+
+use crate::engine::Engine;
+use crate::script::read_script;
+use crate::served::{Served, TopFault, status};
+use crate::steps::{RunFault, serve_calls};
+use outer_world::{Disk, Gate, ReadAllFault, Sink, Source, read_all};
+use own_base::List;
+use own_model::{Entry, InputFault, ScriptCall};
+use std::alloc::{AllocError, Global};
+use std::mem::drop;
+use std::sync::Wait;
+use std::thread::Threads;
+
+/// One byte more than an input may have.
+const MOST_BYTES: usize = 67_108_865;
+
+/// How a run ended, without its disk.
+#[derive(Debug)]
+struct Ended {
+    fault: Option<TopFault>,
+    history: List<Entry>,
+}
+
+/// The end of a run in which no call was made.
+fn without_calls(alloc: Global, fault: TopFault) -> Ended
+    ensures fault { result.fault ≡ Some fault }
+    ensures history { result.history ≡ [] }
+{
+    Ended {
+        fault: Some(fault),
+        history: List::new(alloc),
+    }
+}
+
+/// Whether the words are a mode with its arguments.
+fn is_step(words: &[String]) -> bool
+    ensures { result ≡ is_step (map string_bytes words.now) }
+{
+    match words {
+        [word] => word.as_bytes() == b"step".as_slice(),
+        _ => false,
+    }
+}
+
+/// Serves calls over no table.
+fn serve_script<W: Sink>(alloc: Global, calls: Vec<ScriptCall>, sink: &mut W) -> Ended
+    requires { IsNumbered 1 calls.items }
+    ensures { ServesCalls calls.items result.history (W.written sink.old) (W.written sink.new) (CountRose (W.faults sink.old) (W.faults sink.new)) result.fault }
+{
+    match Engine::with_room(alloc, calls.len()) {
+        Ok(engine) => serve_engine(alloc, engine, calls, sink),
+        Err(AllocError) => {
+            drop(calls);
+            without_calls(alloc, TopFault::Memory)
+        }
+    }
+}
+
+/// Serves calls by an engine that has served none yet.
+fn serve_engine<W: Sink>(
+    alloc: Global,
+    engine: Engine,
+    calls: Vec<ScriptCall>,
+    sink: &mut W,
+) -> Ended
+    requires stands { Stands engine }
+    requires fresh { engine.history.items ≡ [] }
+    requires room { vec_len calls ≤ vec_capacity engine.history }
+    requires numbered { IsNumbered 1 calls.items }
+    ensures { ServesCalls calls.items result.history (W.written sink.old) (W.written sink.new) (CountRose (W.faults sink.old) (W.faults sink.new)) result.fault }
+{
+    let mut engine = engine;
+    let fault = match serve_calls(&mut engine, alloc, calls, sink) {
+        Ok(()) => None,
+        Err(RunFault::Write) => Some(TopFault::Write),
+        Err(RunFault::Memory) => Some(TopFault::Memory),
+    };
+    Ended {
+        fault,
+        history: engine.into_history(),
+    }
+}
+
+/// Serves the calls of an input.
+fn serve_bytes<W: Sink>(alloc: Global, bytes: &[u8], sink: &mut W) -> Ended
+    ensures { ServesBytes bytes.now result.history (W.written sink.old) (W.written sink.new) (CountRose (W.faults sink.old) (W.faults sink.new))
+        ((sink.new ≡ sink.old) × (result.history ≡ [])) result.fault }
+{
+    match read_script(alloc, bytes) {
+        Ok(script) => serve_script(alloc, script.calls.into_vec(), sink),
+        Err(InputFault::Memory) => without_calls(alloc, TopFault::Memory),
+        Err(fault) => without_calls(alloc, TopFault::Input(fault)),
+    }
+}
+
+/// Reads the input whole, and serves its calls.
+fn serve_source<R: Source, W: Sink>(alloc: Global, source: &mut R, sink: &mut W) -> Ended
+    ensures read_fault { result.fault ≡ Some TopFault.Read → CountRose (R.faults source.old) (R.faults source.new) }
+    ensures input_fault { (fault : InputFaultSeen) → result.fault ≡ Some (TopFault.Input fault)
+        → RefusesInput (R.remaining source.old) (R.remaining source.new) fault }
+    ensures write_fault { result.fault ≡ Some TopFault.Write → CountRose (W.faults sink.old) (W.faults sink.new) }
+    ensures whole { result.fault ≡ None
+        → RunsWhole (R.remaining source.old) (R.remaining source.new) (W.written sink.old) (W.written sink.new) result.history }
+    ensures in_part { result.fault ≡ Some TopFault.Write
+        → RunsInPart (R.remaining source.old) (R.remaining source.new) (W.written sink.old) (W.written sink.new) result.history }
+    ensures memory { result.fault ≡ Some TopFault.Memory
+        → ((sink.new ≡ sink.old) × (result.history ≡ []))
+            ⊎ RunsInPart (R.remaining source.old) (R.remaining source.new) (W.written sink.old) (W.written sink.new) result.history }
+    ensures silent { IsBeforeCalls result.fault → (sink.new ≡ sink.old) × (result.history ≡ []) }
+    ensures possible { IsWithoutDisk result.fault }
+    ensures lawful { result.fault ≢ Some TopFault.Usage }
+    ensures at_most { ReadsAtMost (R.remaining source.old) (R.remaining source.new) 67108865 }
+{
+    match read_all(alloc, source, MOST_BYTES) {
+        Ok(bytes) => serve_bytes(alloc, &bytes, sink),
+        Err(ReadAllFault::Failed) => without_calls(alloc, TopFault::Read),
+        Err(ReadAllFault::Memory) => without_calls(alloc, TopFault::Memory),
+    }
+}
+
+/// Reads an input of calls from the source, serves them, and writes their replies to the sink.
+///
+/// The words are those behind the store's name: `step` alone. The gate is asked nothing and the disk is given back as
+/// it was, until the modes and the journal that use them come. A source that tells nothing of its bytes, or a sink,
+/// has no clause on them.
+pub fn run<Rt: Threads + Wait + Sync, R: Source, W: Sink, D: Disk + Send, G: Gate + Sync>(
+    _rt: &Rt,
+    alloc: Global,
+    words: &[String],
+    source: &mut R,
+    sink: &mut W,
+    disk: D,
+    _gate: &G,
+) -> Served<D>
+    ensures status { result.status ≡ status_of result.fault }
+    ensures disk { result.disk ≡ disk }
+
+    // Usage comes exactly where the words are no mode with its arguments, and then nothing is read.
+    ensures usage { (result.fault ≡ Some TopFault.Usage) ↔ (is_step (map string_bytes words.now) ≡ false) }
+    ensures unread { result.fault ≡ Some TopFault.Usage → source.new ≡ source.old }
+
+    // A read fault comes only where the source's count rose, and a write fault only where the sink's did.
+    ensures read_fault { result.fault ≡ Some TopFault.Read → CountRose (R.faults source.old) (R.faults source.new) }
+    ensures write_fault { result.fault ≡ Some TopFault.Write → CountRose (W.faults sink.old) (W.faults sink.new) }
+
+    // An input fault is that of the bytes that were read; without a fault their calls were all made and told.
+    ensures input_fault { (fault : InputFaultSeen) → result.fault ≡ Some (TopFault.Input fault)
+        → RefusesInput (R.remaining source.old) (R.remaining source.new) fault }
+    ensures whole { result.fault ≡ None
+        → RunsWhole (R.remaining source.old) (R.remaining source.new) (W.written sink.old) (W.written sink.new) result.history }
+
+    // Where writing failed, or memory was refused, a front of the calls was made, and a front of their text is written.
+    ensures in_part { result.fault ≡ Some TopFault.Write
+        → RunsInPart (R.remaining source.old) (R.remaining source.new) (W.written sink.old) (W.written sink.new) result.history }
+    ensures memory { result.fault ≡ Some TopFault.Memory
+        → ((sink.new ≡ sink.old) × (result.history ≡ []))
+            ⊎ RunsInPart (R.remaining source.old) (R.remaining source.new) (W.written sink.old) (W.written sink.new) result.history }
+
+    // Any other fault comes before any call, and nothing is written; none tells of a disk.
+    ensures silent { IsBeforeCalls result.fault → (sink.new ≡ sink.old) × (result.history ≡ []) }
+    ensures possible { IsWithoutDisk result.fault }
+    ensures at_most { ReadsAtMost (R.remaining source.old) (R.remaining source.new) 67108865 }
+{
+    let Ended { fault, history } = if is_step(words) {
+        serve_source(alloc, source, sink)
+    } else {
+        without_calls(alloc, TopFault::Usage)
+    };
+    Served {
+        status: status(&fault),
+        fault,
+        history,
+        disk,
+    }
+}
