@@ -1,5 +1,5 @@
 -- Every history of few entries is Serial.
-use Rattle.std.proofs.Common.{◌≡◌, ℕ, zero, suc, ◌+◌, ◌*◌, ◌≤◌, List, [], ◌∷◌, ◌++◌, length, map, fold, take, Bool, true, false, refl, ap, sym, subst, arith}
+use Rattle.std.proofs.Common.{◌≡◌, ℕ, zero, suc, ◌+◌, ◌*◌, ◌≤◌, List, [], ◌∷◌, ◌++◌, length, map, fold, take, Bool, true, false, refl, ap, sym, subst, ◌∙◌, arith}
 use Rattle.std.specs.Prelude.{Option, Some, None, Result, Ok, Err, slice_get, slice_set, sum_by, nat_lt, ◌==◌, if◌then◌else◌}
 use Rattle.std.specs.List.{AllByRecursion, list_any}
 use Rattle.std.proofs.lemmas.Bool.{lt-leb}
@@ -22,6 +22,7 @@ use Rattle.own_model.specs.Db.{Db, Row, Table, empty, key_of, table_from}
 use Rattle.own_model.specs.Fault.{fault, row_count, weight}
 use Rattle.own_model.specs.History.{History, World, flat, happens, left_by, world}
 use Rattle.own_model.specs.Made.{Called, Want, Spared, Unshown, Unmade, added, after_call, entry_of, made}
+use Rattle.own_model.specs.Ran.{HasRun}
 use Rattle.own_model.specs.Readable.{HasReadable, IsReadable}
 use Rattle.own_model.specs.Run.{has_key, insert, put, run, with_row, with_tuple}
 use Rattle.own_model.specs.Script.{script}
@@ -225,3 +226,9 @@ serial-made bytes calls called reads rest is =
     let few = read.few in
     let short = history.few in
     serial-few (made empty called) (omega arith) history.readable
+
+-- the history of a run over the first calls of an input is Serial
+pub serial-ran : (bytes : List ℕ) (calls front rest : List ScriptCall) (history : History) (text : List ℕ) → script bytes ≡ Ok calls
+    → front ++ rest ≡ calls → HasRun empty front history text → Serial empty history
+serial-ran bytes calls front rest history text reads is ran =
+    subst (Serial empty) (sym ran.history_is) (serial-made bytes calls ran.called reads rest (ap (λ calls. calls ++ rest) ran.calls_are ∙ is))

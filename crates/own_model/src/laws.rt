@@ -36,7 +36,8 @@ pub fn keys_rise_in_each_table()
 {}
 
 /// A history of at most 200,001 entries that can be read passes no limit at any place, and each row that it leaves
-/// has its table's length and kinds: that is one entry for each call that an input may have, and one for the end.
+/// has its table's length and kinds. It runs over the empty database; it has one entry for each call that an input may
+/// have, and one for the end.
 pub fn short_readable_history_is_serial()
     ensures { (history : History) → length history ≤ 200001 → AllByRecursion HasReadable history → Serial empty history }
 {}
