@@ -35,9 +35,9 @@ pub fn keys_rise_in_each_table()
     ensures { (base : Db) (history : History) → IsOrdered base → IsOrdered (flat base history) }
 {}
 
-/// A history of at most 200,001 entries that can be read passes no limit at any place, and each row that it leaves
-/// has its table's length and kinds. It runs over the empty database; it has one entry for each call that an input may
-/// have, and one for the end.
+/// Over the empty database a history of at most 200,001 entries that can be read, one for each call that an input may
+/// have and one for the end, passes no limit at any place; keys rise there, and rows have their tables' lengths and
+/// kinds.
 pub fn short_readable_history_is_serial()
     ensures { (history : History) → length history ≤ 200001 → AllByRecursion HasReadable history → Serial empty history }
 {}
