@@ -4,11 +4,16 @@ pub use Rattle.own_base.specs.Row
 pub mod Built
 pub mod Create
 pub mod Db
+pub mod Fault
 pub mod Grammar
 pub mod History
 pub mod Made
+pub mod Named
 pub mod Printed
 pub mod Ran
+pub mod Readable
 pub mod Run
 pub mod Script
+pub mod Serial
+pub mod Sound
 pub mod Token

@@ -8,6 +8,7 @@ mod condition;
 mod create;
 mod expression;
 mod history;
+pub mod laws;
 mod limit;
 mod refusal;
 mod reply;
@@ -16,6 +17,8 @@ mod schema;
 mod script;
 mod select;
 mod statement;
+#[cfg(test)]
+mod tests;
 
 pub use bound::{Bound, BoundCond, BoundExpr, BoundItem, BoundOperand, BoundSelect, Source1};
 pub use condition::{Cmp, Cond, Operand};
