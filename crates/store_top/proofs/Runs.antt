@@ -1,5 +1,5 @@
 -- From the calls of an input to a run.
-use Rattle.std.proofs.Common.{◌≡◌, ℕ, ◌+◌, ◌≤◌, length, arith, List, [], ◌∷◌, Bool, true, false, refl, sym, subst, ◌∙◌, inl, inr, ltb-false}
+use Rattle.std.proofs.Common.{◌≡◌, ℕ, ◌+◌, ◌≤◌, length, arith, List, [], ◌∷◌, Bool, true, false, refl, sym, subst, ◌∙◌, inl, inr, ltb-false, append-nil}
 use Rattle.std.specs.Prelude.{Option, None, Some, Result, Ok, Err, ◌≢◌, ◌⊎◌, ◌==◌, not, nat_lt, if◌then◌else◌}
 use Rattle.std.specs.Io.KnownBytes.{Consumes, IsAtEnd}
 use Rattle.std.specs.Str.Lossy.{utf8_valid_len}
@@ -10,7 +10,9 @@ use Rattle.own_model.specs.declared.script.ScriptCall.{ScriptCall}
 use Rattle.own_model.specs.Db.{empty}
 use Rattle.own_model.specs.History.{History}
 use Rattle.own_model.specs.Script.{call_texts, numbered, requests_of, script}
+use Rattle.own_model.specs.Serial.{Serial}
 use Rattle.own_model.proofs.Printing.{has_run-none}
+use Rattle.own_model.proofs.Serials.{serial-few, serial-ran}
 use Rattle.store_top.specs.declared.served.TopFault.{TopFault}
 use Rattle.store_top.specs.declared.served.TopFault.TheVariants.{Usage, Read, Write, Disk, Damaged, Input, Memory}
 use Rattle.store_top.specs.Steps.{IsNumbered, RunsFront}
@@ -107,3 +109,25 @@ module _ (remaining_old remaining_new written_old written_new : Option (List ℕ
             let is_long : why ≡ input.TooLong = cc in other is_long));
         script_is = by.0;
       }
+
+-- the empty history is Serial
+pub serial-none : (history : History) → history ≡ [] → Serial empty history
+serial-none history is = subst (Serial empty) (sym is) (serial-few [] (omega arith) tt)
+
+serial_front : (bytes : List ℕ) (calls : List ScriptCall) (history : History) (old new : Option (List ℕ)) → script bytes ≡ Ok calls
+    → RunsFront calls history old new → Serial empty history
+serial_front bytes calls history old new is runs = serial-ran bytes calls runs.done runs.rest history runs.text is (sym runs.parts) runs.run
+
+-- the history that serving the bytes of an input made is Serial
+pub serial-bytes : (bytes : List ℕ) (history : History) (old new : Option (List ℕ)) (rose silent : Type 0) → (silent → history ≡ []) → (fault : Option TopFault)
+    → ServesBytes bytes history old new rose silent fault → Serial empty history
+serial-bytes bytes history old new rose silent none None serves =
+    serial-ran bytes serves.0 serves.0 [] history serves.2.text serves.1 (append-nil serves.0) serves.2.run
+serial-bytes bytes history old new rose silent none (Some Write) serves = serial_front bytes serves.0 history old new serves.1 serves.3
+serial-bytes bytes history old new rose silent none (Some Memory) (inl nothing) = serial-none history (none nothing)
+serial-bytes bytes history old new rose silent none (Some Memory) (inr some) = serial_front bytes some.0 history old new some.1 some.2
+serial-bytes bytes history old new rose silent none (Some (Input why)) serves = serial-none history (none serves.2)
+serial-bytes bytes history old new rose silent none (Some Usage) serves = absurd serves
+serial-bytes bytes history old new rose silent none (Some Read) serves = absurd serves
+serial-bytes bytes history old new rose silent none (Some Disk) serves = absurd serves
+serial-bytes bytes history old new rose silent none (Some (Damaged area offset)) serves = absurd serves

@@ -2,6 +2,8 @@ ghost use Rattle.std.specs.Prelude.{◌≡◌, ◌≢◌, ◌≤◌, ◌↔◌, 
 ghost use Rattle.std.specs.Vec.{vec_capacity};
 ghost use Rattle.outer_world.specs.FaultCount.{CountRose};
 ghost use Rattle.own_model.specs.declared.script.InputFault.{InputFault as InputFaultSeen};
+ghost use Rattle.own_model.specs.Db.{empty};
+ghost use Rattle.own_model.specs.Serial.{Serial};
 ghost use Rattle.store_top.specs.Engine.{Stands};
 ghost use Rattle.store_top.specs.Status.{status_of};
 ghost use Rattle.store_top.specs.Steps.{IsNumbered};
@@ -118,6 +120,7 @@ fn serve_source<R: Source, W: Sink>(alloc: Global, source: &mut R, sink: &mut W)
     ensures possible { IsWithoutDisk result.fault }
     ensures lawful { result.fault ≢ Some TopFault.Usage }
     ensures at_most { ReadsAtMost (R.remaining source.old) (R.remaining source.new) 67108865 }
+    ensures serial { Serial empty result.history }
 {
     match read_all(alloc, source, MOST_BYTES) {
         Ok(bytes) => serve_bytes(alloc, &bytes, sink),
@@ -168,6 +171,9 @@ pub fn run<Rt: Threads + Wait + Sync, R: Source, W: Sink, D: Disk + Send, G: Gat
     ensures silent { IsBeforeCalls result.fault → (sink.new ≡ sink.old) × (result.history ≡ []) }
     ensures possible { IsWithoutDisk result.fault }
     ensures at_most { ReadsAtMost (R.remaining source.old) (R.remaining source.new) 67108865 }
+
+    // The history has one order, and leaves no bad state at any of its places.
+    ensures serial { Serial empty result.history }
 {
     let Ended { fault, history } = if is_step(words) {
         serve_source(alloc, source, sink)

@@ -1,5 +1,5 @@
 use Rattle.std.proofs.Common.{◌≤◌, arith, length}
-use Rattle.store_top.proofs.Runs.{run_whole, run_in_part, run_out_of_memory, refuses_input}
+use Rattle.store_top.proofs.Runs.{run_whole, run_in_part, run_out_of_memory, refuses_input, serial-bytes, serial-none}
 use Rattle.store_top.proofs.running.serve_source.Goals as goal
 
 pub returns-in-Ok-clause-whole : goal.returns-in-Ok-clause-whole
@@ -33,3 +33,8 @@ returns-in-Ok-clause-input_fault g c =
     refuses_input (g.R.Source.remaining c.args.source.now) (g.R.Source.remaining c.read_all.new.source) (g.W.Sink.written c.args.sink.now)
     (g.W.Sink.written c.serve_bytes.new.sink) bytes c.serve_bytes.result.history _ _ c.serve_bytes.result.fault c.serve_bytes.ensures read
     (λ short. c.in-Ok.ensures.end (omega (arith, c.deref.ensures.len)))
+
+pub returns-in-Ok-clause-serial : goal.returns-in-Ok-clause-serial
+returns-in-Ok-clause-serial g c =
+    serial-bytes c.deref.result.now c.serve_bytes.result.history (g.W.Sink.written c.args.sink.now) (g.W.Sink.written c.serve_bytes.new.sink) _ _
+      (λ silent. silent.1) c.serve_bytes.result.fault c.serve_bytes.ensures
