@@ -35,6 +35,7 @@ struct Ended {
 fn without_calls(alloc: Global, fault: TopFault) -> Ended
     ensures fault { result.fault ≡ Some fault }
     ensures history { result.history ≡ [] }
+    ensures serial { Serial empty result.history }
 {
     Ended {
         fault: Some(fault),
