@@ -14,13 +14,11 @@ comment_at_front bytes rest len dashes same line_of ends_of =
     let line = subst (λ l. All (λ byte. byte ≢ 10) (take len l)) same line_of in
     let ends = subst (λ l. EndsLine (drop len l)) same ends_of in
     let behind : drop len (drop 2 bytes) ≡ drop (2 + len) bytes = drop-drop len 2 bytes in
-    let split : bytes ≡ 45 ∷ 45 ∷ drop 2 bytes = (starts_is Decides-eqb bytes (45 ∷ 45 ∷ []) _ refl).0 dashes in
-    (
+    let split : bytes ≡ 45 ∷ 45 ∷ drop 2 bytes = (starts_is Decides-eqb bytes (45 ∷ 45 ∷ []) _ refl).0 dashes in (
       Comment (take len (drop 2 bytes)),
       split ∙ ap (λ l. 45 ∷ 45 ∷ l) (sym (take-append-drop len (drop 2 bytes)) ∙ ap (λ l. take len (drop 2 bytes) ++ l) behind),
       (line, subst EndsLine behind ends),
     )
-
 
 -- what `&xs[n..]` holds
 pub range_from_is : (n : ℕ) (xs : List ℕ) → take (length xs - n) (drop n xs) ≡ drop n xs
@@ -43,8 +41,7 @@ FillsTo bytes at = (fillers : List Filler) × Fills fillers bytes (drop at bytes
 
 pub FillsTo-more : (bytes : List ℕ) (at step : ℕ) → FillsTo bytes at → FrontFiller (drop at bytes) step → FillsTo bytes (at + step)
 FillsTo-more bytes at step before front =
-    let behind : drop step (drop at bytes) ≡ drop (at + step) bytes = drop-drop step at bytes in
-    (
+    let behind : drop step (drop at bytes) ≡ drop (at + step) bytes = drop-drop step at bytes in (
       before.0 ++ front.0 ∷ [],
       Fills-push before.0 front.0 bytes (drop at bytes) (drop (at + step) bytes) before.1 (front.1 ∙ ap (λ l. bytes_of front.0 ++ l) behind) (subst (IsFiller front.0) behind front.2),
     )

@@ -55,17 +55,17 @@ scans-front kind bytes token after split some spelled whole first last =
     let front = take-append_seam token after in
     let back = drop-append_seam token after in
     subst (λ b. Scans b kind (length token)) (sym split)
-      (record {
-        some = some;
-        within = omega (arith, length-append token after);
-        begins = record {
-          split = sym (take-append-drop (length token) (token ++ after));
-          spelled = subst (IsSpelled kind) (sym front) spelled;
-          whole = (λ i. first_passes (goes_on kind (front i)) (back i)) ∙ whole;
-        };
-        first = subst (λ b. b < 128) (sym (get_or_append_left token after 0 0 some)) first;
-        last = subst (λ b. b < 128) (sym (get_or_append_left token after 0 (length token - 1) (omega arith))) last;
-      })
+    (record {
+      some = some;
+      within = omega (arith, length-append token after);
+      begins = record {
+        split = sym (take-append-drop (length token) (token ++ after));
+        spelled = subst (IsSpelled kind) (sym front) spelled;
+        whole = (λ i. first_passes (goes_on kind (front i)) (back i)) ∙ whole;
+      };
+      first = subst (λ b. b < 128) (sym (get_or_append_left token after 0 0 some)) first;
+      last = subst (λ b. b < 128) (sym (get_or_append_left token after 0 (length token - 1) (omega arith))) last;
+    })
 
 -- the last byte of a text in quotes is a quote
 quoted-last : (value : List ℕ) → get_or (quoted value) (length (quoted value) - 1) 0 ≡ 39
@@ -78,15 +78,14 @@ pub quoted-scans : (bytes rest : List ℕ) (len : ℕ) → 0 < length bytes → 
 quoted-scans [] rest len some quote behind closes = absurd (omega arith)
 quoted-scans (byte ∷ bytes) rest len some quote behind closes =
     subst (Scans (byte ∷ bytes) Quoted) (omega (arith, closes.ends, length-append (doubled closes.value) (39 ∷ [])))
-      (scans-front Quoted (byte ∷ bytes) (quoted closes.value) closes.after
-        (λ i. quote i ∷ (sym behind ∙ closes.split ∙ sym (append_assoc (doubled closes.value) (39 ∷ []) closes.after)) i)
-        (omega arith) (closes.value, refl) closes.whole (omega arith) (subst (λ b. b < 128) (sym (quoted-last closes.value)) (omega arith)))
+    (scans-front Quoted (byte ∷ bytes) (quoted closes.value) closes.after
+    (λ i. quote i ∷ (sym behind ∙ closes.split ∙ sym (append_assoc (doubled closes.value) (39 ∷ []) closes.after)) i)
+    (omega arith) (closes.value, refl) closes.whole (omega arith) (subst (λ b. b < 128) (sym (quoted-last closes.value)) (omega arith)))
 
 -- a text in quotes at the front is closed behind its first quote
 pub quoted-closes : (bytes rest token after : List ℕ) → rest ≡ drop 1 bytes → Begins Quoted bytes token after → (len : ℕ) × Closes rest len
 quoted-closes bytes rest token after behind begins =
-    let value = begins.spelled.0 in
-    (
+    let value = begins.spelled.0 in (
       length (doubled value) + 1,
       record {
         value = value;

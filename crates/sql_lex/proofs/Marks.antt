@@ -28,10 +28,10 @@ passes_among test (mark ∷ all) bytes each among =
     let parts = both (test mark) (list_all test all) each in
     let others = λ (h : list_any (λ mark. bytes_eq mark bytes) all ≡ true). passes_among test all bytes parts.1 h in
     by_first (bytes_eq mark bytes) refl others
-      where
-        by_first : (b : Bool) → bytes_eq mark bytes ≡ b → (list_any (λ mark. bytes_eq mark bytes) all ≡ true → test bytes ≡ true) → test bytes ≡ true
-        by_first true same others = ap test (sym ((bytes_eq-Decides mark bytes).0 same)) ∙ (both (test mark) (list_all test all) each).0
-        by_first false other others = others (sym (ap (λ b. b || list_any (λ mark. bytes_eq mark bytes) all) other) ∙ among)
+  where
+    by_first : (b : Bool) → bytes_eq mark bytes ≡ b → (list_any (λ mark. bytes_eq mark bytes) all ≡ true → test bytes ≡ true) → test bytes ≡ true
+    by_first true same others = ap test (sym ((bytes_eq-Decides mark bytes).0 same)) ∙ (both (test mark) (list_all test all) each).0
+    by_first false other others = others (sym (ap (λ b. b || list_any (λ mark. bytes_eq mark bytes) all) other) ∙ among)
 
 -- one or two bytes of ASCII, of which the first begins no other kind of token
 abbrev is_short : List ℕ → Bool
@@ -78,10 +78,10 @@ two-scans (a ∷ b ∷ rest) long mark =
       first = ascii a (both _ _ (mark-ascii (a ∷ b ∷ []) mark)).0;
       last = ascii b (both _ _ (both _ _ (mark-ascii (a ∷ b ∷ []) mark)).1).0;
     }
-      where
-        stops : (rest : List ℕ) → first_passes (goes_on Mark (a ∷ b ∷ [])) rest ≡ false
-        stops [] = refl
-        stops (c ∷ rest) = long-no_mark a b c
+  where
+    stops : (rest : List ℕ) → first_passes (goes_on Mark (a ∷ b ∷ [])) rest ≡ false
+    stops [] = refl
+    stops (c ∷ rest) = long-no_mark a b c
 
 -- one byte at the front is a mark, and two aren't
 pub one-scans : (bytes : List ℕ) → 1 ≤ length bytes → (2 ≤ length bytes → is_mark (take 2 bytes) ≡ false) → is_mark (take 1 bytes) ≡ true → Scans bytes Mark 1
@@ -94,10 +94,10 @@ one-scans (a ∷ rest) long single mark =
       first = ascii a (both _ _ (mark-ascii (a ∷ []) mark)).0;
       last = ascii a (both _ _ (mark-ascii (a ∷ []) mark)).0;
     }
-      where
-        stops : (rest : List ℕ) → (2 ≤ length (a ∷ rest) → is_mark (take 2 (a ∷ rest)) ≡ false) → first_passes (goes_on Mark (a ∷ [])) rest ≡ false
-        stops [] single = refl
-        stops (b ∷ rest) single = single (omega arith)
+  where
+    stops : (rest : List ℕ) → (2 ≤ length (a ∷ rest) → is_mark (take 2 (a ∷ rest)) ≡ false) → first_passes (goes_on Mark (a ∷ [])) rest ≡ false
+    stops [] single = refl
+    stops (b ∷ rest) single = single (omega arith)
 
 -- neither two bytes at the front are a mark, nor is one
 pub no-mark : (bytes token after : List ℕ) → (2 ≤ length bytes → is_mark (take 2 bytes) ≡ false) → (1 ≤ length bytes → is_mark (take 1 bytes) ≡ false) → Begins Mark bytes token after → ⊥

@@ -22,14 +22,17 @@ IsNext-found lexing token before rest skipped len before_is within skips start_i
       slice = slice;
       begins = subst (λ l. Begins token.kind l token.text.now (drop token.end lexing.text)) rest_is
           (subst (λ l. Begins token.kind rest token.text.now l) after
-            (subst (λ l. Begins token.kind rest l (drop len rest)) text scans.begins));
+          (subst (λ l. Begins token.kind rest l (drop len rest)) text scans.begins));
     }
-      where
-        behind : drop skipped before ≡ drop token.start lexing.text
-        behind = ap (drop skipped) before_is ∙ drop-drop skipped lexing.at lexing.text ∙ ap (λ n. drop n lexing.text) (sym start_is)
-        after : drop len rest ≡ drop token.end lexing.text
-        after = ap (drop len) rest_is ∙ drop-drop len token.start lexing.text ∙ ap (λ n. drop n lexing.text) (sym end_is)
-        long : token.end - token.start ≡ len
-        long = omega arith
-        text : take len rest ≡ token.text.now
-        text = (λ i. take (sym long i) (rest_is i)) ∙ sym slice
+  where
+    behind : drop skipped before ≡ drop token.start lexing.text
+    behind = ap (drop skipped) before_is ∙ drop-drop skipped lexing.at lexing.text ∙ ap (λ n. drop n lexing.text) (sym start_is)
+
+    after : drop len rest ≡ drop token.end lexing.text
+    after = ap (drop len) rest_is ∙ drop-drop len token.start lexing.text ∙ ap (λ n. drop n lexing.text) (sym end_is)
+
+    long : token.end - token.start ≡ len
+    long = omega arith
+
+    text : take len rest ≡ token.text.now
+    text = (λ i. take (sym long i) (rest_is i)) ∙ sym slice

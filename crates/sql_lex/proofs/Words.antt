@@ -29,17 +29,17 @@ list_all-each test (byte ∷ bytes) each =
 pub run-passes : (test : ℕ → Bool) (bytes : List ℕ) (len : ℕ) → IsRun test bytes len → list_all test (take len bytes) ≡ true
 run-passes test bytes len run =
     list_all-each test (take len bytes) (λ k within.
-        let below : k < len = omega (arith, length-take-le len bytes run.within) in
-        ap test (get_or-take len bytes k 0 below) ∙ run.each k below)
+    let below : k < len = omega (arith, length-take-le len bytes run.within) in
+    ap test (get_or-take len bytes k 0 below) ∙ run.each k below)
 
 -- what follows a run doesn't begin with a byte that passes
 pub run-stops : (test : ℕ → Bool) (bytes : List ℕ) (len : ℕ) → IsRun test bytes len → first_passes test (drop len bytes) ≡ false
 run-stops test bytes len run =
     first_passes-get test (drop len bytes) (λ some. ap test (get_or-drop len bytes 0 0 ∙ ap (λ n. get_or bytes n 0) (add-zero len)) ∙ run.ends (omega (arith, length-drop len bytes)))
-      where
-        first_passes-get : (test : ℕ → Bool) (bytes : List ℕ) → (0 < length bytes → test (get_or bytes 0 0) ≡ false) → first_passes test bytes ≡ false
-        first_passes-get test [] fails = refl
-        first_passes-get test (byte ∷ bytes) fails = fails (omega arith)
+  where
+    first_passes-get : (test : ℕ → Bool) (bytes : List ℕ) → (0 < length bytes → test (get_or bytes 0 0) ≡ false) → first_passes test bytes ≡ false
+    first_passes-get test [] fails = refl
+    first_passes-get test (byte ∷ bytes) fails = fails (omega arith)
 
 -- a byte of a word is ASCII
 word_byte-ascii : (byte : ℕ) → continues_word byte ≡ true → byte < 128
@@ -96,19 +96,19 @@ pub keyword-scans : (bytes : List ℕ) (len : ℕ) → IsRun continues_word byte
 keyword-scans bytes len run begins keyword =
     let some = run-some _ bytes len run (begins_first bytes begins) in
     run-scans Keyword continues_word bytes len run some word_byte-ascii
-      (search (word-spelled bytes len begins some (run-passes _ bytes len run)), search keyword)
-      (run-stops _ bytes len run)
+    (search (word-spelled bytes len begins some (run-passes _ bytes len run)), search keyword)
+    (run-stops _ bytes len run)
 
 pub name-scans : (bytes : List ℕ) (len : ℕ) → IsRun continues_word bytes len → first_passes begins_word bytes ≡ true → is_keyword (take len bytes) ≡ false → Scans bytes Name len
 name-scans bytes len run begins keyword =
     let some = run-some _ bytes len run (begins_first bytes begins) in
     run-scans Name continues_word bytes len run some word_byte-ascii
-      (search (word-spelled bytes len begins some (run-passes _ bytes len run)), keyword)
-      (run-stops _ bytes len run)
+    (search (word-spelled bytes len begins some (run-passes _ bytes len run)), keyword)
+    (run-stops _ bytes len run)
 
 pub number-scans : (bytes : List ℕ) (len : ℕ) → IsRun is_ascii_digit bytes len → first_passes is_ascii_digit bytes ≡ true → Scans bytes Number len
 number-scans bytes len run begins =
     let some = run-some _ bytes len run begins in
     run-scans Number is_ascii_digit bytes len run some digit-ascii
-      (search (number-spelled bytes len begins some (run-passes _ bytes len run)))
-      (run-stops _ bytes len run)
+    (search (number-spelled bytes len begins some (run-passes _ bytes len run)))
+    (run-stops _ bytes len run)

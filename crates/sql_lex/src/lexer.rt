@@ -1,5 +1,5 @@
-ghost use Rattle.std.specs.Prelude.{◌≡◌, ◌+◌, ◌-◌, ◌<◌, ◌≤◌, ◌^◌, length, slice_index, slice_range, OnErr, IfOk, IfErr, MatchOption};
-ghost use Rattle.sql_lex.specs.Lexing.{IsNext, IsAtEnd, IsFault};
+ghost use Rattle.std.specs.Prelude.{◌≡◌, ◌+◌, ◌-◌, ◌<◌, ◌≤◌, ◌^◌, length, slice_index, slice_range, Option, Result, OnErr, IfOk, MatchOption};
+ghost use Rattle.sql_lex.specs.Lexing.{Answers, SameAnswer};
 
 use crate::filler::skip;
 use crate::scan::scan;
@@ -39,10 +39,7 @@ fn slice(text: &str, start: usize, end: usize) -> &str
 fn token_at(text: &str, at: usize) -> Result<Option<Token<'_>>, SyntaxAt>
     requires within { at ≤ length text.now }
     requires short { length text.now < 2 ^ 32 }
-    ensures found { IfOk result (λ found. MatchOption found
-        (IsAtEnd (record { text = text.now; at = at }))
-        (λ token. IsNext (record { text = text.now; at = at }) token)) }
-    ensures fault { IfErr result (λ fault. IsFault (record { text = text.now; at = at }) fault.0) }
+    ensures { Answers (record { text = text.now; at = at }) result }
 {
     let bytes = text.as_bytes();
     let start = at + skip(&bytes[at..]);
@@ -72,19 +69,17 @@ impl<'a> Lexer<'a> {
     /// The next token, behind white space and comments, or `None` at the end. The error is the byte at which no
     /// token begins, or the quote of a text that isn't closed. Takes no memory.
     pub fn next(&mut self) -> Result<Option<Token<'a>>, SyntaxAt>
+        ensures answer { Answers self.old result }
+        // No other answer would be right: each comes exactly where what it says holds.
+        ensures only { (other : Result (Option Token) SyntaxAt) → Answers self.old other → SameAnswer result other }
         // Only a token moves the lexer, which then stands where the token ends.
-        ensures found { IfOk result (λ found. MatchOption found
-            (IsAtEnd self.old × (self.new ≡ self.old))
-            (λ token. IsNext self.old token × (self.new ≡ record self.old { at = token.end }))) }
-        ensures fault { IfErr result (λ fault. IsFault self.old fault.0) }
+        ensures moved { IfOk result (λ found. MatchOption found (self.new ≡ self.old) (λ token. self.new ≡ record self.old { at = token.end })) }
         ensures unchanged { OnErr result (self.new ≡ self.old) }
     {
-        match token_at(self.text, self.at) {
-            Ok(Some(token)) => {
-                self.at = token.end as usize;
-                Ok(Some(token))
-            }
-            other => other,
+        let answer = token_at(self.text, self.at);
+        if let Ok(Some(token)) = &answer {
+            self.at = token.end as usize;
         }
+        answer
     }
 }

@@ -11,3 +11,6 @@ mod token;
 
 pub use lexer::Lexer;
 pub use token::{SyntaxAt, Token, TokenKind};
+
+#[cfg(test)]
+mod tests;

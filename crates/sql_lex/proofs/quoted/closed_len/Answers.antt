@@ -14,11 +14,11 @@ loop-at-preserved c =
 pub returns-else-at-bytes-clause-found : goal.returns-else-at-bytes-clause-found
 returns-else-at-bytes-clause-found c =
     Closes-at c.args.bytes.now c.loop-at.at c.loop-at-test.true c.if-bytes-at-ne-QUOTE.false
-      (λ more. elim c.else-at-bytes.branch [
-          else-at-bytes-via-then-at-bytes+else-bytes-at-eq-QUOTE w ↦ w.if-bytes-at-eq-QUOTE.false
-        | else-at-bytes-via-else-at-bytes w ↦ absurd (omega arith)
-        ])
-      c.loop-at.invariant.doubled
+    (λ more. elim c.else-at-bytes.branch [
+      | else-at-bytes-via-then-at-bytes+else-bytes-at-eq-QUOTE w ↦ w.if-bytes-at-eq-QUOTE.false
+      | else-at-bytes-via-else-at-bytes w ↦ absurd (omega arith)
+    ])
+    c.loop-at.invariant.doubled
 
 pub returns-clause-none : goal.returns-clause-none
 returns-clause-none c = λ len closed. not_closed c.args.bytes.now c.loop-at.at len c.loop-at-test.false c.loop-at.invariant.doubled closed
