@@ -1,0 +1,13 @@
+pub use Rattle.own_base.specs.Key
+pub use Rattle.own_base.specs.Name
+pub use Rattle.own_base.specs.Row
+pub mod Built
+pub mod Create
+pub mod Db
+pub mod Grammar
+pub mod History
+pub mod Made
+pub mod Printed
+pub mod Run
+pub mod Script
+pub mod Token

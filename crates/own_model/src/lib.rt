@@ -1,0 +1,32 @@
+//! What the store speaks of: statements and requests as they are read, the schema that they make, what a name in
+//! them is bound to, histories, replies and refusals. The definitions by which contracts say what is true of them
+//! stand in `specs/`.
+#![tactic(auto)]
+
+mod bound;
+mod condition;
+mod create;
+mod expression;
+mod history;
+mod limit;
+mod refusal;
+mod reply;
+mod request;
+mod schema;
+mod script;
+mod select;
+mod statement;
+
+pub use bound::{Bound, BoundCond, BoundExpr, BoundItem, BoundOperand, BoundSelect, Source1};
+pub use condition::{Cmp, Cond, Operand};
+pub use create::{Attr, ColumnDef, CreateTable, CreateView, Part, RefDef};
+pub use expression::Expr;
+pub use history::{Entry, Verdict};
+pub use limit::LimitName;
+pub use refusal::Refusal;
+pub use reply::{Cell, GotRow, Reply, SessionReplies};
+pub use request::Request;
+pub use schema::{Column, CreateText, Edge, Kind, RefKind, Schema, TableDef, ViewDef};
+pub use script::{InputFault, Script, ScriptCall, SessionCalls};
+pub use select::{ColRef, Item, Items, Join, Order, Select, What};
+pub use statement::Statement;
