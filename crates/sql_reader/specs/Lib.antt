@@ -1,0 +1,3 @@
+pub mod Token
+pub mod Reading
+pub mod Rules
