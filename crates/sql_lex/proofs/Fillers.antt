@@ -1,12 +1,12 @@
 -- White space and comments, one after another.
-use Rattle.std.proofs.Common.{◌≡◌, ◌≢◌, ◌<◌, ◌≤◌, ◌+◌, ◌-◌, ℕ, Bool, true, false, List, [], ◌∷◌, ◌++◌, length, get_or, take, drop, All, refl, sym, ap, ◌∙◌, subst, arith, append_assoc}
+use Rattle.std.proofs.Common.{◌≡◌, ◌≢◌, ◌<◌, ◌+◌, ◌-◌, ℕ, true, List, [], ◌∷◌, ◌++◌, length, get_or, take, drop, All, refl, sym, ap, ◌∙◌, subst, arith}
 use Rattle.std.specs.List.{starts_with}
 use Rattle.std.specs.Prelude.{nat_eq}
 use Rattle.std.proofs.lemmas.List.{drop-drop, take-append-drop, take_all, length-drop}
 use Rattle.std.proofs.lemmas.Slice.Eq.{starts_is}
 use Rattle.std.proofs.lemmas.Bool.Decides.{Decides-eqb}
 use Rattle.sql_lex.specs.Bytes.{is_space}
-use Rattle.sql_lex.specs.Filler.{Filler, Space, Comment, bytes_of, IsFiller, Fills, EndsLine, FrontFiller, begins_filler}
+use Rattle.sql_lex.specs.Filler.{Filler, Space, Comment, bytes_of, IsFiller, Fills, EndsLine, FrontFiller}
 
 -- two dashes, and so many bytes of their line, are a comment
 pub comment_at_front : (bytes rest : List ℕ) (len : ℕ) → starts_with nat_eq bytes (45 ∷ 45 ∷ []) ≡ true → rest ≡ drop 2 bytes → All (λ byte. byte ≢ 10) (take len rest) → EndsLine (drop len rest) → FrontFiller bytes (2 + len)

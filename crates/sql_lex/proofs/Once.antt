@@ -1,5 +1,5 @@
 -- What comes next in a text is one thing.
-use Rattle.std.proofs.Common.{◌≡◌, ◌≢◌, ◌<◌, ◌≤◌, ◌+◌, ◌-◌, ℕ, Bool, true, false, List, [], ◌∷◌, ◌++◌, length, get_or, take, drop, All, refl, sym, ap, ◌∙◌, subst, arith, zero, suc, append_assoc}
+use Rattle.std.proofs.Common.{◌≡◌, ◌≢◌, ℕ, Bool, true, false, List, [], ◌∷◌, ◌++◌, length, drop, All, refl, sym, ap, ◌∙◌, subst, arith, suc, append_assoc}
 use Rattle.std.specs.Prelude.{◌==◌, ◌||◌, ◌&&◌, nat_eq, not, IsTrue, Option, Some, None, Result, Ok, Err}
 use Rattle.std.specs.Char.{is_ascii_digit}
 use Rattle.std.specs.List.{list_all, starts_with}
@@ -13,7 +13,7 @@ use Rattle.sql_lex.specs.declared.token.Token.{Token}
 use Rattle.sql_lex.specs.Lexing.{Lexing, Stands, IsNext, IsAtEnd, IsFault, Answers, IsSameToken, SameAnswer}
 use Rattle.sql_lex.specs.Filler.{Filler, Space, Comment, bytes_of, IsFiller, Fills, EndsLine, begins_filler, Skips}
 use Rattle.sql_lex.specs.Keywords.{is_keyword}
-use Rattle.sql_lex.specs.Tokens.{doubled, quoted, is_word, is_number, is_mark, IsSpelled, goes_on, Begins}
+use Rattle.sql_lex.specs.Tokens.{doubled, quoted, is_word, is_number, is_mark, goes_on, Begins}
 use Rattle.sql_lex.proofs.Marks.{both, begins_no_other, mark-length}
 use Rattle.sql_lex.proofs.Quotes.{closed_once}
 use Rattle.sql_lex.proofs.FirstByte.{begins_kind, begins-first}

@@ -1,7 +1,7 @@
 -- Runs of bytes that pass a test: words and numbers.
-use Rattle.std.proofs.Common.{◌≡◌, ◌≢◌, ◌<◌, ◌≤◌, ◌+◌, ◌-◌, ℕ, Bool, true, false, List, [], ◌∷◌, ◌++◌, length, get_or, take, drop, refl, sym, ap, ◌∙◌, subst, arith, zero, suc, add-zero}
-use Rattle.std.specs.Prelude.{◌==◌, ◌||◌, ◌&&◌, IsTrue}
-use Rattle.std.specs.Char.{is_ascii_digit, is_ascii_alphabetic, is_ascii_alphanumeric}
+use Rattle.std.proofs.Common.{◌≡◌, ◌<◌, ◌≤◌, ◌-◌, ℕ, Bool, true, false, List, [], ◌∷◌, length, get_or, take, drop, refl, sym, ap, ◌∙◌, arith, zero, suc, add-zero}
+use Rattle.std.specs.Prelude.{◌&&◌}
+use Rattle.std.specs.Char.{is_ascii_digit}
 use Rattle.std.specs.List.{list_all}
 use Rattle.std.proofs.lemmas.Bool.{false≢true}
 use Rattle.std.proofs.lemmas.List.{take-append-drop, length-take-le, length-drop, get_or-drop, get_or-take}
@@ -9,7 +9,7 @@ use Rattle.sql_lex.specs.declared.token.TokenKind.{TokenKind}
 use Rattle.sql_lex.specs.declared.token.TokenKind.TheVariants.{Name, Keyword, Number}
 use Rattle.sql_lex.specs.Bytes.{begins_word, continues_word, first_passes}
 use Rattle.sql_lex.specs.Keywords.{is_keyword}
-use Rattle.sql_lex.specs.Tokens.{is_word, is_number, IsSpelled, goes_on, Begins, Scans}
+use Rattle.sql_lex.specs.Tokens.{is_word, is_number, IsSpelled, goes_on, Scans}
 
 -- the first `len` bytes pass, and the next doesn't
 pub record IsRun (test : ℕ → Bool) (bytes : List ℕ) (len : ℕ) : Type 0 where

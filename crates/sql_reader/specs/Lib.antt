@@ -1,3 +1,8 @@
-pub mod Token
+pub mod Condition
+pub mod Create
+pub mod Limits
 pub mod Reading
 pub mod Rules
+pub mod Select
+pub mod Statements
+pub mod Token

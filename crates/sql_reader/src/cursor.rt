@@ -1,11 +1,12 @@
-ghost use Rattle.std.specs.Prelude.{◌≡◌, ℕ};
+ghost use Rattle.std.specs.Prelude.{◌≡◌, ◌<◌, length, OnOk};
+ghost use Rattle.sql_reader.specs.Limits.{store_limits};
 ghost use Rattle.sql_reader.specs.Reading.{Does, next_is};
 ghost use Rattle.sql_reader.specs.Rules as rules;
 ghost use Rattle.sql_reader.specs.Token as spec;
 
 use crate::fault::Fault;
-use own_base::Name;
-use own_model::LimitName;
+use crate::literal::{name_of, number_of, text_of};
+use own_base::{Name, Text};
 use sql_lex::{Token, TokenKind};
 use std::alloc::Global;
 use std::marker::Model;
@@ -54,9 +55,40 @@ impl<'a> Cursor<'a> {
         }
     }
 
+    /// Whether this mark comes next.
+    pub fn next_is_mark(&self, mark: &[u8]) -> bool
+        ensures { result ≡ next_is (spec.is_mark mark.now) self.now }
+    {
+        match self.tokens.first() {
+            Some(token) => is_mark(token, mark),
+            None => false,
+        }
+    }
+
+    /// Whether a name comes next.
+    pub fn next_is_name(&self) -> bool
+        ensures { result ≡ next_is spec.is_name self.now }
+    {
+        match self.tokens.first() {
+            Some(token) => matches!(token.kind, TokenKind::Name),
+            None => false,
+        }
+    }
+
+    /// Whether a text in quotes comes next.
+    pub fn next_is_quoted(&self) -> bool
+        ensures { result ≡ next_is spec.is_quoted self.now }
+    {
+        match self.tokens.first() {
+            Some(token) => matches!(token.kind, TokenKind::Quoted),
+            None => false,
+        }
+    }
+
     /// Takes this keyword.
     pub fn word(&mut self, word: &[u8]) -> Result<(), Fault>
-        ensures { Does (rules.word word.now) self.old result self.new }
+        ensures does { Does (rules.word word.now) self.old result self.new }
+        ensures shorter { OnOk result (length self.new < length self.old) }
     {
         if self.next_is_word(word) {
             self.tokens = &self.tokens[1..];
@@ -66,10 +98,61 @@ impl<'a> Cursor<'a> {
         }
     }
 
-    /// Takes a name.
-    pub fn name(&mut self, alloc: Global) -> Result<Name, Fault>
-        ensures { Does rules.name self.old result self.new }
+    /// Takes this mark.
+    pub fn mark(&mut self, mark: &[u8]) -> Result<(), Fault>
+        ensures does { Does (rules.mark mark.now) self.old result self.new }
+        ensures shorter { OnOk result (length self.new < length self.old) }
     {
-        Err(Fault::Memory)
+        if self.next_is_mark(mark) {
+            self.tokens = &self.tokens[1..];
+            Ok(())
+        } else {
+            Err(Fault::Syntax)
+        }
+    }
+
+    /// Takes a name.
+    #[tactic(auto, unfolding(crate::specs::Rules::name))]
+    pub fn name(&mut self, alloc: Global) -> Result<Name, Fault>
+        ensures { Does (rules.name store_limits) self.old result self.new }
+    {
+        match self.tokens.first() {
+            Some(token) => {
+                let name = name_of(alloc, token)?;
+                self.tokens = &self.tokens[1..];
+                Ok(name)
+            }
+            None => Err(Fault::Syntax),
+        }
+    }
+
+    /// Takes a number, whose sign was taken.
+    #[tactic(auto, unfolding(crate::specs::Rules::number))]
+    pub fn number(&mut self, negative: bool) -> Result<i64, Fault>
+        ensures { Does (rules.number negative) self.old result self.new }
+    {
+        match self.tokens.first() {
+            Some(token) => {
+                let number = number_of(negative, token)?;
+                self.tokens = &self.tokens[1..];
+                Ok(number)
+            }
+            None => Err(Fault::Syntax),
+        }
+    }
+
+    /// Takes a text in quotes.
+    #[tactic(auto, unfolding(crate::specs::Rules::text))]
+    pub fn text(&mut self, alloc: Global) -> Result<Text, Fault>
+        ensures { Does (rules.text store_limits) self.old result self.new }
+    {
+        match self.tokens.first() {
+            Some(token) => {
+                let text = text_of(alloc, token)?;
+                self.tokens = &self.tokens[1..];
+                Ok(text)
+            }
+            None => Err(Fault::Syntax),
+        }
     }
 }

@@ -3,4 +3,4 @@
 
 mod cursor;
 mod fault;
-mod rule;
+mod literal;

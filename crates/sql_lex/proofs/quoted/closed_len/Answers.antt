@@ -1,4 +1,4 @@
-use Rattle.std.proofs.Common.{arith, ◌≢◌, get_or}
+use Rattle.std.proofs.Common.{arith}
 use Rattle.sql_lex.proofs.Quotes.{DoubledTo-byte, DoubledTo-quotes, Closes-at, not_closed}
 use Rattle.sql_lex.proofs.quoted.closed_len.Goals as goal
 use Rattle.sql_lex.proofs.quoted.closed_len.Goals.{else-at-bytes-via-then-at-bytes+else-bytes-at-eq-QUOTE, else-at-bytes-via-else-at-bytes}

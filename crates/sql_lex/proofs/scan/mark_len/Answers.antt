@@ -1,5 +1,4 @@
-use Rattle.std.proofs.Common.{arith, sym, ◌∙◌, ◌≡◌, ◌≤◌, true, false, length, take}
-use Rattle.sql_lex.specs.Tokens.{is_mark}
+use Rattle.std.proofs.Common.{arith, sym, ◌∙◌}
 use Rattle.sql_lex.proofs.Marks.{two-scans, one-scans, no-mark}
 use Rattle.sql_lex.proofs.scan.mark_len.Goals as goal
 use Rattle.sql_lex.proofs.scan.mark_len.Goals.{else-bytes-ge2-via-then-bytes-ge2+else-is_mark, else-bytes-ge2-via-else-bytes-ge2}

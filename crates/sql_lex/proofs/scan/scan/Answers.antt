@@ -1,6 +1,6 @@
 use Rattle.std.proofs.Common.{sym, ◌∙◌}
 use Rattle.sql_lex.proofs.Words.{number-scans}
-use Rattle.sql_lex.proofs.FirstByte.{first_passes-index, only-quoted, only-mark}
+use Rattle.sql_lex.proofs.FirstByte.{first_passes-index, only-quoted}
 use Rattle.sql_lex.proofs.scan.scan.Goals as goal
 
 pub returns-then-is_ascii_digit-clause-found : goal.returns-then-is_ascii_digit-clause-found
