@@ -22,9 +22,9 @@ pub undoubled-front : (front back : List ℕ) → All (λ byte. byte ≢ 39) fro
 undoubled-front [] back plain = refl
 undoubled-front (byte ∷ front) back plain =
     elim (eqb_tells byte 39) [
-      inl h ↦ absurd (plain 0 0 (omega arith) h.1)
-    | inr h ↦
-        ap (λ b. if b then undoubled true (front ++ back) else byte ∷ undoubled false (front ++ back)) h.0
+      | inl h ↦ absurd (plain 0 0 (omega arith) h.1)
+      | inr h ↦
+          ap (λ b. if b then undoubled true (front ++ back) else byte ∷ undoubled false (front ++ back)) h.0
           ∙ ap (λ l. byte ∷ l) (undoubled-front front back (λ k d within. plain (suc k) d (omega arith)))
     ]
 
@@ -32,9 +32,9 @@ pub undoubled-plain : (bytes : List ℕ) → All (λ byte. byte ≢ 39) bytes �
 undoubled-plain [] plain = refl
 undoubled-plain (byte ∷ bytes) plain =
     elim (eqb_tells byte 39) [
-      inl h ↦ absurd (plain 0 0 (omega arith) h.1)
-    | inr h ↦
-        ap (λ b. if b then undoubled true bytes else byte ∷ undoubled false bytes) h.0
+      | inl h ↦ absurd (plain 0 0 (omega arith) h.1)
+      | inr h ↦
+          ap (λ b. if b then undoubled true bytes else byte ∷ undoubled false bytes) h.0
           ∙ ap (λ l. byte ∷ l) (undoubled-plain bytes (λ k d within. plain (suc k) d (omega arith)))
     ]
 
@@ -42,3 +42,15 @@ undoubled-plain (byte ∷ bytes) plain =
 pub undoubled-single : (back : List ℕ) → first_passes (λ byte. byte == 39) back ≡ false → undoubled true back ≡ undoubled false back
 undoubled-single [] single = refl
 undoubled-single (byte ∷ back) single = ap (λ b. if b then undoubled true back else byte ∷ undoubled false back) (sym single)
+
+-- two quotes are one
+pub undoubled-pair : (value front back behind rest all : List ℕ) → value ++ undoubled false rest ≡ all → rest ≡ front ++ 39 ∷ back → All (λ byte. byte ≢ 39) front → back ≡ 39 ∷ behind → ((value ++ front) ++ 39 ∷ []) ++ undoubled false behind ≡ all
+undoubled-pair value front back behind rest all same split plain pair =
+    append_assoc (value ++ front) (39 ∷ []) (undoubled false behind) ∙ append_assoc value front (39 ∷ undoubled false behind)
+      ∙ ap (λ l. value ++ l) (sym (ap (undoubled false) (split ∙ ap (λ l. front ++ 39 ∷ l) pair) ∙ undoubled-front front (39 ∷ 39 ∷ behind) plain)) ∙ same
+
+-- one quote is none
+pub undoubled-one : (value front back rest all : List ℕ) → value ++ undoubled false rest ≡ all → rest ≡ front ++ 39 ∷ back → All (λ byte. byte ≢ 39) front → first_passes (λ byte. byte == 39) back ≡ false → (value ++ front) ++ undoubled false back ≡ all
+undoubled-one value front back rest all same split plain single =
+    append_assoc value front (undoubled false back)
+      ∙ ap (λ l. value ++ l) (sym (ap (undoubled false) split ∙ undoubled-front front (39 ∷ back) plain ∙ ap (λ l. front ++ l) (undoubled-single back single))) ∙ same

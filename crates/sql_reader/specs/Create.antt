@@ -24,10 +24,10 @@ use Rattle.sql_reader.specs.Token.{Token, is_word, is_mark, is_name}
 unfoldable pub ref_kind : Reader RefKind
 ref_kind =
     either (is_word (codes "REFERENCES")) (word (codes "REFERENCES") >> optional (is_word (codes "ONLY")) (word (codes "ONLY")) >> pure ref.Plain)
-      (either (is_word (codes "OWNED_BY")) (word (codes "OWNED_BY") >> pure ref.OwnedBy)
-        (either (is_word (codes "OWNS")) (word (codes "OWNS") >> pure ref.Owns)
-          (either (is_word (codes "ACCESSED_BY")) (word (codes "ACCESSED_BY") >> pure ref.AccessedBy)
-            (word (codes "ACCESSES") >> pure ref.Accesses))))
+    (either (is_word (codes "OWNED_BY")) (word (codes "OWNED_BY") >> pure ref.OwnedBy)
+    (either (is_word (codes "OWNS")) (word (codes "OWNS") >> pure ref.Owns)
+    (either (is_word (codes "ACCESSED_BY")) (word (codes "ACCESSED_BY") >> pure ref.AccessedBy)
+    (word (codes "ACCESSES") >> pure ref.Accesses))))
 
 -- refers = (REFERENCES [ONLY] | OWNED_BY | OWNS | ACCESSED_BY | ACCESSES) name ( name )
 unfoldable pub refers : Limits → Reader RefDef
@@ -41,9 +41,9 @@ refers limits = do
 unfoldable pub attr_rule : Limits → Reader Attr
 attr_rule limits =
     either (is_word (codes "PRIMARY")) (word (codes "PRIMARY") >> word (codes "KEY") >> pure attr.Key)
-      (either (is_word (codes "NOT")) (word (codes "NOT") >> word (codes "NULL") >> pure attr.NotNull)
-        (either (is_word (codes "UNIQUE")) (word (codes "UNIQUE") >> pure attr.Unique)
-          (refers limits >>= λ found. pure (attr.Refers found))))
+    (either (is_word (codes "NOT")) (word (codes "NOT") >> word (codes "NULL") >> pure attr.NotNull)
+    (either (is_word (codes "UNIQUE")) (word (codes "UNIQUE") >> pure attr.Unique)
+    (refers limits >>= λ found. pure (attr.Refers found))))
 
 abbrev pub begins_attr : Token → Bool
 begins_attr token =
@@ -87,17 +87,17 @@ del_part limits = do
   word (codes "DEL")
   column ← name limits
   either (is_word (codes "ANON")) (word (codes "ANON") >> bracketed_names limits >>= λ ruled. pure (part.Del column ruled))
-    (word (codes "DELETE_ROW") >> pure (part.DelRow column))
+      (word (codes "DELETE_ROW") >> pure (part.DelRow column))
 
 -- part = name (INT | TEXT) {attr} | PRIMARY KEY ( name ) | UNIQUE ( name ) | FOREIGN KEY ( name ) refers
 --      | ON GET name ANON ( names ) | ON DEL name ANON ( names ) | ON DEL name DELETE_ROW
 unfoldable pub part_rule : Limits → Reader Part
 part_rule limits =
     either is_name (column_part limits)
-      (either (is_word (codes "PRIMARY")) (word (codes "PRIMARY") >> word (codes "KEY") >> one_name limits >>= λ column. pure (part.Key column))
-        (either (is_word (codes "UNIQUE")) (word (codes "UNIQUE") >> one_name limits >>= λ column. pure (part.Unique column))
-          (either (is_word (codes "FOREIGN")) (foreign_part limits)
-            (word (codes "ON") >> either (is_word (codes "GET")) (get_part limits) (del_part limits)))))
+    (either (is_word (codes "PRIMARY")) (word (codes "PRIMARY") >> word (codes "KEY") >> one_name limits >>= λ column. pure (part.Key column))
+    (either (is_word (codes "UNIQUE")) (word (codes "UNIQUE") >> one_name limits >>= λ column. pure (part.Unique column))
+    (either (is_word (codes "FOREIGN")) (foreign_part limits)
+    (word (codes "ON") >> either (is_word (codes "GET")) (get_part limits) (del_part limits)))))
 
 -- ( part {, part} )
 unfoldable pub parts : Limits → Reader (List Part)

@@ -71,24 +71,30 @@ col limits = do
 unfoldable pub literal : Limits → Reader Value
 literal limits =
     either (is_word (codes "NULL")) (word (codes "NULL") >> pure value.Null)
-      (either is_quoted (text limits >>= λ found. pure (value.Text found))
-        (int >>= λ found. pure (value.Int found)))
+    (either is_quoted (text limits >>= λ found. pure (value.Text found))
+    (int >>= λ found. pure (value.Int found)))
+
+-- literal {, literal}
+unfoldable pub values : Limits → Reader (List Value)
+values limits = do
+  first ← literal limits
+  others ← many (is_mark (codes ",")) (mark (codes ",") >> literal limits)
+  pure (first ∷ others)
 
 -- tuple = ( literal {, literal} )
 unfoldable pub tuple : Limits → Reader (List Value)
 tuple limits = do
   mark (codes "(")
-  first ← literal limits
-  others ← many (is_mark (codes ",")) (mark (codes ",") >> literal limits)
+  all ← values limits
   mark (codes ")")
-  pure (first ∷ others)
+  pure all
 
 -- name | name + int | name - int, behind the name
 unfoldable pub sum_behind : List ℕ → Reader Expr
 sum_behind column =
     either (is_mark (codes "+")) (mark (codes "+") >> int >>= λ more. pure (expr.Plus column more))
-      (either (is_mark (codes "-")) (mark (codes "-") >> int >>= λ less. pure (expr.Minus column less))
-        (pure (expr.Column column)))
+    (either (is_mark (codes "-")) (mark (codes "-") >> int >>= λ less. pure (expr.Minus column less))
+    (pure (expr.Column column)))
 
 -- expr = literal | name | name + int | name - int
 unfoldable pub expr_rule : Limits → Reader Expr

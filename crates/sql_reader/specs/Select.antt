@@ -75,11 +75,11 @@ item_behind limits count = if fits limits.items (count + 1) then item limits els
 unfoldable pub items_behind : ℕ → Limits → ℕ → Reader (List Item)
 items_behind zero limits count = pure []
 items_behind (suc times) limits count = either (is_mark (codes ",")) (do
-    mark (codes ",")
-    next ← item_behind limits count
-    more ← items_behind times limits (count + 1)
-    pure (next ∷ more))
-  (pure [])
+  mark (codes ",")
+  next ← item_behind limits count
+  more ← items_behind times limits (count + 1)
+  pure (next ∷ more))
+    (pure [])
 
 abbrev pub all_items_behind : Limits → ℕ → Reader (List Item)
 all_items_behind limits count tokens = items_behind (length tokens) limits count tokens
@@ -137,7 +137,7 @@ grouped_by limits found join =
 unfoldable pub direction : Reader Bool
 direction =
     either (is_word (codes "ASC")) (word (codes "ASC") >> pure false)
-      (either (is_word (codes "DESC")) (word (codes "DESC") >> pure true) (pure false))
+    (either (is_word (codes "DESC")) (word (codes "DESC") >> pure true) (pure false))
 
 -- ORDER BY col [ASC | DESC]
 unfoldable pub order_rule : Limits → Reader Order

@@ -70,7 +70,7 @@ delete limits levels = do
 unfoldable pub context : Reader Statement
 context = word (codes "CTX") >> either (is_word (codes "START")) (word (codes "START") >> pure statement.Begin)
     (either (is_word (codes "COMMIT")) (word (codes "COMMIT") >> pure statement.Commit)
-      (word (codes "ROLLBACK") >> pure statement.Rollback))
+    (word (codes "ROLLBACK") >> pure statement.Rollback))
 
 -- BEGIN [TRANSACTION]
 unfoldable pub begin : Reader Statement
@@ -81,11 +81,11 @@ begin = word (codes "BEGIN") >> optional (is_word (codes "TRANSACTION")) (word (
 unfoldable pub control : Reader Statement
 control =
     either (is_word (codes "BEGIN")) begin
-      (either (is_word (codes "COMMIT")) (word (codes "COMMIT") >> pure statement.Commit)
-        (either (is_word (codes "ROLLBACK")) (word (codes "ROLLBACK") >> pure statement.Rollback)
-          (either (is_word (codes "CTX")) context
-            (either (is_word (codes "CHECKPOINT")) (word (codes "CHECKPOINT") >> pure statement.Checkpoint)
-              (word (codes "EXPLAIN") >> word (codes "COMPLIANCE") >> pure statement.Explain)))))
+    (either (is_word (codes "COMMIT")) (word (codes "COMMIT") >> pure statement.Commit)
+    (either (is_word (codes "ROLLBACK")) (word (codes "ROLLBACK") >> pure statement.Rollback)
+    (either (is_word (codes "CTX")) context
+    (either (is_word (codes "CHECKPOINT")) (word (codes "CHECKPOINT") >> pure statement.Checkpoint)
+    (word (codes "EXPLAIN") >> word (codes "COMPLIANCE") >> pure statement.Explain)))))
 
 -- int | text
 unfoldable pub key_rule : Limits → Reader Key
@@ -109,8 +109,8 @@ gdpr limits = word (codes "GDPR") >> either (is_word (codes "GET"))
 unfoldable pub statement_rule : Limits → ℕ → Reader Statement
 statement_rule limits levels =
     either (is_word (codes "CREATE")) (create limits levels)
-      (either (is_word (codes "SELECT")) (select limits levels >>= λ found. pure (statement.Select found))
-        (either (is_word (codes "INSERT")) (insert limits)
-          (either (is_word (codes "UPDATE")) (update limits levels)
-            (either (is_word (codes "DELETE")) (delete limits levels)
-              (either (is_word (codes "GDPR")) (gdpr limits) control)))))
+    (either (is_word (codes "SELECT")) (select limits levels >>= λ found. pure (statement.Select found))
+    (either (is_word (codes "INSERT")) (insert limits)
+    (either (is_word (codes "UPDATE")) (update limits levels)
+    (either (is_word (codes "DELETE")) (delete limits levels)
+    (either (is_word (codes "GDPR")) (gdpr limits) control)))))

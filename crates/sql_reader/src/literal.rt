@@ -1,4 +1,4 @@
-ghost use Rattle.std.specs.Prelude.{◌≡◌, ◌≢◌, ◌<◌, ◌≤◌, ◌^◌, ◌==◌, ◌∷◌, ◌++◌, ℕ, length, slice_index, All, IfOk, IfSome, IfNone, MatchOption, string_bytes, false};
+ghost use Rattle.std.specs.Prelude.{◌≡◌, ◌≢◌, ◌<◌, ◌≤◌, ◌^◌, ◌==◌, ◌∷◌, ◌++◌, ℕ, length, slice_index, All, IfOk, IfSome, IfNone, MatchOption, string_bytes, IsUtf8, false};
 ghost use Rattle.std.specs.List.{list_all};
 ghost use Rattle.own_base.specs.Name.{is_spelled, begins_name, continues_name};
 ghost use Rattle.sql_lex.specs.Bytes.{first_passes};
@@ -117,6 +117,7 @@ fn quote_at(bytes: &[u8]) -> Option<usize>
 /// What comes before and behind the first quote, if there is one.
 fn split_at_quote(text: &str) -> Option<(&str, &str)>
     ensures found { IfSome result (λ parts. (text.now ≡ parts.0.now ++ 39 ∷ parts.1.now) × All (λ byte. byte ≢ 39) parts.0.now) }
+    ensures texts { IfSome result (λ parts. IsUtf8 parts.0.now × IsUtf8 parts.1.now) }
     ensures none { IfNone result (All (λ byte. byte ≢ 39) text.now) }
 {
     match quote_at(text.as_bytes()) {
@@ -128,6 +129,7 @@ fn split_at_quote(text: &str) -> Option<(&str, &str)>
 /// What comes behind a quote at the front.
 fn behind_quote(text: &str) -> Option<&str>
     ensures found { IfSome result (λ behind. text.now ≡ 39 ∷ behind.now) }
+    ensures texts { IfSome result (λ behind. IsUtf8 behind.now) }
     ensures none { IfNone result (first_passes (λ byte. byte == 39) text.now ≡ false) }
 {
     let bytes = text.as_bytes();
