@@ -1,2 +1,4 @@
+pub mod Conditions
+pub mod Itemizing
 pub mod Listing
 pub mod Literals

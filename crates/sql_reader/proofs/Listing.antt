@@ -12,12 +12,12 @@ pub record Listing {A : Type 0} (test : Token → Bool) (reader : Reader A) (who
   pub enough : length tokens ≤ count
   pub same : whole ≡ prepended before (up_to count test reader tokens)
 
-append-nil : {A : Type 0} (xs : List A) → xs ++ [] ≡ xs
+pub append-nil : {A : Type 0} (xs : List A) → xs ++ [] ≡ xs
 append-nil [] = refl
 append-nil (x ∷ xs) = ap (λ l. x ∷ l) (append-nil xs)
 
 -- the first item alone
-first-prepended : {A : Type 0} (first : A) (outcome : Outcome (List A)) → then_read outcome (λ others. pure (first ∷ others)) ≡ prepended (first ∷ []) outcome
+pub first-prepended : {A : Type 0} (first : A) (outcome : Outcome (List A)) → then_read outcome (λ others. pure (first ∷ others)) ≡ prepended (first ∷ []) outcome
 first-prepended first (Ok (read, rest)) = refl
 first-prepended first (Err fault) = refl
 
@@ -29,10 +29,10 @@ Listing-start test reader whole first tokens is =
 pub Listing-none : {A : Type 0} (test : Token → Bool) (reader : Reader A) (whole : Outcome (List A)) (tokens : Tokens) → whole ≡ many test reader tokens → Listing test reader whole [] tokens
 Listing-none test reader whole tokens is =
     record { count = length tokens; enough = omega arith; same = is ∙ none (many test reader tokens) }
-      where
-        none : {A : Type 0} (outcome : Outcome (List A)) → outcome ≡ prepended [] outcome
-        none (Ok (read, rest)) = refl
-        none (Err fault) = refl
+  where
+    none : {A : Type 0} (outcome : Outcome (List A)) → outcome ≡ prepended [] outcome
+    none (Ok (read, rest)) = refl
+    none (Err fault) = refl
 
 -- one more item comes
 up_to-more : {A : Type 0} (count : ℕ) (test : Token → Bool) (reader : Reader A) (tokens : Tokens) → next_is test tokens ≡ true → up_to (suc count) test reader tokens ≡ then_read (reader tokens) (λ read. up_to count test reader >>= λ more. pure (read ∷ more))
@@ -42,11 +42,11 @@ up_to-none : {A : Type 0} (count : ℕ) (test : Token → Bool) (reader : Reader
 up_to-none zero test reader tokens fails = refl
 up_to-none (suc count) test reader tokens fails = ap (λ b. if b then then_read (reader tokens) (λ read. up_to count test reader >>= λ more. pure (read ∷ more)) else Ok ([], tokens)) fails
 
-prepended-more : {A : Type 0} (before : List A) (read : A) (outcome : Outcome (List A)) → prepended before (then_read outcome (λ more. pure (read ∷ more))) ≡ prepended (before ++ read ∷ []) outcome
+pub prepended-more : {A : Type 0} (before : List A) (read : A) (outcome : Outcome (List A)) → prepended before (then_read outcome (λ more. pure (read ∷ more))) ≡ prepended (before ++ read ∷ []) outcome
 prepended-more before read (Ok (more, rest)) = ap (λ l. Ok (l, rest)) (sym (append_assoc before (read ∷ []) more))
 prepended-more before read (Err fault) = refl
 
-some_token : (test : Token → Bool) (tokens : Tokens) → next_is test tokens ≡ true → 0 < length tokens
+pub some_token : (test : Token → Bool) (tokens : Tokens) → next_is test tokens ≡ true → 0 < length tokens
 some_token test [] passes = absurd (false≢true passes)
 some_token test (token ∷ tokens) passes = omega arith
 

@@ -47,10 +47,10 @@ undoubled-single (byte ∷ back) single = ap (λ b. if b then undoubled true bac
 pub undoubled-pair : (value front back behind rest all : List ℕ) → value ++ undoubled false rest ≡ all → rest ≡ front ++ 39 ∷ back → All (λ byte. byte ≢ 39) front → back ≡ 39 ∷ behind → ((value ++ front) ++ 39 ∷ []) ++ undoubled false behind ≡ all
 undoubled-pair value front back behind rest all same split plain pair =
     append_assoc (value ++ front) (39 ∷ []) (undoubled false behind) ∙ append_assoc value front (39 ∷ undoubled false behind)
-      ∙ ap (λ l. value ++ l) (sym (ap (undoubled false) (split ∙ ap (λ l. front ++ 39 ∷ l) pair) ∙ undoubled-front front (39 ∷ 39 ∷ behind) plain)) ∙ same
+    ∙ ap (λ l. value ++ l) (sym (ap (undoubled false) (split ∙ ap (λ l. front ++ 39 ∷ l) pair) ∙ undoubled-front front (39 ∷ 39 ∷ behind) plain)) ∙ same
 
 -- one quote is none
 pub undoubled-one : (value front back rest all : List ℕ) → value ++ undoubled false rest ≡ all → rest ≡ front ++ 39 ∷ back → All (λ byte. byte ≢ 39) front → first_passes (λ byte. byte == 39) back ≡ false → (value ++ front) ++ undoubled false back ≡ all
 undoubled-one value front back rest all same split plain single =
     append_assoc value front (undoubled false back)
-      ∙ ap (λ l. value ++ l) (sym (ap (undoubled false) split ∙ undoubled-front front (39 ∷ back) plain ∙ ap (λ l. front ++ l) (undoubled-single back single))) ∙ same
+    ∙ ap (λ l. value ++ l) (sym (ap (undoubled false) split ∙ undoubled-front front (39 ∷ back) plain ∙ ap (λ l. front ++ l) (undoubled-single back single))) ∙ same

@@ -58,7 +58,7 @@ item limits = do
   pure (record { what = found; alias = called })
 
 -- what a slot counts as
-abbrev slot_item : Item
+abbrev pub slot_item : Item
 slot_item = record { what = what.Count; alias = None }
 
 -- above the limit, in the place of an item: a slot alone, and the limit where an item would begin

@@ -1,12 +1,14 @@
-ghost use Rattle.std.specs.Prelude.{◌≡◌, ◌<◌, length, OnOk};
+ghost use Rattle.std.specs.Prelude.{◌≡◌, ◌<◌, length, Err, OnOk};
 ghost use Rattle.sql_reader.specs.Limits.{store_limits};
-ghost use Rattle.sql_reader.specs.Reading.{Does, next_is};
+ghost use Rattle.sql_reader.specs.Reading.{Does, accept, next_is};
 ghost use Rattle.sql_reader.specs.Rules as rules;
+ghost use Rattle.sql_reader.specs.Select.{slot_of};
 ghost use Rattle.sql_reader.specs.Token as spec;
 
 use crate::fault::Fault;
 use crate::literal::{name_of, number_of, text_of};
 use own_base::{Name, Text};
+use own_model::LimitName;
 use sql_lex::{Token, TokenKind};
 use std::alloc::Global;
 use std::marker::Model;
@@ -153,6 +155,19 @@ impl<'a> Cursor<'a> {
                 Ok(text)
             }
             None => Err(Fault::Syntax),
+        }
+    }
+
+    /// What is wrong where an item comes above the limit: the limit, if an item begins there.
+    pub fn no_item(&self) -> Fault
+        ensures { accept slot_of self.now ≡ Err (result, self.now) }
+    {
+        match self.tokens.first() {
+            Some(token) => match token.kind {
+                TokenKind::Name => Fault::Limit(LimitName::Items),
+                _ => Fault::Syntax,
+            },
+            None => Fault::Syntax,
         }
     }
 }
