@@ -4,8 +4,9 @@ use Rattle.std.proofs.lemmas.List.{length-append}
 use Rattle.std.specs.Prelude.{if◌then◌else◌}
 use Rattle.own_model.specs.declared.select.Item.{Item}
 use Rattle.sql_reader.specs.declared.fault.Fault.{Fault}
+use Rattle.sql_reader.specs.declared.fault.Fault.TheVariants.{Syntax, Limit, Memory}
 use Rattle.sql_reader.specs.Limits.{Limits}
-use Rattle.sql_reader.specs.Reading.{Tokens, Outcome, Reader, then_read, pure, ◌>>=◌, ◌>>◌, next_is, prepended}
+use Rattle.sql_reader.specs.Reading.{Tokens, Outcome, Reader, then_read, pure, ◌>>=◌, ◌>>◌, next_is, prepended, Does}
 use Rattle.sql_reader.specs.Rules.{mark}
 use Rattle.sql_reader.specs.Select.{item_behind, items_behind, all_items_behind}
 use Rattle.sql_reader.specs.Token.{Token, is_mark}
@@ -68,3 +69,11 @@ fault_at limits whole before tokens (suc times) fault enough same passes fails =
 -- an item has a fault
 pub Itemizing-fault : (limits : Limits) (whole : Outcome (List Item)) (before : List Item) (tokens : Tokens) (fault : Fault × Tokens) → Itemizing limits whole before tokens → next_is (is_mark (codes ",")) tokens ≡ true → next_item limits (length before) tokens ≡ Err fault → whole ≡ Err fault
 Itemizing-fault limits whole before tokens fault itemizing = fault_at limits whole before tokens itemizing.times fault itemizing.enough itemizing.same
+
+-- a loop that ends with an item's fault does as the reader does
+pub Itemizing-does : (limits : Limits) (reader : Reader (List Item)) (start : Tokens) (before : List Item) (tokens middle : Tokens) (fault : Fault) (after : Tokens) → Itemizing limits (reader start) before tokens → next_is (is_mark (codes ",")) tokens ≡ true → mark (codes ",") tokens ≡ Ok (tt, middle) → Does (item_behind limits (length before)) middle (Err fault) after → Does reader start (Err fault) after
+Itemizing-does limits reader start before tokens middle Memory after itemizing passes comma does = tt
+Itemizing-does limits reader start before tokens middle Syntax after itemizing passes comma does =
+    Itemizing-fault limits (reader start) before tokens (Syntax, after) itemizing passes (ap (λ o. then_read o (λ _. item_behind limits (length before))) comma ∙ does)
+Itemizing-does limits reader start before tokens middle (Limit limit) after itemizing passes comma does =
+    Itemizing-fault limits (reader start) before tokens (Limit limit, after) itemizing passes (ap (λ o. then_read o (λ _. item_behind limits (length before))) comma ∙ does)

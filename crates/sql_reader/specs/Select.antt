@@ -160,9 +160,13 @@ query limits levels = do
   group ← grouped_by limits found join
   pure (record { items = found; from = from; join = join; cond = cond; group = group; order = None })
 
+-- [ORDER BY col [ASC | DESC]]
+unfoldable pub ordered : Limits → Reader (Option Order)
+ordered limits = optional (is_word (codes "ORDER")) (order_rule limits)
+
 -- select = (plain | grouped) [ORDER BY col [ASC | DESC]]
 unfoldable pub select : Limits → ℕ → Reader Select
 select limits levels = do
   found ← query limits levels
-  order ← optional (is_word (codes "ORDER")) (order_rule limits)
+  order ← ordered limits
   pure (record found { order = order })

@@ -97,7 +97,10 @@ fn listed(cursor: &mut Cursor, alloc: Global) -> Result<List<Item>, Fault>
     while cursor.next_is_mark(b",") {
         cursor.mark(b",")?;
         let count = items.items().len();
-        let next = item_behind(cursor, alloc, count)?;
+        let next = match item_behind(cursor, alloc, count) {
+            Ok(next) => next,
+            Err(fault) => return Err(fault),
+        };
         add(&mut items, next)?;
     }
     Ok(items)
@@ -251,15 +254,38 @@ pub fn query(cursor: &mut Cursor, alloc: Global) -> Result<Select, Fault>
     })
 }
 
+/// The order of a select, if one stands there.
+#[tactic(auto, unfolding(crate::specs::Select::ordered))]
+fn ordered(cursor: &mut Cursor, alloc: Global) -> Result<Option<Order>, Fault>
+    ensures { Does (rules.ordered store_limits) cursor.old result cursor.new }
+{
+    if cursor.next_is_word(b"ORDER") {
+        let found = order(cursor, alloc)?;
+        return Ok(Some(found));
+    }
+    Ok(None)
+}
+
 /// A select.
 #[tactic(auto, unfolding(crate::specs::Select::select))]
 pub fn select(cursor: &mut Cursor, alloc: Global) -> Result<Select, Fault>
     ensures { Does (rules.select store_limits 64) cursor.old result cursor.new }
 {
-    let mut found = query(cursor, alloc)?;
-    if cursor.next_is_word(b"ORDER") {
-        let order = order(cursor, alloc)?;
-        found.order = Some(order);
-    }
-    Ok(found)
+    let Select {
+        items,
+        from,
+        join,
+        cond,
+        group,
+        order: _,
+    } = query(cursor, alloc)?;
+    let order = ordered(cursor, alloc)?;
+    Ok(Select {
+        items,
+        from,
+        join,
+        cond,
+        group,
+        order,
+    })
 }
