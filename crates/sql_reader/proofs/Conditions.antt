@@ -19,12 +19,12 @@ pub neg-comparison : (limits : Limits) (levels : ℕ) (tokens : Tokens) → next
 unfolding neg
 neg-comparison limits zero tokens no_not no_bracket =
     either-other (is_word (codes "NOT")) too_deep (either (is_mark (codes "(")) too_deep (comparison limits)) tokens no_not
-      ∙ either-other (is_mark (codes "(")) too_deep (comparison limits) tokens no_bracket
+    ∙ either-other (is_mark (codes "(")) too_deep (comparison limits) tokens no_bracket
 neg-comparison limits (suc levels) tokens no_not no_bracket =
     let negated = word (codes "NOT") >> neg limits levels >>= λ inner. pure (cond.Not inner) in
     let bracketed = mark (codes "(") >> (cond_over (neg limits levels) >>= λ inner. mark (codes ")") >> pure inner) in
     either-other (is_word (codes "NOT")) negated (either (is_mark (codes "(")) bracketed (comparison limits)) tokens no_not
-      ∙ either-other (is_mark (codes "(")) bracketed (comparison limits) tokens no_bracket
+    ∙ either-other (is_mark (codes "(")) bracketed (comparison limits) tokens no_bracket
 
 -- what does as one reader does, does as another that reads the same there
 pub Does-same : {A : Type 0} (reader other : Reader A) (before : Tokens) (result : Result A Fault) (after : Tokens) → reader before ≡ other before → Does other before result after → Does reader before result after

@@ -31,7 +31,7 @@ one_more : (times : ℕ) (limits : Limits) (count : ℕ) (tokens : Tokens) (pass
 unfolding items_behind
 one_more times limits count tokens passes =
     ap (λ b. if b then then_read (mark (codes ",") tokens) (λ _. item_behind limits count >>= λ read. items_behind times limits (count + 1) >>= λ more. pure (read ∷ more)) else Ok ([], tokens)) passes
-      ∙ regroup (mark (codes ",") tokens)
+    ∙ regroup (mark (codes ",") tokens)
   where
     regroup : (outcome : Outcome (Unit {0})) → then_read outcome (λ _. item_behind limits count >>= λ read. items_behind times limits (count + 1) >>= λ more. pure (read ∷ more)) ≡ then_read (then_read outcome (λ _. item_behind limits count)) (λ read. items_behind times limits (count + 1) >>= λ more. pure (read ∷ more))
     regroup (Ok (read, rest)) = refl

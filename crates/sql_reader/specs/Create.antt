@@ -51,6 +51,10 @@ begins_attr token =
     || is_word (codes "REFERENCES") token || is_word (codes "OWNED_BY") token || is_word (codes "OWNS") token
     || is_word (codes "ACCESSED_BY") token || is_word (codes "ACCESSES") token
 
+-- {attr}
+unfoldable pub attrs : Limits → Reader (List Attr)
+attrs limits = many begins_attr (attr_rule limits)
+
 -- INT | TEXT
 unfoldable pub kind_rule : Reader Kind
 kind_rule = either (is_word (codes "INT")) (word (codes "INT") >> pure kind.Int) (word (codes "TEXT") >> pure kind.Text)
@@ -60,8 +64,8 @@ unfoldable pub column_part : Limits → Reader Part
 column_part limits = do
   column ← name limits
   found ← kind_rule
-  attrs ← many begins_attr (attr_rule limits)
-  pure (part.Column (record { name = column; kind = found; attrs = attrs }))
+  all ← attrs limits
+  pure (part.Column (record { name = column; kind = found; attrs = all }))
 
 -- FOREIGN KEY ( name ) refers
 unfoldable pub foreign_part : Limits → Reader Part
@@ -99,14 +103,20 @@ part_rule limits =
     (either (is_word (codes "FOREIGN")) (foreign_part limits)
     (word (codes "ON") >> either (is_word (codes "GET")) (get_part limits) (del_part limits)))))
 
+-- part {, part}
+unfoldable pub listed_parts : Limits → Reader (List Part)
+listed_parts limits = do
+  first ← part_rule limits
+  others ← many (is_mark (codes ",")) (mark (codes ",") >> part_rule limits)
+  pure (first ∷ others)
+
 -- ( part {, part} )
 unfoldable pub parts : Limits → Reader (List Part)
 parts limits = do
   mark (codes "(")
-  first ← part_rule limits
-  others ← many (is_mark (codes ",")) (mark (codes ",") >> part_rule limits)
+  all ← listed_parts limits
   mark (codes ")")
-  pure (first ∷ others)
+  pure all
 
 -- [DATA_SUBJECT] TABLE name ( part {, part} ), behind CREATE
 unfoldable pub table : Limits → Reader CreateTable

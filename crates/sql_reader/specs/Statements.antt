@@ -21,16 +21,20 @@ tuples limits = do
   others ← many (is_mark (codes ",")) (mark (codes ",") >> tuple limits)
   pure (first ∷ others)
 
+-- [( names )]
+unfoldable pub columns : Limits → Reader (Option (List (List ℕ)))
+columns limits = optional (is_mark (codes "(")) (bracketed_names limits)
+
 -- insert = INSERT INTO name [( names )] VALUES tuple {, tuple}
 unfoldable pub insert : Limits → Reader Statement
 insert limits = do
   word (codes "INSERT")
   word (codes "INTO")
   table ← name limits
-  columns ← optional (is_mark (codes "(")) (bracketed_names limits)
+  named ← columns limits
   word (codes "VALUES")
   rows ← tuples limits
-  pure (statement.Insert table columns rows)
+  pure (statement.Insert table named rows)
 
 -- name = expr
 unfoldable pub set : Limits → Reader (List ℕ × Expr)

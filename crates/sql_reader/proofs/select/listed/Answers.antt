@@ -8,7 +8,7 @@ use Rattle.sql_reader.proofs.select.listed.Goals as goal
 pub returns-in-Err : goal.returns-in-Err
 returns-in-Err c =
     Itemizing-does store_limits (rules.listed store_limits) c.args.cursor.now c.loop-alloc.items c.loop-alloc.cursor c.mark.new.self c.in-Err.fault c.item_behind-in-loop-alloc.new.cursor c.loop-alloc.invariant.itemizing (sym c.next_is_mark.ensures ∙ c.loop-alloc-test.true) c.in_ok-mark.ensures.does.0
-      (subst (λ l. Does (rules.item_behind store_limits (length l)) c.mark.new.self (Err c.in-Err.fault) c.item_behind-in-loop-alloc.new.cursor) c.items-count.ensures c.in-Err.ensures)
+    (subst (λ l. Does (rules.item_behind store_limits (length l)) c.mark.new.self (Err c.in-Err.fault) c.item_behind-in-loop-alloc.new.cursor) c.items-count.ensures c.in-Err.ensures)
 
 pub loop-alloc-preserved : goal.loop-alloc-preserved
 loop-alloc-preserved c =
