@@ -1,4 +1,5 @@
 pub mod Conditions
+pub mod Cuts
 pub mod Itemizing
 pub mod Listing
 pub mod Literals

@@ -3,7 +3,8 @@ use Rattle.std.proofs.Common.{◌≡◌, ◌<◌, ◌≤◌, ℕ, zero, suc, Boo
 use Rattle.std.proofs.lemmas.Bool.{false≢true}
 use Rattle.std.specs.Prelude.{if◌then◌else◌}
 use Rattle.sql_reader.specs.declared.fault.Fault.{Fault}
-use Rattle.sql_reader.specs.Reading.{Tokens, Outcome, Reader, then_read, pure, ◌>>=◌, next_is, either, up_to, many, prepended}
+use Rattle.sql_reader.specs.declared.fault.Fault.TheVariants.{Syntax, Limit, Memory}
+use Rattle.sql_reader.specs.Reading.{Tokens, Outcome, Reader, then_read, pure, ◌>>=◌, next_is, either, up_to, many, prepended, Does}
 use Rattle.sql_reader.specs.Token.{Token}
 
 -- the outcome of the whole list: what was read so far, and what is still to be read
@@ -75,3 +76,9 @@ fault-count test reader whole before tokens (suc count) fault enough same passes
 -- an item has a fault
 pub Listing-fault : {A : Type 0} (test : Token → Bool) (reader : Reader A) (whole : Outcome (List A)) (before : List A) (tokens : Tokens) (fault : Fault × Tokens) → Listing test reader whole before tokens → next_is test tokens ≡ true → reader tokens ≡ Err fault → whole ≡ Err fault
 Listing-fault test reader whole before tokens fault listing = fault-count test reader whole before tokens listing.count fault listing.enough listing.same
+
+-- a loop that ends with an item's fault does as the reader does
+pub Listing-does : {A : Type 0} (test : Token → Bool) (item : Reader A) (reader : Reader (List A)) (start : Tokens) (before : List A) (tokens : Tokens) (fault : Fault) (after : Tokens) → Listing test item (reader start) before tokens → next_is test tokens ≡ true → Does item tokens (Err fault) after → Does reader start (Err fault) after
+Listing-does test item reader start before tokens Memory after listing passes does = tt
+Listing-does test item reader start before tokens Syntax after listing passes does = Listing-fault test item (reader start) before tokens (Syntax, after) listing passes does
+Listing-does test item reader start before tokens (Limit limit) after listing passes does = Listing-fault test item (reader start) before tokens (Limit limit, after) listing passes does

@@ -45,11 +45,14 @@ attr_rule limits =
     (either (is_word (codes "UNIQUE")) (word (codes "UNIQUE") >> pure attr.Unique)
     (refers limits >>= λ found. pure (attr.Refers found))))
 
+abbrev pub begins_ref : Token → Bool
+begins_ref token =
+    is_word (codes "REFERENCES") token || (is_word (codes "OWNED_BY") token || (is_word (codes "OWNS") token
+    || (is_word (codes "ACCESSED_BY") token || is_word (codes "ACCESSES") token)))
+
 abbrev pub begins_attr : Token → Bool
 begins_attr token =
-    is_word (codes "PRIMARY") token || is_word (codes "NOT") token || is_word (codes "UNIQUE") token
-    || is_word (codes "REFERENCES") token || is_word (codes "OWNED_BY") token || is_word (codes "OWNS") token
-    || is_word (codes "ACCESSED_BY") token || is_word (codes "ACCESSES") token
+    is_word (codes "PRIMARY") token || (is_word (codes "NOT") token || (is_word (codes "UNIQUE") token || begins_ref token))
 
 -- {attr}
 unfoldable pub attrs : Limits → Reader (List Attr)

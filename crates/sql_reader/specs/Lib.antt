@@ -1,6 +1,8 @@
 pub mod Condition
 pub mod Create
+pub mod Cut
 pub mod Limits
+pub mod Outcomes
 pub mod Reading
 pub mod Rules
 pub mod Select

@@ -1,4 +1,4 @@
-ghost use Rattle.std.specs.Prelude.{◌≡◌};
+ghost use Rattle.std.specs.Prelude.{◌≡◌, ◌<◌, length, OnOk};
 ghost use Rattle.sql_reader.specs.Limits.{store_limits};
 ghost use Rattle.sql_reader.specs.Reading.{Does};
 ghost use Rattle.sql_reader.specs.Create as rules;
@@ -16,7 +16,8 @@ use std::alloc::Global;
 /// The kind of a reference.
 #[tactic(auto, unfolding(crate::specs::Create::ref_kind))]
 fn ref_kind(cursor: &mut Cursor) -> Result<RefKind, Fault>
-    ensures { Does rules.ref_kind cursor.old result cursor.new }
+    ensures does { Does rules.ref_kind cursor.old result cursor.new }
+    ensures shorter { OnOk result (length cursor.new < length cursor.old) }
 {
     if cursor.next_is_word(b"REFERENCES") {
         cursor.word(b"REFERENCES")?;
@@ -44,7 +45,8 @@ fn ref_kind(cursor: &mut Cursor) -> Result<RefKind, Fault>
 /// A reference.
 #[tactic(auto, unfolding(crate::specs::Create::refers))]
 fn refers(cursor: &mut Cursor, alloc: Global) -> Result<RefDef, Fault>
-    ensures { Does (rules.refers store_limits) cursor.old result cursor.new }
+    ensures does { Does (rules.refers store_limits) cursor.old result cursor.new }
+    ensures shorter { OnOk result (length cursor.new < length cursor.old) }
 {
     let kind = ref_kind(cursor)?;
     let table = cursor.name(alloc)?;
@@ -59,7 +61,8 @@ fn refers(cursor: &mut Cursor, alloc: Global) -> Result<RefDef, Fault>
 /// What stands behind a column and its kind.
 #[tactic(auto, unfolding(crate::specs::Create::attr_rule))]
 fn attr(cursor: &mut Cursor, alloc: Global) -> Result<Attr, Fault>
-    ensures { Does (rules.attr_rule store_limits) cursor.old result cursor.new }
+    ensures does { Does (rules.attr_rule store_limits) cursor.old result cursor.new }
+    ensures shorter { OnOk result (length cursor.new < length cursor.old) }
 {
     if cursor.next_is_word(b"PRIMARY") {
         cursor.word(b"PRIMARY")?;
@@ -79,6 +82,17 @@ fn attr(cursor: &mut Cursor, alloc: Global) -> Result<Attr, Fault>
     Ok(Attr::Refers(found))
 }
 
+/// Whether a reference comes next.
+fn next_is_ref(cursor: &Cursor) -> bool
+    ensures { result ≡ next_is rules.begins_ref cursor.now }
+{
+    cursor.next_is_word(b"REFERENCES")
+        || cursor.next_is_word(b"OWNED_BY")
+        || cursor.next_is_word(b"OWNS")
+        || cursor.next_is_word(b"ACCESSED_BY")
+        || cursor.next_is_word(b"ACCESSES")
+}
+
 /// Whether something that stands behind a column's kind comes next.
 fn next_is_attr(cursor: &Cursor) -> bool
     ensures { result ≡ next_is rules.begins_attr cursor.now }
@@ -86,11 +100,7 @@ fn next_is_attr(cursor: &Cursor) -> bool
     cursor.next_is_word(b"PRIMARY")
         || cursor.next_is_word(b"NOT")
         || cursor.next_is_word(b"UNIQUE")
-        || cursor.next_is_word(b"REFERENCES")
-        || cursor.next_is_word(b"OWNED_BY")
-        || cursor.next_is_word(b"OWNS")
-        || cursor.next_is_word(b"ACCESSED_BY")
-        || cursor.next_is_word(b"ACCESSES")
+        || next_is_ref(cursor)
 }
 
 /// What stands behind a column and its kind, in order.
@@ -100,7 +110,10 @@ fn attrs(cursor: &mut Cursor, alloc: Global) -> Result<List<Attr>, Fault>
 {
     let mut attrs = List::new(alloc);
     while next_is_attr(cursor) {
-        let attr = attr(cursor, alloc)?;
+        let attr = match attr(cursor, alloc) {
+            Ok(attr) => attr,
+            Err(fault) => return Err(fault),
+        };
         add(&mut attrs, attr)?;
     }
     Ok(attrs)

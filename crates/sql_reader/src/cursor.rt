@@ -1,5 +1,6 @@
-ghost use Rattle.std.specs.Prelude.{◌≡◌, ◌<◌, length, Err, OnOk};
+ghost use Rattle.std.specs.Prelude.{◌≡◌, ◌<◌, length, map, Err, OnOk};
 ghost use Rattle.sql_reader.specs.Limits.{store_limits};
+ghost use Rattle.sql_reader.specs.Outcomes.{ended, place_of};
 ghost use Rattle.sql_reader.specs.Reading.{Does, accept, next_is};
 ghost use Rattle.sql_reader.specs.Rules as rules;
 ghost use Rattle.sql_reader.specs.Select.{slot_of};
@@ -47,6 +48,13 @@ fn is_mark(token: &Token, mark: &[u8]) -> bool
 }
 
 impl<'a> Cursor<'a> {
+    /// At the first of the tokens.
+    pub fn new(tokens: &'a [Token<'a>]) -> Cursor<'a>
+        ensures { result ≡ map spec.token_of tokens.now }
+    {
+        Cursor { tokens }
+    }
+
     /// Whether this keyword comes next.
     pub fn next_is_word(&self, word: &[u8]) -> bool
         ensures { result ≡ next_is (spec.is_word word.now) self.now }
@@ -168,6 +176,27 @@ impl<'a> Cursor<'a> {
                 _ => Fault::Syntax,
             },
             None => Fault::Syntax,
+        }
+    }
+
+    /// Nothing is to be read any more.
+    pub fn ended(&mut self) -> Result<(), Fault>
+        ensures { Does ended self.old result self.new }
+    {
+        if self.tokens.is_empty() {
+            Ok(())
+        } else {
+            Err(Fault::Syntax)
+        }
+    }
+
+    /// The byte at which the next token begins, or the text's length.
+    pub fn place(&self, len: u32) -> u32
+        ensures { result ≡ place_of len self.now }
+    {
+        match self.tokens.first() {
+            Some(token) => token.start,
+            None => len,
         }
     }
 }

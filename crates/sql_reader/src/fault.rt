@@ -9,6 +9,17 @@ pub enum Fault {
     Memory,
 }
 
+/// Why no statement is read.
+#[derive(Clone, Copy, Debug, PartialEq, Eq)]
+pub enum ReadFault {
+    /// The byte at which no statement goes on: the first of a token, or the text's length.
+    Syntax(u32),
+    /// A limit, which stands before any byte at which no statement goes on.
+    Limit(LimitName),
+    /// Memory was refused.
+    Memory,
+}
+
 impl From<AllocError> for Fault {
     ghost use Rattle.std.specs.Prelude.{◌≡◌};
     ghost use Rattle.sql_reader.specs.declared.fault.Fault.TheVariants.{Memory};

@@ -1,4 +1,5 @@
-//! Reads the SQL statements of the store.
+//! Reads the SQL statements of the store: `read_statement` gives the statement that a text is, or the place at which it
+//! is none.
 #![tactic(auto)]
 
 mod condition;
@@ -7,6 +8,14 @@ mod cursor;
 mod fault;
 mod list;
 mod literal;
+mod read;
 mod rule;
 mod select;
 mod statement;
+mod tokens;
+
+pub use fault::ReadFault;
+pub use read::read_statement;
+
+#[cfg(test)]
+mod tests;
