@@ -3,3 +3,4 @@ pub mod Cuts
 pub mod Itemizing
 pub mod Listing
 pub mod Literals
+pub mod Wholes

@@ -6,7 +6,7 @@ use Rattle.sql_reader.specs.declared.fault.ReadFault.{ReadFault}
 use Rattle.sql_reader.specs.declared.fault.ReadFault.TheVariants.{Syntax, Limit, Memory}
 use Rattle.sql_reader.specs.Cut.{AreTokens}
 use Rattle.sql_reader.specs.Limits.{store_limits}
-use Rattle.sql_reader.specs.Reading.{Reader, Tokens, Outcome, pure, ◌>>=◌, ◌>>◌}
+use Rattle.sql_reader.specs.Reading.{Reader, Tokens, pure, ◌>>=◌, ◌>>◌}
 use Rattle.sql_reader.specs.Statements.{statement_rule}
 use Rattle.sql_reader.specs.Token.{Token, Written, Slot}
 
@@ -28,13 +28,10 @@ place_of len [] = len
 place_of len (Written kind text start ∷ rest) = start
 place_of len (Slot ∷ rest) = len
 
--- the answer says what the reader found
-abbrev pub Tells : ℕ → Outcome Statement → Result Statement ReadFault → Type 0
-Tells len outcome (Ok found) = outcome ≡ Ok (found, [])
-Tells len outcome (Err Memory) = Unit {0}
-Tells len outcome (Err (Syntax byte)) = (rest : Tokens) × (outcome ≡ Err (fault.Syntax, rest)) × (byte ≡ place_of len rest)
-Tells len outcome (Err (Limit limit)) = (rest : Tokens) × (outcome ≡ Err (fault.Limit limit, rest))
-
--- the answer for a text
+-- The answer for a text: the statement that its tokens are; or the first byte at which the rules take no token, or the
+-- limit that is passed there. Only memory may keep it from coming.
 abbrev pub IsAnswer : List ℕ → Result Statement ReadFault → Type 0
-IsAnswer text answer = (tokens : Tokens) × AreTokens text tokens × Tells (length text) (whole tokens) answer
+IsAnswer text (Ok found) = (tokens : Tokens) × AreTokens text tokens × (whole tokens ≡ Ok (found, []))
+IsAnswer text (Err Memory) = Unit {0}
+IsAnswer text (Err (Syntax byte)) = (tokens : Tokens) × AreTokens text tokens × (rest : Tokens) × (whole tokens ≡ Err (fault.Syntax, rest)) × (byte ≡ place_of (length text) rest)
+IsAnswer text (Err (Limit limit)) = (tokens : Tokens) × AreTokens text tokens × (rest : Tokens) × (whole tokens ≡ Err (fault.Limit limit, rest))
