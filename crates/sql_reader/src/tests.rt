@@ -27,7 +27,7 @@ fn answer_of(alloc: Global, text: &str) -> Answer
 }
 
 #[test]
-fn statements_and_the_bytes_of_their_faults(rt: HostRuntime) -> Result<(), Fail> {
+fn faults_of_create(rt: HostRuntime) -> Result<(), Fail> {
     let table = [
         ("create table t (a int)", Answer::Read),
         (
@@ -57,6 +57,17 @@ fn statements_and_the_bytes_of_their_faults(rt: HostRuntime) -> Result<(), Fail>
         ("create table t ()", Answer::At(16)),
         ("create table t (a int,)", Answer::At(22)),
         ("create table t (on set a anon (b))", Answer::At(19)),
+    ];
+    for (text, wanted) in table {
+        assert!(rt; text.len() < 1000);
+        assert_eq!(rt; answer_of(rt.alloc(), text), wanted, "{text}");
+    }
+    Ok(())
+}
+
+#[test]
+fn faults_of_select(rt: HostRuntime) -> Result<(), Fail> {
+    let table = [
         ("select * from t", Answer::Read),
         (
             "select a, t.b as c from t inner join u on t.a = u.b where not a = 1 order by a desc",
@@ -73,6 +84,17 @@ fn statements_and_the_bytes_of_their_faults(rt: HostRuntime) -> Result<(), Fail>
         ("select a from t as u", Answer::At(16)),
         ("select from t", Answer::At(7)),
         ("select 'it''s", Answer::At(7)),
+    ];
+    for (text, wanted) in table {
+        assert!(rt; text.len() < 1000);
+        assert_eq!(rt; answer_of(rt.alloc(), text), wanted, "{text}");
+    }
+    Ok(())
+}
+
+#[test]
+fn faults_of_write(rt: HostRuntime) -> Result<(), Fail> {
+    let table = [
         (
             "insert into t values (1, 'a', null), (-2, '', 3)",
             Answer::Read,
@@ -91,6 +113,17 @@ fn statements_and_the_bytes_of_their_faults(rt: HostRuntime) -> Result<(), Fail>
         ("delete from t where a = 1 and", Answer::At(29)),
         ("delete from t where (a = 1 or b <> 'x'", Answer::At(38)),
         ("delete from t where a is 1", Answer::At(25)),
+    ];
+    for (text, wanted) in table {
+        assert!(rt; text.len() < 1000);
+        assert_eq!(rt; answer_of(rt.alloc(), text), wanted, "{text}");
+    }
+    Ok(())
+}
+
+#[test]
+fn faults_of_control(rt: HostRuntime) -> Result<(), Fail> {
+    let table = [
         ("begin transaction", Answer::Read),
         ("begin work", Answer::At(6)),
         ("ctx start", Answer::Read),
