@@ -1,8 +1,8 @@
 ghost use Rattle.std.specs.Prelude.{◌<◌, ◌^◌, length};
 
 use crate::{ReadFault, read_statement};
-use own_base::{Key, Value};
-use own_model::{Cmp, Cond, Expr, Items, LimitName, Operand, Part, Statement, What};
+use own_base::Key;
+use own_model::{LimitName, Statement};
 use std::alloc::Global;
 use std::test::Fail;
 
@@ -253,39 +253,32 @@ fn limits(rt: HostRuntime) -> Result<(), Fail> {
 }
 
 #[test]
-fn what_is_read(rt: HostRuntime) -> Result<(), Fail> {
-    let alloc = rt.alloc();
-    let Ok(Statement::Update { table, sets, cond }) = read_statement(
-        alloc,
-        "UPDATE Tab SET A = b - -5 WHERE NOT (a <= 'it''s' OR c IS NOT NULL) AND u.d != -7",
-    ) else {
-        panic!(rt; "an update");
-    };
-    assert_eq!(rt; table.as_str(), "tab");
-    assert_eq!(rt; sets.items().len(), 1);
-    let (column, value) = &sets.items()[0];
-    assert_eq!(rt; column.as_str(), "a");
-    assert!(rt; matches!(value, Expr::Minus(name, -5) if name.as_str() == "b"));
-    let Some(Cond::Every(parts)) = cond else {
-        panic!(rt; "an AND");
-    };
-    assert_eq!(rt; parts.items().len(), 2);
-    let Cond::Not(inner) = &parts.items()[0] else {
-        panic!(rt; "a NOT");
-    };
-    let Cond::Some1(options) = inner.get() else {
-        panic!(rt; "an OR");
-    };
-    assert_eq!(rt; options.items().len(), 2);
-    assert!(rt;
-        matches!(&options.items()[0], Cond::Compare(_, Cmp::Le, Operand::Literal(Value::Text(text))) if text.as_str() == "it's")
-    );
-    assert!(rt; matches!(&options.items()[1], Cond::IsNull(_, true)));
-    assert!(rt;
-        matches!(
-            &parts.items()[1],
-            Cond::Compare(_, Cmp::Ne, Operand::Literal(Value::Int(-7)))
-        )
-    );
+fn a_text_is_read(rt: HostRuntime) -> Result<(), Fail> {
+    match read_statement(rt.alloc(), "GDPR Get Tab 'it''s'") {
+        Ok(
+            Statement::GdprGet {
+                table,
+                key: Key::Text(text),
+            },
+        ) => {
+            assert_eq!(rt; table.as_str(), "tab");
+            assert_eq!(rt; text.as_str(), "it's");
+        }
+        _ => panic!(rt; "a GDPR GET"),
+    }
+    Ok(())
+}
+
+#[test]
+fn a_sign_is_read(rt: HostRuntime) -> Result<(), Fail> {
+    match read_statement(rt.alloc(), "gdpr forget t -5") {
+        Ok(
+            Statement::GdprForget {
+                key: Key::Int(number),
+                ..
+            },
+        ) => assert_eq!(rt; number, -5),
+        _ => panic!(rt; "a GDPR FORGET"),
+    }
     Ok(())
 }
