@@ -42,7 +42,10 @@ fn words_of<R: Env + AllocGlobal>(rt: &R) -> Result<Vec<String>, Ending> {
 }
 
 /// Serves the words behind the program's name. The one store that there is yet is `-`, an empty disk in memory.
-fn serve<R: Input + Print + AllocGlobal + Threads + Wait + Sync>(rt: &R, words: &[String]) -> Ending {
+fn serve<R: Input + Print + AllocGlobal + Threads + Wait + Sync>(
+    rt: &R,
+    words: &[String],
+) -> Ending {
     match words {
         [_, store, words @ ..] if store.as_str() == "-" => serve_memory(rt, words),
         _ => usage(),
@@ -59,8 +62,21 @@ fn serve_memory<R: Input + Print + AllocGlobal + Threads + Wait + Sync>(
     };
     let mut source = StdinSource::new(rt);
     let mut sink = StdoutSink::new(rt);
-    let served = run(rt, rt.alloc(), words, &mut source, &mut sink, disk, &NowGate);
-    let Served { status, fault, history, disk: _ } = served;
+    let served = run(
+        rt,
+        rt.alloc(),
+        words,
+        &mut source,
+        &mut sink,
+        disk,
+        &NowGate,
+    );
+    let Served {
+        status,
+        fault,
+        history,
+        disk: _,
+    } = served;
     drop(history);
     Ending { status, fault }
 }

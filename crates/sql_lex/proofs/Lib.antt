@@ -1,0 +1,7 @@
+pub mod Fillers
+pub mod FirstByte
+pub mod Marks
+pub mod Nexts
+pub mod Once
+pub mod Quotes
+pub mod Words

@@ -1,0 +1,21 @@
+use Rattle.std.proofs.Common.{◌≡◌, length, codes, arith, sym, ap, ◌∙◌, subst}
+use Rattle.sql_reader.specs.Limits.{store_limits}
+use Rattle.sql_reader.specs.Reading.{◌>>◌}
+use Rattle.sql_reader.specs.Rules as rules
+use Rattle.sql_reader.specs.Token.{is_mark}
+use Rattle.sql_reader.specs.Reading.{then_read}
+use Rattle.sql_reader.proofs.Listing.{Listing, Listing-step, Listing-end}
+use Rattle.sql_reader.proofs.rule.values.Goals as goal
+
+pub loop-alloc-preserved : goal.loop-alloc-preserved
+loop-alloc-preserved c =
+    let reads = ap (λ o. then_read o (λ _. rules.literal store_limits)) c.in_ok-mark.ensures.does.0 ∙ c.in_ok-value.ensures.0 in
+    record {
+      listing = subst (λ list. Listing (is_mark (codes ",")) (rules.mark (codes ",") >> rules.literal store_limits) (rules.values store_limits c.args.cursor.now) list c.literal-in-loop-alloc.new.cursor) (sym c.in_ok-add.ensures.added)
+          (Listing-step _ _ _ c.loop-alloc.values c.loop-alloc.cursor c.in_ok-value.value c.literal-in-loop-alloc.new.cursor c.loop-alloc.invariant.listing (sym c.next_is_mark.ensures ∙ c.loop-alloc-test.true) reads (omega (arith, c.in_ok-mark.ensures.shorter, c.in_ok-value.ensures.1)));
+      shorter = omega (arith, c.in_ok-mark.ensures.shorter, c.in_ok-value.ensures.1, c.loop-alloc.invariant.shorter);
+    }
+
+pub returns : goal.returns
+returns c =
+    (Listing-end _ _ _ c.loop-alloc.values c.loop-alloc.cursor c.loop-alloc.invariant.listing (sym c.next_is_mark.ensures ∙ c.loop-alloc-test.false), c.loop-alloc.invariant.shorter)

@@ -1,0 +1,18 @@
+use Rattle.std.proofs.Common.{◌≤◌, length, codes}
+use Rattle.sql_reader.specs.Limits.{store_limits}
+use Rattle.sql_reader.specs.Reading.{◌>>◌}
+use Rattle.sql_reader.specs.Statements as rules
+use Rattle.sql_reader.specs.Token.{is_mark}
+use Rattle.sql_reader.specs.Rules.{mark, tuple}
+use Rattle.sql_reader.proofs.Listing.{Listing}
+use Rattle.sql_reader.proofs.statement.tuples.Given as goal
+
+abbrev pub invariant-loop-alloc : goal.invariant-loop-alloc
+invariant-loop-alloc l =
+    record {
+      listing : Listing (is_mark (codes ",")) (mark (codes ",") >> tuple store_limits) (rules.tuples store_limits l.fn.cursor) l.rows l.cursor;
+      shorter : length l.cursor ≤ length l.fn.cursor;
+    }
+
+abbrev pub decreases-loop-alloc : goal.decreases-loop-alloc
+decreases-loop-alloc l = length l.cursor

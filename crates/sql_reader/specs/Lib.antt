@@ -1,0 +1,10 @@
+pub mod Condition
+pub mod Create
+pub mod Cut
+pub mod Limits
+pub mod Outcomes
+pub mod Reading
+pub mod Rules
+pub mod Select
+pub mod Statements
+pub mod Token

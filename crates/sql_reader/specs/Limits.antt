@@ -1,0 +1,17 @@
+-- The limits of the grammar.
+use Rattle.std.specs.Prelude.{ℕ, Bool, true, nat_le, Option, None, Some}
+
+-- the greatest numbers of bytes of a name, of bytes of a text's value and of items of a select, where there are limits
+pub record Limits : Type 0 where
+  pub name : Option ℕ
+  pub text : Option ℕ
+  pub items : Option ℕ
+
+-- at most as much as the limit
+abbrev pub fits : Option ℕ → ℕ → Bool
+fits None count = true
+fits (Some most) count = nat_le count most
+
+-- the limits of the store
+abbrev pub store_limits : Limits
+store_limits = record { name = Some 64; text = Some 4096; items = Some 64 }

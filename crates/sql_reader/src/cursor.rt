@@ -1,0 +1,202 @@
+ghost use Rattle.std.specs.Prelude.{◌≡◌, ◌<◌, length, map, Err, OnOk};
+ghost use Rattle.sql_reader.specs.Limits.{store_limits};
+ghost use Rattle.sql_reader.specs.Outcomes.{ended, place_of};
+ghost use Rattle.sql_reader.specs.Reading.{Does, accept, next_is};
+ghost use Rattle.sql_reader.specs.Rules as rules;
+ghost use Rattle.sql_reader.specs.Select.{slot_of};
+ghost use Rattle.sql_reader.specs.Token as spec;
+
+use crate::fault::Fault;
+use crate::literal::{name_of, number_of, text_of};
+use own_base::{Name, Text};
+use own_model::LimitName;
+use sql_lex::{Token, TokenKind};
+use std::alloc::Global;
+use std::marker::Model;
+
+/// The tokens that are still to be read.
+#[derive(Debug, Drop)]
+pub struct Cursor<'a> {
+    tokens: &'a [Token<'a>],
+}
+
+impl<'a> Model for Cursor<'a> {
+    ghost use Rattle.std.specs.Prelude.{List, map};
+    ghost use Rattle.sql_reader.specs.Token.{Token, token_of};
+
+    ghost Value = { List Token };
+
+    ghost view = { λ cursor. map token_of cursor.tokens.now };
+}
+
+fn is_word(token: &Token, word: &[u8]) -> bool
+    ensures { result ≡ spec.is_word word.now (spec.token_of token.now) }
+{
+    match token.kind {
+        TokenKind::Keyword => token.text.as_bytes().eq_ignore_ascii_case(word),
+        _ => false,
+    }
+}
+
+fn is_mark(token: &Token, mark: &[u8]) -> bool
+    ensures { result ≡ spec.is_mark mark.now (spec.token_of token.now) }
+{
+    match token.kind {
+        TokenKind::Mark => token.text.as_bytes() == mark,
+        _ => false,
+    }
+}
+
+impl<'a> Cursor<'a> {
+    /// At the first of the tokens.
+    pub fn new(tokens: &'a [Token<'a>]) -> Cursor<'a>
+        ensures { result ≡ map spec.token_of tokens.now }
+    {
+        Cursor { tokens }
+    }
+
+    /// Whether this keyword comes next.
+    pub fn next_is_word(&self, word: &[u8]) -> bool
+        ensures { result ≡ next_is (spec.is_word word.now) self.now }
+    {
+        match self.tokens.first() {
+            Some(token) => is_word(token, word),
+            None => false,
+        }
+    }
+
+    /// Whether this mark comes next.
+    pub fn next_is_mark(&self, mark: &[u8]) -> bool
+        ensures { result ≡ next_is (spec.is_mark mark.now) self.now }
+    {
+        match self.tokens.first() {
+            Some(token) => is_mark(token, mark),
+            None => false,
+        }
+    }
+
+    /// Whether a name comes next.
+    pub fn next_is_name(&self) -> bool
+        ensures { result ≡ next_is spec.is_name self.now }
+    {
+        match self.tokens.first() {
+            Some(token) => matches!(token.kind, TokenKind::Name),
+            None => false,
+        }
+    }
+
+    /// Whether a text in quotes comes next.
+    pub fn next_is_quoted(&self) -> bool
+        ensures { result ≡ next_is spec.is_quoted self.now }
+    {
+        match self.tokens.first() {
+            Some(token) => matches!(token.kind, TokenKind::Quoted),
+            None => false,
+        }
+    }
+
+    /// Takes this keyword.
+    pub fn word(&mut self, word: &[u8]) -> Result<(), Fault>
+        ensures does { Does (rules.word word.now) self.old result self.new }
+        ensures shorter { OnOk result (length self.new < length self.old) }
+    {
+        if self.next_is_word(word) {
+            self.tokens = &self.tokens[1..];
+            Ok(())
+        } else {
+            Err(Fault::Syntax)
+        }
+    }
+
+    /// Takes this mark.
+    pub fn mark(&mut self, mark: &[u8]) -> Result<(), Fault>
+        ensures does { Does (rules.mark mark.now) self.old result self.new }
+        ensures shorter { OnOk result (length self.new < length self.old) }
+    {
+        if self.next_is_mark(mark) {
+            self.tokens = &self.tokens[1..];
+            Ok(())
+        } else {
+            Err(Fault::Syntax)
+        }
+    }
+
+    /// Takes a name.
+    #[tactic(auto, unfolding(crate::specs::Rules::name))]
+    pub fn name(&mut self, alloc: Global) -> Result<Name, Fault>
+        ensures { Does (rules.name store_limits) self.old result self.new }
+    {
+        match self.tokens.first() {
+            Some(token) => {
+                let name = name_of(alloc, token)?;
+                self.tokens = &self.tokens[1..];
+                Ok(name)
+            }
+            None => Err(Fault::Syntax),
+        }
+    }
+
+    /// Takes a number, whose sign was taken.
+    #[tactic(auto, unfolding(crate::specs::Rules::number))]
+    pub fn number(&mut self, negative: bool) -> Result<i64, Fault>
+        ensures { Does (rules.number negative) self.old result self.new }
+    {
+        match self.tokens.first() {
+            Some(token) => {
+                let number = number_of(negative, token)?;
+                self.tokens = &self.tokens[1..];
+                Ok(number)
+            }
+            None => Err(Fault::Syntax),
+        }
+    }
+
+    /// Takes a text in quotes.
+    #[tactic(auto, unfolding(crate::specs::Rules::text))]
+    pub fn text(&mut self, alloc: Global) -> Result<Text, Fault>
+        ensures { Does (rules.text store_limits) self.old result self.new }
+    {
+        match self.tokens.first() {
+            Some(token) => {
+                let text = text_of(alloc, token)?;
+                self.tokens = &self.tokens[1..];
+                Ok(text)
+            }
+            None => Err(Fault::Syntax),
+        }
+    }
+
+    /// What is wrong where an item comes above the limit: the limit, if an item begins there.
+    pub fn no_item(&self) -> Fault
+        ensures { accept slot_of self.now ≡ Err (result, self.now) }
+    {
+        match self.tokens.first() {
+            Some(token) => match token.kind {
+                TokenKind::Name => Fault::Limit(LimitName::Items),
+                _ => Fault::Syntax,
+            },
+            None => Fault::Syntax,
+        }
+    }
+
+    /// Nothing is to be read any more.
+    pub fn ended(&mut self) -> Result<(), Fault>
+        ensures { Does ended self.old result self.new }
+    {
+        if self.tokens.is_empty() {
+            Ok(())
+        } else {
+            Err(Fault::Syntax)
+        }
+    }
+
+    /// The byte at which the next token begins, or the text's length.
+    pub fn place(&self, len: u32) -> u32
+        ensures { result ≡ place_of len self.now }
+    {
+        match self.tokens.first() {
+            Some(token) => token.start,
+            None => len,
+        }
+    }
+}

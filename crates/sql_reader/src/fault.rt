@@ -1,0 +1,32 @@
+use own_model::LimitName;
+use std::alloc::{AllocError, AllocFailed};
+
+/// Why nothing is read, without its place.
+#[derive(Clone, Copy, Debug, PartialEq, Eq)]
+pub enum Fault {
+    Syntax,
+    Limit(LimitName),
+    Memory,
+}
+
+/// Why no statement is read.
+#[derive(Clone, Copy, Debug, PartialEq, Eq)]
+pub enum ReadFault {
+    /// The byte at which the reading rules stop: the first of a token, or the text's length.
+    Syntax(u32),
+    /// The limit at which they stop.
+    Limit(LimitName),
+    /// Memory was refused.
+    Memory,
+}
+
+impl From<AllocError> for Fault {
+    ghost use Rattle.std.specs.Prelude.{◌≡◌};
+    ghost use Rattle.sql_reader.specs.declared.fault.Fault.TheVariants.{Memory};
+
+    ghost from_gives = { λ _ fault. fault ≡ Memory };
+
+    fn from(_error: AllocError) -> Fault {
+        Fault::Memory
+    }
+}

@@ -1,0 +1,193 @@
+ghost use Rattle.std.specs.Prelude.{◌≡◌, ◌≢◌, ◌<◌, ◌≤◌, ◌^◌, ◌==◌, ◌∷◌, ◌++◌, ℕ, length, slice_index, All, IfOk, IfSome, IfNone, MatchOption, string_bytes, IsUtf8, false};
+ghost use Rattle.std.specs.List.{list_all};
+ghost use Rattle.own_base.specs.Name.{is_spelled, begins_name, continues_name};
+ghost use Rattle.sql_lex.specs.Bytes.{first_passes};
+ghost use Rattle.sql_reader.specs.Limits.{store_limits};
+ghost use Rattle.sql_reader.specs.Reading.{Judges};
+ghost use Rattle.sql_reader.specs.Token.{token_of, name_of, number_of, text_of, digits_behind, undoubled, folded, ranged, short_text, value_of};
+
+use crate::fault::Fault;
+use own_base::{Name, Text};
+use own_model::LimitName;
+use sql_lex::{Token, TokenKind};
+use std::alloc::{AllocError, Global};
+
+const QUOTE: u8 = b'\'';
+
+/// A lower-case letter or `_`.
+fn begins_name(byte: u8) -> bool
+    ensures { result ≡ begins_name byte }
+{
+    (b'a' <= byte && byte <= b'z') || byte == b'_'
+}
+
+/// A lower-case letter, a digit or `_`.
+fn continues_name(byte: u8) -> bool
+    ensures { result ≡ continues_name byte }
+{
+    begins_name(byte) || (b'0' <= byte && byte <= b'9')
+}
+
+/// Whether each byte may stand in a name.
+fn all_continue(bytes: &[u8]) -> bool
+    ensures { result ≡ list_all continues_name bytes.now }
+{
+    bytes.iter().all(|byte| continues_name(*byte))
+}
+
+/// Whether a schema may spell a name so, whatever its length.
+fn is_spelled(name: &[u8]) -> bool
+    ensures { result ≡ is_spelled name.now }
+{
+    !name.is_empty() && begins_name(name[0]) && all_continue(&name[1..])
+}
+
+/// A name in lower case.
+fn folded(alloc: Global, name: &str) -> Result<Name, Fault>
+    ensures { Judges (folded store_limits name.now) result }
+{
+    if !is_spelled(name.as_bytes()) {
+        return Err(Fault::Syntax);
+    }
+    if name.len() > 64 {
+        return Err(Fault::Limit(LimitName::Name));
+    }
+    let name = Name::from_str(alloc, name)?;
+    Ok(name)
+}
+
+/// The name that a token is.
+pub fn name_of(alloc: Global, token: &Token) -> Result<Name, Fault>
+    ensures { Judges (name_of store_limits (token_of token.now)) result }
+{
+    match token.kind {
+        TokenKind::Name => {
+            let lower = token.text.to_ascii_lowercase(alloc)?;
+            folded(alloc, lower.as_str())
+        }
+        _ => Err(Fault::Syntax),
+    }
+}
+
+/// The number that the digits write, where it is at most 2^63.
+fn magnitude(digits: &[u8]) -> Option<u128>
+    ensures { MatchOption result (2 ^ 63 < digits_behind 0 digits.now)
+        (λ number. (number ≡ digits_behind 0 digits.now) × (number ≤ 2 ^ 63)) }
+{
+    let mut number: u128 = 0;
+    for digit in digits {
+        number = 10 * number + u128::from(digit.saturating_sub(b'0'));
+        if number > 1 << 63 {
+            return None;
+        }
+    }
+    Some(number)
+}
+
+/// The number with its sign, where i64 has it.
+fn ranged(negative: bool, digits: &[u8]) -> Result<i64, Fault>
+    ensures { Judges (ranged negative (digits_behind 0 digits.now)) result }
+{
+    match magnitude(digits) {
+        Some(number) if negative => Ok(-(number as i128) as i64),
+        Some(number) if number < 1 << 63 => Ok(number as i64),
+        _ => Err(Fault::Syntax),
+    }
+}
+
+/// The number that a token is.
+pub fn number_of(negative: bool, token: &Token) -> Result<i64, Fault>
+    ensures { Judges (number_of negative (token_of token.now)) result }
+{
+    match token.kind {
+        TokenKind::Number => ranged(negative, token.text.as_bytes()),
+        _ => Err(Fault::Syntax),
+    }
+}
+
+/// Where the first quote is, if there is one.
+fn quote_at(bytes: &[u8]) -> Option<usize>
+    ensures found { IfSome result (λ at. (at < length bytes.now) × (slice_index bytes.now at ≡ 39)) }
+    ensures before { IfSome result (λ at. (k : ℕ) → k < at → slice_index bytes.now k ≢ 39) }
+    ensures none { IfNone result (All (λ byte. byte ≢ 39) bytes.now) }
+{
+    bytes.iter().position(|byte| *byte == QUOTE)
+}
+
+/// What comes before and behind the first quote, if there is one.
+fn split_at_quote(text: &str) -> Option<(&str, &str)>
+    ensures found { IfSome result (λ parts. (text.now ≡ parts.0.now ++ 39 ∷ parts.1.now) × All (λ byte. byte ≢ 39) parts.0.now) }
+    ensures texts { IfSome result (λ parts. IsUtf8 parts.0.now × IsUtf8 parts.1.now) }
+    ensures none { IfNone result (All (λ byte. byte ≢ 39) text.now) }
+{
+    match quote_at(text.as_bytes()) {
+        Some(at) => Some((&text[..at], &text[at + 1..])),
+        None => None,
+    }
+}
+
+/// What comes behind a quote at the front.
+fn behind_quote(text: &str) -> Option<&str>
+    ensures found { IfSome result (λ behind. text.now ≡ 39 ∷ behind.now) }
+    ensures texts { IfSome result (λ behind. IsUtf8 behind.now) }
+    ensures none { IfNone result (first_passes (λ byte. byte == 39) text.now ≡ false) }
+{
+    let bytes = text.as_bytes();
+    if bytes.is_empty() || bytes[0] != QUOTE {
+        return None;
+    }
+    Some(&text[1..])
+}
+
+/// The value of a text, of which the bytes behind its first quote are given.
+fn undoubled(alloc: Global, inside: &str) -> Result<String, AllocError>
+    ensures { IfOk result (λ value. string_bytes value ≡ undoubled false inside.now) }
+{
+    let mut value = String::new(alloc);
+    let mut rest = inside;
+    while let Some((front, back)) = split_at_quote(rest) {
+        value.push_str(front)?;
+        rest = match behind_quote(back) {
+            Some(behind) => {
+                value.push_str("'")?;
+                behind
+            }
+            None => back,
+        };
+    }
+    value.push_str(rest)?;
+    Ok(value)
+}
+
+/// A text of at most 4,096 bytes.
+fn short_text(value: String) -> Result<Text, Fault>
+    ensures { Judges (short_text store_limits (string_bytes value)) result }
+{
+    if value.len() > 4096 {
+        return Err(Fault::Limit(LimitName::Text));
+    }
+    Ok(Text::from_string(value))
+}
+
+/// The value of a text in quotes.
+fn value_of(alloc: Global, text: &str) -> Result<Text, Fault>
+    ensures { Judges (value_of store_limits text.now) result }
+{
+    match behind_quote(text) {
+        Some(inside) => {
+            let value = undoubled(alloc, inside)?;
+            short_text(value)
+        }
+        None => Err(Fault::Syntax),
+    }
+}
+
+/// The text that a token is.
+pub fn text_of(alloc: Global, token: &Token) -> Result<Text, Fault>
+    ensures { Judges (text_of store_limits (token_of token.now)) result }
+{
+    match token.kind {
+        TokenKind::Quoted => value_of(alloc, token.text),
+        _ => Err(Fault::Syntax),
+    }
+}

@@ -1,0 +1,38 @@
+ghost use Rattle.std.specs.Prelude.{◌≡◌, ◌<◌, ◌^◌, length};
+ghost use Rattle.sql_reader.specs.Outcomes.{whole, IsAnswer};
+ghost use Rattle.sql_reader.specs.Reading.{Does};
+
+use crate::cursor::Cursor;
+use crate::fault::{Fault, ReadFault};
+use crate::statement::statement;
+use crate::tokens::tokens;
+use own_model::Statement;
+use std::alloc::Global;
+
+/// A statement, and nothing behind it.
+#[tactic(auto, unfolding(crate::specs::Outcomes::whole))]
+fn whole(cursor: &mut Cursor, alloc: Global) -> Result<Statement, Fault>
+    ensures { Does whole cursor.old result cursor.new }
+{
+    let found = statement(cursor, alloc)?;
+    cursor.ended()?;
+    Ok(found)
+}
+
+/// The statement that a text is, by the reading rules of `specs/`. No statement is read in part: a fault tells the byte
+/// at which the rules stop, or the limit at which they do. That no other statement has the text isn't proved yet.
+pub fn read_statement(alloc: Global, text: &str) -> Result<Statement, ReadFault>
+    requires { length text.now < 2 ^ 32 }
+    ensures { IsAnswer text.now result }
+{
+    let Ok(found) = tokens(alloc, text) else {
+        return Err(ReadFault::Memory);
+    };
+    let mut cursor = Cursor::new(found.as_slice());
+    match whole(&mut cursor, alloc) {
+        Ok(statement) => Ok(statement),
+        Err(Fault::Memory) => Err(ReadFault::Memory),
+        Err(Fault::Limit(limit)) => Err(ReadFault::Limit(limit)),
+        Err(Fault::Syntax) => Err(ReadFault::Syntax(cursor.place(text.len() as u32))),
+    }
+}

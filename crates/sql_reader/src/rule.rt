@@ -1,0 +1,161 @@
+ghost use Rattle.sql_reader.specs.Limits.{store_limits};
+ghost use Rattle.sql_reader.specs.Reading.{Does};
+ghost use Rattle.sql_reader.specs.Rules as rules;
+
+use crate::cursor::Cursor;
+use crate::fault::Fault;
+use crate::list::{add, list_of_one};
+use own_base::{List, Name, Value};
+use own_model::{ColRef, Expr};
+use std::alloc::Global;
+
+/// A number with its sign.
+#[tactic(auto, unfolding(crate::specs::Rules::int))]
+pub fn int(cursor: &mut Cursor) -> Result<i64, Fault>
+    ensures { Does rules.int cursor.old result cursor.new }
+{
+    if cursor.next_is_mark(b"-") {
+        cursor.mark(b"-")?;
+        return cursor.number(true);
+    }
+    cursor.number(false)
+}
+
+/// Names, parted by commas.
+#[tactic(auto, unfolding(crate::specs::Rules::names))]
+pub fn names(cursor: &mut Cursor, alloc: Global) -> Result<List<Name>, Fault>
+    ensures { Does (rules.names store_limits) cursor.old result cursor.new }
+{
+    let first = cursor.name(alloc)?;
+    let mut names = list_of_one(alloc, first)?;
+    while cursor.next_is_mark(b",") {
+        cursor.mark(b",")?;
+        let name = cursor.name(alloc)?;
+        add(&mut names, name)?;
+    }
+    Ok(names)
+}
+
+/// A name in brackets.
+#[tactic(auto, unfolding(crate::specs::Rules::one_name))]
+pub fn one_name(cursor: &mut Cursor, alloc: Global) -> Result<Name, Fault>
+    ensures { Does (rules.one_name store_limits) cursor.old result cursor.new }
+{
+    cursor.mark(b"(")?;
+    let column = cursor.name(alloc)?;
+    cursor.mark(b")")?;
+    Ok(column)
+}
+
+/// Names in brackets.
+#[tactic(auto, unfolding(crate::specs::Rules::bracketed_names))]
+pub fn bracketed_names(cursor: &mut Cursor, alloc: Global) -> Result<List<Name>, Fault>
+    ensures { Does (rules.bracketed_names store_limits) cursor.old result cursor.new }
+{
+    cursor.mark(b"(")?;
+    let columns = names(cursor, alloc)?;
+    cursor.mark(b")")?;
+    Ok(columns)
+}
+
+/// The column that begins with this name.
+#[tactic(auto, unfolding(crate::specs::Rules::col_behind))]
+pub fn col_behind(cursor: &mut Cursor, alloc: Global, first: Name) -> Result<ColRef, Fault>
+    ensures { Does (rules.col_behind store_limits first) cursor.old result cursor.new }
+{
+    if cursor.next_is_mark(b".") {
+        cursor.mark(b".")?;
+        let column = cursor.name(alloc)?;
+        return Ok(ColRef {
+            table: Some(first),
+            column,
+        });
+    }
+    Ok(ColRef {
+        table: None,
+        column: first,
+    })
+}
+
+/// A column.
+#[tactic(auto, unfolding(crate::specs::Rules::col))]
+pub fn col(cursor: &mut Cursor, alloc: Global) -> Result<ColRef, Fault>
+    ensures { Does (rules.col store_limits) cursor.old result cursor.new }
+{
+    let first = cursor.name(alloc)?;
+    col_behind(cursor, alloc, first)
+}
+
+/// NULL, a number or a text.
+#[tactic(auto, unfolding(crate::specs::Rules::literal))]
+pub fn literal(cursor: &mut Cursor, alloc: Global) -> Result<Value, Fault>
+    ensures { Does (rules.literal store_limits) cursor.old result cursor.new }
+{
+    if cursor.next_is_word(b"NULL") {
+        cursor.word(b"NULL")?;
+        return Ok(Value::Null);
+    }
+    if cursor.next_is_quoted() {
+        let text = cursor.text(alloc)?;
+        return Ok(Value::Text(text));
+    }
+    let number = int(cursor)?;
+    Ok(Value::Int(number))
+}
+
+/// A tuple of values.
+#[tactic(auto, unfolding(crate::specs::Rules::tuple))]
+pub fn tuple(cursor: &mut Cursor, alloc: Global) -> Result<List<Value>, Fault>
+    ensures { Does (rules.tuple store_limits) cursor.old result cursor.new }
+{
+    cursor.mark(b"(")?;
+    let values = values(cursor, alloc)?;
+    cursor.mark(b")")?;
+    Ok(values)
+}
+
+/// Values, parted by commas.
+#[tactic(auto, unfolding(crate::specs::Rules::values))]
+pub fn values(cursor: &mut Cursor, alloc: Global) -> Result<List<Value>, Fault>
+    ensures { Does (rules.values store_limits) cursor.old result cursor.new }
+{
+    let first = literal(cursor, alloc)?;
+    let mut values = list_of_one(alloc, first)?;
+    while cursor.next_is_mark(b",") {
+        cursor.mark(b",")?;
+        let value = literal(cursor, alloc)?;
+        add(&mut values, value)?;
+    }
+    Ok(values)
+}
+
+/// The expression that begins with this column.
+#[tactic(auto, unfolding(crate::specs::Rules::sum_behind))]
+pub fn sum_behind(cursor: &mut Cursor, column: Name) -> Result<Expr, Fault>
+    ensures { Does (rules.sum_behind column) cursor.old result cursor.new }
+{
+    if cursor.next_is_mark(b"+") {
+        cursor.mark(b"+")?;
+        let more = int(cursor)?;
+        return Ok(Expr::Plus(column, more));
+    }
+    if cursor.next_is_mark(b"-") {
+        cursor.mark(b"-")?;
+        let less = int(cursor)?;
+        return Ok(Expr::Minus(column, less));
+    }
+    Ok(Expr::Column(column))
+}
+
+/// What an UPDATE sets a column to.
+#[tactic(auto, unfolding(crate::specs::Rules::expr_rule))]
+pub fn expr(cursor: &mut Cursor, alloc: Global) -> Result<Expr, Fault>
+    ensures { Does (rules.expr_rule store_limits) cursor.old result cursor.new }
+{
+    if cursor.next_is_name() {
+        let column = cursor.name(alloc)?;
+        return sum_behind(cursor, column);
+    }
+    let found = literal(cursor, alloc)?;
+    Ok(Expr::Literal(found))
+}

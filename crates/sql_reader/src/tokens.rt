@@ -1,0 +1,29 @@
+ghost use Rattle.std.specs.Prelude.{◌<◌, ◌^◌, length, IfOk};
+ghost use Rattle.sql_reader.specs.Cut.{Cut};
+
+use sql_lex::{Lexer, SyntaxAt, Token, TokenKind};
+use std::alloc::{AllocError, Global};
+
+/// The tokens of a text, in order. Where no token begins at a byte, a mark without bytes stands last.
+pub fn tokens(alloc: Global, text: &str) -> Result<Vec<Token<'_>>, AllocError>
+    requires { length text.now < 2 ^ 32 }
+    ensures { IfOk result (λ tokens. Cut (record { text = text.now; at = 0 }) tokens.items) }
+{
+    let mut tokens = Vec::new(alloc);
+    let mut lexer = Lexer::new(text);
+    loop {
+        match lexer.next() {
+            Ok(Some(token)) => tokens.push(token)?,
+            Ok(None) => return Ok(tokens),
+            Err(SyntaxAt(at)) => {
+                tokens.push(Token {
+                    kind: TokenKind::Mark,
+                    text: "",
+                    start: at,
+                    end: at,
+                })?;
+                return Ok(tokens);
+            }
+        }
+    }
+}
