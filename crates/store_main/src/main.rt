@@ -91,3 +91,6 @@ fn main(rt: HostRuntime) -> ExitCode {
     }
     ExitCode::from(ending.status)
 }
+
+#[cfg(test)]
+mod tests;
