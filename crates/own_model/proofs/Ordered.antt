@@ -1,10 +1,9 @@
 -- The keys of each table rise strictly, whatever statements run.
-use Rattle.std.proofs.Common.{◌≡◌, ℕ, zero, suc, ◌+◌, ◌≤◌, List, [], ◌∷◌, ◌++◌, map, fold, Bool, true, false, ◌||◌, refl, ap, sym, subst, ◌∙◌, arith}
+use Rattle.std.proofs.Common.{◌≡◌, ℕ, zero, suc, ◌+◌, ◌≤◌, List, [], ◌∷◌, ◌++◌, map, fold, Bool, true, false, refl, subst, arith}
 use Rattle.std.specs.Prelude.{Result, Ok, Err, Option, Some, None, slice_set}
 use Rattle.std.specs.List.{AllByRecursion, list_any}
 use Rattle.std.specs.List.Sorted.{IsStrictlySortedBy}
 use Rattle.std.specs.Str.{bytes_eq}
-use Rattle.std.specs.Cmp.{IsTotalOrder}
 use Rattle.std.specs.declared.cmp.Ordering.{Ordering}
 use Rattle.std.specs.declared.cmp.Ordering.TheVariants.{Less, Equal, Greater}
 use Rattle.own_base.specs.Key.{key_cmp}
@@ -17,7 +16,7 @@ use Rattle.own_model.specs.declared.statement.Statement.TheVariants as statement
 use Rattle.own_model.specs.Create.{create, definition_of}
 use Rattle.own_model.specs.Db.{Db, Row, Table, empty, AreRising, IsOrdered, IsRising, key_of, table_from}
 use Rattle.own_model.specs.History.{History, World, flat, happens, left_by, world}
-use Rattle.own_model.specs.Run.{has_key, insert, is_equal, is_less, precedes, put, run, with_row, with_tuple}
+use Rattle.own_model.specs.Run.{has_key, insert, put, run, with_row, with_tuple}
 use Rattle.own_model.proofs.KeyOrder.{key_order}
 
 -- the other way round

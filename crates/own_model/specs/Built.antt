@@ -1,5 +1,5 @@
 -- Which requests are built.
-use Rattle.std.specs.Prelude.{ℕ, length, ◌==◌, if◌then◌else◌}
+use Rattle.std.specs.Prelude.{length, ◌==◌, if◌then◌else◌}
 use Rattle.own_model.specs.declared.request.Request.{Request}
 use Rattle.own_model.specs.declared.request.Request.TheVariants.{Run, Syntax}
 use Rattle.own_model.specs.declared.schema.Schema.{Schema}

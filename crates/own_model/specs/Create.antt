@@ -1,9 +1,8 @@
 -- What a CREATE adds to a database.
-use Rattle.std.specs.Prelude.{ℕ, ◌+◌, List, [], ◌∷◌, ◌++◌, Bool, true, false, ◌||◌, Option, None, Some, codes, if◌then◌else◌}
+use Rattle.std.specs.Prelude.{ℕ, ◌+◌, List, [], ◌∷◌, ◌++◌, Bool, true, false, None, codes, if◌then◌else◌}
 use Rattle.std.specs.List.{list_any}
 use Rattle.own_model.specs.declared.create.Attr.{Attr}
 use Rattle.own_model.specs.declared.create.Attr.TheVariants as attr
-use Rattle.own_model.specs.declared.create.ColumnDef.{ColumnDef}
 use Rattle.own_model.specs.declared.create.CreateTable.{CreateTable}
 use Rattle.own_model.specs.declared.create.Part.{Part}
 use Rattle.own_model.specs.declared.create.Part.TheVariants as part

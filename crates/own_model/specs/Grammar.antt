@@ -1,5 +1,5 @@
 -- The statements of the calls, as rules on tokens: a rule gives what it reads at the front, and the tokens behind it.
-use Rattle.std.specs.Prelude.{ℕ, zero, suc, ℤ, pos, negsuc, ◌^◌, List, [], ◌∷◌, length, Bool, true, false, not, nat_le, nat_lt, ◌==◌, ◌||◌, ◌&&◌, Option, None, Some, codes, if◌then◌else◌}
+use Rattle.std.specs.Prelude.{ℕ, zero, suc, ℤ, pos, negsuc, ◌^◌, List, [], ◌∷◌, length, Bool, true, not, nat_le, nat_lt, ◌==◌, ◌&&◌, Option, None, Some, codes, if◌then◌else◌}
 use Rattle.std.specs.List.{list_any}
 use Rattle.std.specs.Str.{bytes_eq}
 use Rattle.own_base.specs.declared.value.Value.TheVariants as value

@@ -1,5 +1,5 @@
 -- What a history means: the flat database that it leaves, and the reply at each of its places.
-use Rattle.std.specs.Prelude.{ℕ, ◌+◌, List, [], fold, take, Option, None, Some, slice_get}
+use Rattle.std.specs.Prelude.{ℕ, ◌+◌, List, fold, take, Option, slice_get}
 use Rattle.std.specs.Option.{option_map}
 use Rattle.own_model.specs.declared.history.Entry.{Entry}
 use Rattle.own_model.specs.declared.refusal.Refusal.TheVariants as refusal
