@@ -1,5 +1,5 @@
 -- What a row put into one of the tables does to the database.
-use Rattle.std.proofs.Common.{◌≡◌, ℕ, Bool, false, List, [], map, refl, ap, sym, ◌∙◌}
+use Rattle.std.proofs.Common.{◌≡◌, ℕ, false, List, [], map, ap, sym, ◌∙◌}
 use Rattle.std.proofs.lemmas.List.{map-set, set-get_or}
 use Rattle.std.proofs.Math.Seq.{map-set_same}
 use Rattle.std.specs.Prelude.{Result, Ok, Err, Some, slice_index_or, slice_set}

@@ -1,6 +1,6 @@
 -- From the calls of an input to a run.
 use Rattle.std.proofs.Common.{◌≡◌, ℕ, ◌+◌, ◌≤◌, length, arith, List, [], ◌∷◌, Bool, true, false, refl, sym, subst, ◌∙◌, inl, inr, ltb-false, append-nil}
-use Rattle.std.specs.Prelude.{Option, None, Some, Result, Ok, Err, ◌≢◌, ◌⊎◌, ◌==◌, not, nat_lt, if◌then◌else◌}
+use Rattle.std.specs.Prelude.{Option, None, Some, Result, Ok, Err, ◌⊎◌, ◌==◌, not, nat_lt, if◌then◌else◌}
 use Rattle.std.specs.Io.KnownBytes.{Consumes, IsAtEnd}
 use Rattle.std.specs.Str.Lossy.{utf8_valid_len}
 use Rattle.own_model.specs.declared.request.Request.{Request}

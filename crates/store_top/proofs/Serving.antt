@@ -8,7 +8,6 @@ use Rattle.own_model.specs.declared.script.ScriptCall.{ScriptCall}
 use Rattle.own_model.specs.Db.{empty}
 use Rattle.own_model.specs.History.{History}
 use Rattle.own_model.specs.Made.{Want, Spared, Unshown, Unmade, added, entry_of}
-use Rattle.own_model.specs.Ran.{HasRun}
 use Rattle.own_model.proofs.Printing.{CallsBelow, EntriesBelow, calls_below-more, entries_below-more, has_run-more, has_run-none}
 use Rattle.store_top.specs.Steps.{AppendsFront, IsNumbered, RunsFront, RunsTo, ServesTo}
 

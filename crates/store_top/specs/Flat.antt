@@ -1,5 +1,5 @@
 -- What the flat tables stand for.
-use Rattle.std.specs.Prelude.{ℕ, List, [], ◌∷◌, map, Bool, false, Result, Ok, Err}
+use Rattle.std.specs.Prelude.{ℕ, List, [], map, false, Result, Ok, Err}
 use Rattle.own_base.specs.declared.value.Key.{Key}
 use Rattle.own_model.specs.declared.refusal.Refusal.TheVariants.{Duplicate}
 use Rattle.own_model.specs.declared.reply.Reply.{Reply}

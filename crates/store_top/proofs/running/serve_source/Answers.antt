@@ -1,5 +1,5 @@
-use Rattle.std.proofs.Common.{◌≤◌, arith, length}
-use Rattle.store_top.proofs.Runs.{run_whole, run_in_part, run_out_of_memory, refuses_input, serial-bytes, serial-none}
+use Rattle.std.proofs.Common.{arith}
+use Rattle.store_top.proofs.Runs.{run_whole, run_in_part, run_out_of_memory, refuses_input, serial-bytes}
 use Rattle.store_top.proofs.running.serve_source.Goals as goal
 
 pub returns-in-Ok-clause-whole : goal.returns-in-Ok-clause-whole

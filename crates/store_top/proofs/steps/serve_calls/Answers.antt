@@ -1,4 +1,4 @@
-use Rattle.std.proofs.Common.{arith, rules}
+use Rattle.std.proofs.Common.{arith}
 use Rattle.store_top.proofs.Serving.{serving-none, serving-more, serving-stops, on_err_holds}
 use Rattle.store_top.proofs.steps.serve_calls.Goals as goal
 

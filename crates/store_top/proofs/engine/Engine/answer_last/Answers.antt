@@ -3,7 +3,6 @@ use Rattle.own_model.specs.Db.{empty}
 use Rattle.own_model.specs.History.{flat, left_by}
 use Rattle.own_model.proofs.Histories.{flat-by_last, reply-by_last}
 use Rattle.own_model.proofs.Ordered.{ordered-empty, ordered-flat}
-use Rattle.store_top.specs.Flat.{db_of}
 use Rattle.store_top.proofs.engine.Engine.answer_last.Goals as goal
 
 pub answer-requires : goal.answer-requires

@@ -1,4 +1,3 @@
-use Rattle.std.proofs.Common.{ap}
 use Rattle.store_top.proofs.Placed.{with_tuple-found, with_tuple-gap}
 use Rattle.store_top.proofs.flat.Table.put.Goals as goal
 

@@ -2,7 +2,7 @@ use Rattle.std.proofs.Common.{rules}
 use Rattle.std.proofs.lemmas.Fn.{always_returns_same}
 use Rattle.own_base.specs.Key.{key_cmp}
 use Rattle.own_model.specs.Db.{key_of}
-use Rattle.store_top.specs.Flat.{definition, rows_of}
+use Rattle.store_top.specs.Flat.{definition}
 use Rattle.store_top.proofs.Placed.{searched_found, searched_gap}
 use Rattle.store_top.proofs.flat.Table.search.Goals as goal
 
