@@ -13,7 +13,7 @@ use Rattle.own_model.specs.Db.{Db}
 use Rattle.own_model.specs.History.{History, reply}
 use Rattle.own_model.specs.Made.{Want, Spared, Unshown, Unmade, Called, added, after_call, entry_of, made, place_by}
 use Rattle.own_model.specs.Printed.{Tells, is_of, lines_at, lines_of, place_from, place_of, printed, reply_lines}
-use Rattle.own_model.specs.Ran.{HasRun, text_of_call}
+use Rattle.own_model.specs.Ran.{HasRun, IsSpared, spared, text_of_call}
 use Rattle.own_model.proofs.Histories.{reply-append}
 
 -- no entry is of the call
@@ -216,3 +216,16 @@ pub told-last : (base : Db) (history : History) (call : ScriptCall) (shown : Rep
     → (want : Want) × (added (entry_of base history call) want ≡ entry_of base history call ∷ [])
     × (reply_lines (Some (length history)) call.session.0 call.call shown ≡ text_of_call base history call want)
 told-last base history call shown told = told_step base history call shown _ refl told
+
+-- calls that memory refused nothing are these calls
+spared-calls : (called : List Called) → IsSpared called → called ≡ spared (map (λ called. called.call) called)
+spared-calls [] all = refl
+spared-calls (called ∷ rest) all = λ i. record { call = called.call; want = all.0 i } ∷ spared-calls rest all.1 i
+
+-- the history and the text of a run in which memory refused nothing
+pub run-spared : (base : Db) (calls : List ScriptCall) (history : History) (text : List ℕ) (run : HasRun base calls history text)
+    → IsSpared run.called → (history ≡ made base (spared calls)) × (text ≡ printed base (made base (spared calls)) (spared calls))
+run-spared base calls history text run all =
+    let same = spared-calls run.called all ∙ ap spared run.calls_are in
+    let history_is = run.history_is ∙ ap (made base) same in
+    (history_is, run.text_is ∙ (ap (λ h. printed base h run.called) history_is ∙ ap (printed base (made base (spared calls))) same))

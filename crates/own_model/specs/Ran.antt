@@ -1,9 +1,10 @@
 -- A run over calls, from beginning to end.
 use Rattle.std.specs.Prelude.{◌≡◌, ℕ, List, ◌++◌, length, map}
+use Rattle.std.specs.List.{AllByRecursion}
 use Rattle.own_model.specs.declared.script.ScriptCall.{ScriptCall}
 use Rattle.own_model.specs.Db.{Db}
 use Rattle.own_model.specs.History.{History}
-use Rattle.own_model.specs.Made.{Called, Want, added, entry_of, made, place_by}
+use Rattle.own_model.specs.Made.{Called, Want, Spared, added, entry_of, made, place_by}
 use Rattle.own_model.specs.Printed.{lines_at, printed}
 
 -- the text of one call more
@@ -19,3 +20,11 @@ pub record HasRun (base : Db) (calls : List ScriptCall) (history : History) (tex
   pub calls_are : map (λ called. called.call) called ≡ calls
   pub history_is : history ≡ made base called
   pub text_is : text ≡ printed base history called
+
+-- each of these calls, where memory refuses none
+abbrev pub spared : List ScriptCall → List Called
+spared calls = map (λ call. record { call = call; want = Spared }) calls
+
+-- memory refused nothing in a run
+abbrev pub IsSpared : List Called → Type 0
+IsSpared called = AllByRecursion (λ called. called.want ≡ Spared) called

@@ -4,11 +4,13 @@ ghost use Rattle.std.specs.Prelude.{◌≡◌, ℕ, ◌+◌, ◌<◌, ◌≤◌,
 ghost use Rattle.std.specs.List.{AllByRecursion};
 ghost use Rattle.own_model.specs.declared.refusal.Refusal.{Refusal};
 ghost use Rattle.own_model.specs.declared.reply.Reply.TheVariants.{Refused};
+ghost use Rattle.own_model.specs.declared.script.ScriptCall.{ScriptCall};
 ghost use Rattle.own_model.specs.Db.{Db, IsOrdered, empty};
 ghost use Rattle.own_model.specs.History.{History, flat, reply};
 ghost use Rattle.own_model.specs.Made.{Called, made};
 ghost use Rattle.own_model.specs.Named.{called_name, entry_name, was_made};
 ghost use Rattle.own_model.specs.Printed.{printed};
+ghost use Rattle.own_model.specs.Ran.{HasRun, IsSpared, spared};
 ghost use Rattle.own_model.specs.Readable.{HasReadable};
 ghost use Rattle.own_model.specs.Serial.{Serial};
 
@@ -46,4 +48,11 @@ pub fn short_readable_history_is_serial()
 pub fn calls_print_one_behind_the_other()
     ensures { (base : Db) (history : History) (calls more : List Called)
         → printed base history (calls ++ more) ≡ printed base history calls ++ printed base history more }
+{}
+
+/// Where memory refuses no call of a run, its history and its text are functions of the database and the calls: each
+/// call's entry in order, and the lines of each call's reply.
+pub fn spared_run_is_a_function_of_its_calls()
+    ensures { (base : Db) (calls : List ScriptCall) (history : History) (text : List ℕ) (run : HasRun base calls history text)
+        → IsSpared run.called → (history ≡ made base (spared calls)) × (text ≡ printed base (made base (spared calls)) (spared calls)) }
 {}
