@@ -90,7 +90,7 @@ fn calls_of(alloc: Global, text: &str) -> Result<Vec<ScriptCall>, InputFault>
         }
         rest = behind;
     }
-    if number > 1 && add_end(&mut calls, number + 1).is_err() {
+    if number > 0 && add_end(&mut calls, number + 1).is_err() {
         return Err(InputFault::Memory);
     }
     Ok(calls)
