@@ -5,6 +5,7 @@ pub mod Built
 pub mod Create
 pub mod Db
 pub mod Fault
+pub mod FaultText
 pub mod Grammar
 pub mod History
 pub mod Made

@@ -18,6 +18,11 @@ pub enum InputFault {
 }
 
 impl fmt::Display for InputFault {
+    ghost use Rattle.std.specs.Prelude.{Some};
+    ghost use Rattle.own_model.specs.FaultText.{fault_text};
+
+    ghost output = { λ fault. Some (fault_text fault) };
+
     /// Where the input is refused, and why. Until the whole reader comes, the byte is always 0.
     fn fmt<W: fmt::Write>(&self, f: &mut fmt::Formatter<W>) -> fmt::Result {
         match self {
