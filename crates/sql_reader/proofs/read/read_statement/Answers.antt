@@ -10,6 +10,6 @@ returns-in-Ok-whole c =
     let read = c.in-Ok-whole.ensures.0 in
     let tokens : c.new-cursor.result ≡ map token_of c.in-Ok.found.items = c.new-cursor.ensures ∙ ap (map token_of) c.as_slice.ensures.value in (
       map token_of c.in-Ok.found.items,
-      (c.in-Ok.found.items, c.in-Ok.ensures, refl),
+      (c.in-Ok.found.items, c.in-Ok.ensures.cut, refl),
       ap whole (sym tokens) ∙ read ∙ ap (λ l. Ok (c.in-Ok-whole.statement, l)) (whole-ends _ _ _ read),
     )
