@@ -1,8 +1,10 @@
 -- The values of names, numbers and texts.
 use Rattle.std.proofs.Common.{◌≡◌, ◌≢◌, ◌<◌, ◌≤◌, ◌+◌, ◌-◌, ◌*◌, ℕ, Bool, true, false, List, [], ◌∷◌, ◌++◌, length, get_or, take, drop, All, refl, sym, ap, ◌∙◌, subst, arith, zero, suc, inl, inr, append_assoc}
-use Rattle.std.specs.Prelude.{◌==◌, ◌&&◌, if◌then◌else◌}
+use Rattle.std.specs.Char.{to_ascii_lowercase}
+use Rattle.std.specs.Prelude.{◌==◌, ◌&&◌, if◌then◌else◌, map}
 use Rattle.std.specs.List.{list_all}
 use Rattle.std.proofs.lemmas.Bool.Decides.{eqb_tells}
+use Rattle.std.proofs.lemmas.List.Folds.{list_all-map}
 use Rattle.own_base.specs.Name.{is_spelled, begins_name, continues_name}
 use Rattle.sql_lex.specs.Bytes.{first_passes}
 use Rattle.sql_reader.specs.Token.{digits_behind, undoubled}
@@ -11,6 +13,11 @@ use Rattle.sql_reader.specs.Token.{digits_behind, undoubled}
 pub is_spelled-some : (name : List ℕ) → 0 < length name → is_spelled name ≡ (begins_name (get_or name 0 0) && list_all continues_name (drop 1 name))
 is_spelled-some [] some = absurd (omega arith)
 is_spelled-some (byte ∷ name) some = refl
+
+-- the same of a name that is put into lower case
+pub is_spelled-lowered : (name : List ℕ) → 0 < length name → is_spelled (map to_ascii_lowercase name) ≡ (begins_name (to_ascii_lowercase (get_or name 0 0)) && list_all (λ byte. continues_name (to_ascii_lowercase byte)) (drop 1 name))
+is_spelled-lowered [] some = absurd (omega arith)
+is_spelled-lowered (byte ∷ name) some = ap (λ rest. begins_name (to_ascii_lowercase byte) && rest) (list_all-map continues_name to_ascii_lowercase name)
 
 -- more digits make no less
 pub digits_behind-grows : (number : ℕ) (digits : List ℕ) → number ≤ digits_behind number digits

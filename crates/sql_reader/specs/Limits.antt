@@ -12,6 +12,10 @@ abbrev pub fits : Option ℕ → ℕ → Bool
 fits None count = true
 fits (Some most) count = nat_le count most
 
+-- no limit at all
+abbrev pub no_limits : Limits
+no_limits = record { name = None; text = None; items = None }
+
 -- the limits of the store
 abbrev pub store_limits : Limits
 store_limits = record { name = Some 64; text = Some 4096; items = Some 64 }

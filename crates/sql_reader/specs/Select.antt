@@ -13,14 +13,13 @@ use Rattle.own_model.specs.declared.select.Order.{Order}
 use Rattle.own_model.specs.declared.select.Select.{Select}
 use Rattle.own_model.specs.declared.select.What.{What}
 use Rattle.own_model.specs.declared.select.What.TheVariants as what
-use Rattle.sql_lex.specs.declared.token.TokenKind.TheVariants.{Name}
 use Rattle.sql_reader.specs.declared.fault.Fault.{Fault}
 use Rattle.sql_reader.specs.declared.fault.Fault.TheVariants.{Syntax, Limit}
 use Rattle.sql_reader.specs.Condition.{condition, is_there}
-use Rattle.sql_reader.specs.Limits.{Limits, fits}
+use Rattle.sql_reader.specs.Limits.{Limits, no_limits, fits}
 use Rattle.sql_reader.specs.Reading.{Reader, Tokens, ◌>>=◌, ◌>>◌, pure, accept, passes, either, optional}
 use Rattle.sql_reader.specs.Rules.{word, mark, name, col, col_behind}
-use Rattle.sql_reader.specs.Token.{Token, Written, Slot, is_word, is_mark}
+use Rattle.sql_reader.specs.Token.{Token, Written, Slot, is_word, is_mark, name_of}
 
 -- COUNT ( * ) behind COUNT
 unfoldable pub count_behind : Reader What
@@ -61,11 +60,15 @@ item limits = do
 abbrev pub slot_item : Item
 slot_item = record { what = what.Count; alias = None }
 
+-- above the limit an item is barred where it would begin: at a name, whatever its length
+abbrev pub barred : Result (List ℕ) Fault → Result Item Fault
+barred (Ok name) = Err (Limit limit.Items)
+barred (Err fault) = Err Syntax
+
 -- above the limit, in the place of an item: a slot alone, and the limit where an item would begin
 abbrev pub slot_of : Token → Result Item Fault
 slot_of Slot = Ok slot_item
-slot_of (Written Name text start) = Err (Limit limit.Items)
-slot_of _ = Err Syntax
+slot_of (Written kind text start) = barred (name_of no_limits (Written kind text start))
 
 -- an item behind so many others
 unfoldable pub item_behind : Limits → ℕ → Reader Item

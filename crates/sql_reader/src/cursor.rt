@@ -7,7 +7,7 @@ ghost use Rattle.sql_reader.specs.Select.{slot_of};
 ghost use Rattle.sql_reader.specs.Token as spec;
 
 use crate::fault::Fault;
-use crate::literal::{name_of, number_of, text_of};
+use crate::literal::{can_be_name, name_of, number_of, text_of};
 use own_base::{Name, Text};
 use own_model::LimitName;
 use sql_lex::{Token, TokenKind};
@@ -166,16 +166,13 @@ impl<'a> Cursor<'a> {
         }
     }
 
-    /// What is wrong where an item comes above the limit: the limit, if an item begins there.
+    /// What is wrong where an item comes above the limit: the limit, if an item can begin there.
     pub fn no_item(&self) -> Fault
         ensures { accept slot_of self.now ≡ Err (result, self.now) }
     {
         match self.tokens.first() {
-            Some(token) => match token.kind {
-                TokenKind::Name => Fault::Limit(LimitName::Items),
-                _ => Fault::Syntax,
-            },
-            None => Fault::Syntax,
+            Some(token) if can_be_name(token) => Fault::Limit(LimitName::Items),
+            _ => Fault::Syntax,
         }
     }
 

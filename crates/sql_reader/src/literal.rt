@@ -1,8 +1,9 @@
-ghost use Rattle.std.specs.Prelude.{◌≡◌, ◌≢◌, ◌<◌, ◌≤◌, ◌^◌, ◌==◌, ◌∷◌, ◌++◌, ℕ, length, slice_index, All, IfOk, IfSome, IfNone, MatchOption, string_bytes, IsUtf8, false};
+ghost use Rattle.std.specs.Prelude.{◌≡◌, ◌≢◌, ◌<◌, ◌≤◌, ◌^◌, ◌==◌, ◌∷◌, ◌++◌, ℕ, length, map, slice_index, All, is_ok, IfOk, IfSome, IfNone, MatchOption, string_bytes, IsUtf8, false};
+ghost use Rattle.std.specs.Char.{to_ascii_lowercase};
 ghost use Rattle.std.specs.List.{list_all};
 ghost use Rattle.own_base.specs.Name.{is_spelled, begins_name, continues_name};
 ghost use Rattle.sql_lex.specs.Bytes.{first_passes};
-ghost use Rattle.sql_reader.specs.Limits.{store_limits};
+ghost use Rattle.sql_reader.specs.Limits.{no_limits, store_limits};
 ghost use Rattle.sql_reader.specs.Reading.{Judges};
 ghost use Rattle.sql_reader.specs.Token.{token_of, name_of, number_of, text_of, digits_behind, undoubled, folded, ranged, short_text, value_of};
 
@@ -40,6 +41,35 @@ fn is_spelled(name: &[u8]) -> bool
     ensures { result ≡ is_spelled name.now }
 {
     !name.is_empty() && begins_name(name[0]) && all_continue(&name[1..])
+}
+
+/// Whether each byte, in lower case, may stand in a name.
+fn all_continue_lowered(bytes: &[u8]) -> bool
+    ensures { result ≡ list_all (λ byte. continues_name (to_ascii_lowercase byte)) bytes.now }
+{
+    bytes
+        .iter()
+        .all(|byte| continues_name(byte.to_ascii_lowercase()))
+}
+
+/// Whether a schema may spell a name so once it is in lower case, whatever its length.
+fn is_spelled_lowered(name: &[u8]) -> bool
+    ensures { result ≡ is_spelled (map to_ascii_lowercase name.now) }
+{
+    if name.is_empty() {
+        return false;
+    }
+    begins_name(name[0].to_ascii_lowercase()) && all_continue_lowered(&name[1..])
+}
+
+/// Whether the token is a name, whatever its length. Takes no memory.
+pub fn can_be_name(token: &Token) -> bool
+    ensures { result ≡ is_ok (name_of no_limits (token_of token.now)) }
+{
+    match token.kind {
+        TokenKind::Name => is_spelled_lowered(token.text.as_bytes()),
+        _ => false,
+    }
 }
 
 /// A name in lower case.

@@ -20,7 +20,6 @@ loop-token-preserved c =
       same_text = ap (λ l. l.text) moved ∙ c.loop-token.invariant.same_text;
     }
 
-
 pub returns-in-Ok-None : goal.returns-in-Ok-None
 returns-in-Ok-None c =
     let lexer = c.loop-token.lexer in
