@@ -9,7 +9,8 @@ use Rattle.sql_reader.specs.Condition.{neg, comparison, too_deep, cond_over}
 use Rattle.sql_reader.specs.Limits.{Limits, store_limits}
 use Rattle.sql_reader.specs.Reading.{Tokens, Outcome, Reader, Does, either, next_is, accept, pure, ◌>>=◌, ◌>>◌}
 use Rattle.sql_reader.specs.Rules.{word, mark}
-use Rattle.sql_reader.specs.Select.{item, item_behind, slot_of}
+use Rattle.sql_reader.specs.Select.{item, item_behind}
+use Rattle.sql_reader.specs.Made.{slot_of}
 use Rattle.sql_reader.specs.Token.{Token, is_word, is_mark}
 
 either-other : {A : Type 0} (test : Token → Bool) (first second : Reader A) (tokens : Tokens) → next_is test tokens ≡ false → either test first second tokens ≡ second tokens

@@ -11,6 +11,7 @@ use Rattle.own_model.specs.declared.limit.LimitName.TheVariants as limit
 use Rattle.own_model.specs.declared.select.ColRef.{ColRef}
 use Rattle.sql_reader.specs.declared.fault.Fault.TheVariants.{Syntax, Limit}
 use Rattle.sql_reader.specs.Limits.{Limits}
+use Rattle.sql_reader.specs.Made.{is_there, list_of}
 use Rattle.sql_reader.specs.Reading.{Reader, Tokens, ◌>>=◌, ◌>>◌, pure, accept, passes, either, optional, many, next_is}
 use Rattle.sql_reader.specs.Rules.{word, mark, col, literal}
 use Rattle.sql_reader.specs.Token.{Token, is_word, is_mark, is_name}
@@ -31,10 +32,6 @@ unfoldable pub operand_rule : Limits → Reader Operand
 operand_rule limits =
     either is_name (col limits >>= λ found. pure (operand.Column found)) (literal limits >>= λ found. pure (operand.Literal found))
 
-abbrev pub is_there : {A : Type 0} → Option A → Bool
-is_there None = false
-is_there (Some found) = true
-
 -- cmp (col | literal) | IS [NOT] NULL, behind a column
 unfoldable pub compared : Limits → ColRef → Reader Cond
 compared limits column =
@@ -52,12 +49,6 @@ compared limits column =
 -- col cmp (col | literal) | col IS [NOT] NULL
 unfoldable pub comparison : Limits → Reader Cond
 comparison limits = col limits >>= compared limits
-
--- a list of one is that one
-abbrev pub list_of : (List Cond → Cond) → List Cond → Cond
-list_of several [] = several []
-list_of several (first ∷ []) = first
-list_of several (first ∷ second ∷ others) = several (first ∷ second ∷ others)
 
 -- neg {AND neg}
 unfoldable pub conj_parts : Reader Cond → Reader (List Cond)

@@ -13,7 +13,7 @@ use Rattle.own_model.specs.declared.schema.RefKind.{RefKind}
 use Rattle.own_model.specs.declared.schema.RefKind.TheVariants as ref
 use Rattle.own_model.specs.declared.statement.Statement.{Statement}
 use Rattle.own_model.specs.declared.statement.Statement.TheVariants as statement
-use Rattle.sql_reader.specs.Condition.{is_there}
+use Rattle.sql_reader.specs.Made.{is_there}
 use Rattle.sql_reader.specs.Limits.{Limits}
 use Rattle.sql_reader.specs.Reading.{Reader, ◌>>=◌, ◌>>◌, pure, either, optional, many}
 use Rattle.sql_reader.specs.Rules.{word, mark, name, one_name, bracketed_names}

@@ -1,7 +1,12 @@
+pub mod Answer
 pub mod Condition
+pub mod Continues
 pub mod Create
 pub mod Cut
+pub mod Grammar
+pub mod Language
 pub mod Limits
+pub mod Made
 pub mod Outcomes
 pub mod Reading
 pub mod Rules

@@ -6,6 +6,7 @@ use Rattle.own_model.specs.declared.expression.Expr.{Expr}
 use Rattle.own_model.specs.declared.expression.Expr.TheVariants as expr
 use Rattle.own_model.specs.declared.select.ColRef.{ColRef}
 use Rattle.sql_reader.specs.Limits.{Limits}
+use Rattle.sql_reader.specs.Made.{col_of}
 use Rattle.sql_reader.specs.Reading.{Reader, ◌>>=◌, ◌>>◌, pure, accept, passes, either, optional, many}
 use Rattle.sql_reader.specs.Token.{is_word, is_mark, is_name, is_number, is_quoted, name_of, number_of, text_of}
 
@@ -50,10 +51,6 @@ bracketed_names limits = do
   columns ← names limits
   mark (codes ")")
   pure columns
-
-abbrev pub col_of : List ℕ → Option (List ℕ) → ColRef
-col_of first None = record { table = None; column = first }
-col_of first (Some second) = record { table = Some first; column = second }
 
 -- [. name], behind a name
 unfoldable pub col_behind : Limits → List ℕ → Reader ColRef

@@ -15,7 +15,8 @@ use Rattle.own_model.specs.declared.select.What.{What}
 use Rattle.own_model.specs.declared.select.What.TheVariants as what
 use Rattle.sql_reader.specs.declared.fault.Fault.{Fault}
 use Rattle.sql_reader.specs.declared.fault.Fault.TheVariants.{Syntax, Limit}
-use Rattle.sql_reader.specs.Condition.{condition, is_there}
+use Rattle.sql_reader.specs.Condition.{condition}
+use Rattle.sql_reader.specs.Made.{is_there, slot_of}
 use Rattle.sql_reader.specs.Limits.{Limits, no_limits, fits}
 use Rattle.sql_reader.specs.Reading.{Reader, Tokens, ◌>>=◌, ◌>>◌, pure, accept, passes, either, optional}
 use Rattle.sql_reader.specs.Rules.{word, mark, name, col, col_behind}
@@ -55,20 +56,6 @@ item limits = do
   found ← what_behind limits first
   called ← alias limits
   pure (record { what = found; alias = called })
-
--- what a slot counts as
-abbrev pub slot_item : Item
-slot_item = record { what = what.Count; alias = None }
-
--- above the limit an item is barred where it would begin: at a name, whatever its length
-abbrev pub barred : Result (List ℕ) Fault → Result Item Fault
-barred (Ok name) = Err (Limit limit.Items)
-barred (Err fault) = Err Syntax
-
--- above the limit, in the place of an item: a slot alone, and the limit where an item would begin
-abbrev pub slot_of : Token → Result Item Fault
-slot_of Slot = Ok slot_item
-slot_of (Written kind text start) = barred (name_of no_limits (Written kind text start))
 
 -- an item behind so many others
 unfoldable pub item_behind : Limits → ℕ → Reader Item

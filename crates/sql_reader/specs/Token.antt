@@ -91,3 +91,9 @@ value_of limits (byte ∷ inside) = if byte == 39 then short_text limits (undoub
 abbrev pub text_of : Limits → Token → Result (List ℕ) Fault
 text_of limits (Written Quoted text start) = value_of limits text
 text_of limits _ = Err Syntax
+
+-- the byte at which these tokens begin: the first of a token, or the text's length
+abbrev pub place_of : ℕ → List Token → ℕ
+place_of len [] = len
+place_of len (Written kind text start ∷ rest) = start
+place_of len (Slot ∷ rest) = len

@@ -1,5 +1,5 @@
 ghost use Rattle.std.specs.Prelude.{◌≡◌};
-ghost use Rattle.sql_reader.specs.Condition.{list_of};
+ghost use Rattle.sql_reader.specs.Made.{list_of};
 ghost use Rattle.sql_reader.specs.Limits.{store_limits};
 ghost use Rattle.sql_reader.specs.Reading.{Does};
 ghost use Rattle.sql_reader.specs.Condition as rules;

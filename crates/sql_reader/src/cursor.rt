@@ -1,9 +1,9 @@
 ghost use Rattle.std.specs.Prelude.{◌≡◌, ◌<◌, length, map, Err, OnOk};
 ghost use Rattle.sql_reader.specs.Limits.{store_limits};
-ghost use Rattle.sql_reader.specs.Outcomes.{ended, place_of};
+ghost use Rattle.sql_reader.specs.Outcomes.{ended};
 ghost use Rattle.sql_reader.specs.Reading.{Does, accept, next_is};
 ghost use Rattle.sql_reader.specs.Rules as rules;
-ghost use Rattle.sql_reader.specs.Select.{slot_of};
+ghost use Rattle.sql_reader.specs.Made.{slot_of};
 ghost use Rattle.sql_reader.specs.Token as spec;
 
 use crate::fault::Fault;
@@ -189,7 +189,7 @@ impl<'a> Cursor<'a> {
 
     /// The byte at which the next token begins, or the text's length.
     pub fn place(&self, len: u32) -> u32
-        ensures { result ≡ place_of len self.now }
+        ensures { result ≡ spec.place_of len self.now }
     {
         match self.tokens.first() {
             Some(token) => token.start,

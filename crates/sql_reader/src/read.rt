@@ -1,5 +1,6 @@
 ghost use Rattle.std.specs.Prelude.{◌≡◌, ◌<◌, ◌^◌, length};
-ghost use Rattle.sql_reader.specs.Outcomes.{whole, IsAnswer};
+ghost use Rattle.sql_reader.specs.Answer.{IsAnswer};
+ghost use Rattle.sql_reader.specs.Outcomes.{whole};
 ghost use Rattle.sql_reader.specs.Reading.{Does};
 
 use crate::cursor::Cursor;

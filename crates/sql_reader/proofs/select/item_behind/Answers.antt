@@ -1,7 +1,8 @@
 use Rattle.std.proofs.Common.{Err}
 use Rattle.sql_reader.specs.Limits.{store_limits}
 use Rattle.sql_reader.specs.Reading.{accept}
-use Rattle.sql_reader.specs.Select.{item_behind, slot_of}
+use Rattle.sql_reader.specs.Select.{item_behind}
+use Rattle.sql_reader.specs.Made.{slot_of}
 use Rattle.sql_reader.proofs.Conditions.{Does-same, Does-fault, item_behind-full}
 use Rattle.sql_reader.proofs.select.item_behind.Goals as goal
 

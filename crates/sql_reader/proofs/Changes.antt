@@ -1,0 +1,148 @@
+-- The same rule in other words, and a rule that a value decides.
+use Rattle.std.proofs.Common.{◌≡◌, ◌≤◌, ◌<◌, ◌+◌, ℕ, zero, suc, Bool, true, false, List, [], ◌∷◌, ◌++◌, length, Result, Ok, Err, refl, sym, ap, ◌∙◌, subst, inl, inr, arith}
+use Rattle.std.specs.Prelude.{◌⊎◌, ◌&&◌, ◌||◌, if◌then◌else◌, Option, None, Some}
+use Rattle.std.specs.Str.{bytes_eq}
+use Rattle.std.proofs.lemmas.Bool.{false≢true}
+use Rattle.std.proofs.lemmas.Slice.Eq.{bytes_eq-Decides}
+use Rattle.own_model.specs.declared.limit.LimitName.{LimitName}
+use Rattle.sql_reader.specs.declared.fault.Fault.{Fault}
+use Rattle.sql_reader.specs.Reading.{Tokens, Outcome, Reader, next_is, then_read, either, pure, up_to, many}
+use Rattle.sql_reader.specs.Token.{Token}
+use Rattle.sql_reader.specs.Language.{Language, whether, many_from}
+use Rattle.sql_reader.specs.Language as grammar
+use Rattle.sql_reader.proofs.Heads.{Head, AWord, AMark, AName, ANumber, AQuoted, ASlot, is_head, among, apart, NoneNext, OneNext, both}
+use Rattle.sql_reader.proofs.Right.{next_of, stop_of, moved_to, Means, Goes, Beyond, Lifted, Begins, Right, Spells, reads_both}
+use Rattle.sql_reader.proofs.Repeats.{up_from, all_from, as_often_from}
+
+-- one head is the other
+abbrev pub same_head : Head → Head → Bool
+same_head (AWord a) (AWord b) = bytes_eq a b
+same_head (AMark a) (AMark b) = bytes_eq a b
+same_head AName AName = true
+same_head ANumber ANumber = true
+same_head AQuoted AQuoted = true
+same_head ASlot ASlot = true
+same_head _ _ = false
+
+abbrev pub is_in : Head → List Head → Bool
+is_in head [] = false
+is_in head (other ∷ others) = same_head head other || is_in head others
+
+-- each of these is one of those
+abbrev pub all_in : List Head → List Head → Bool
+all_in [] others = true
+all_in (head ∷ heads) others = is_in head others && all_in heads others
+
+same-heads : (head other : Head) → same_head head other ≡ true → head ≡ other
+same-heads (AWord a) (AWord b) same = ap AWord ((bytes_eq-Decides a b).0 same)
+same-heads (AMark a) (AMark b) same = ap AMark ((bytes_eq-Decides a b).0 same)
+same-heads AName AName same = refl
+same-heads ANumber ANumber same = refl
+same-heads AQuoted AQuoted same = refl
+same-heads ASlot ASlot same = refl
+same-heads _ _ same = absurd (false≢true same)
+
+either_true : (a b : Bool) → (a || b) ≡ true → (a ≡ true) ⊎ (b ≡ true)
+either_true true b is = inl refl
+either_true false b is = inr is
+
+is_in-among : (head : Head) (others : List Head) (token : Token) → is_in head others ≡ true → is_head head token ≡ true → among others token ≡ true
+is_in-among head [] token inside is = absurd (false≢true inside)
+is_in-among head (other ∷ others) token inside is = by (λ later. is_in-among head others token later is) (either_true (same_head head other) (is_in head others) inside)
+  where
+    or_right : (a b : Bool) → b ≡ true → (a || b) ≡ true
+    or_right true b is = refl
+    or_right false b is = is
+    by : (is_in head others ≡ true → among others token ≡ true) → (same_head head other ≡ true) ⊎ (is_in head others ≡ true) → (is_head other token || among others token) ≡ true
+    by later (inl same) = ap (λ b. b || among others token) (ap (λ h. is_head h token) (sym (same-heads head other same)) ∙ is)
+    by later (inr more) = or_right (is_head other token) (among others token) (later more)
+
+all_in-among : (heads others : List Head) (token : Token) → all_in heads others ≡ true → among heads token ≡ true → among others token ≡ true
+all_in-among [] others token inside is = absurd (false≢true is)
+all_in-among (head ∷ heads) others token inside is = by (λ later. all_in-among heads others token (both (is_in head others) (all_in heads others) inside).1 later) (either_true (is_head head token) (among heads token) is)
+  where
+    by : (among heads token ≡ true → among others token ≡ true) → (is_head head token ≡ true) ⊎ (among heads token ≡ true) → among others token ≡ true
+    by later (inl here) = is_in-among head others token (both (is_in head others) (all_in heads others) inside).0 here
+    by later (inr more) = later more
+
+one-more : (heads others : List Head) (tokens : Tokens) → all_in heads others ≡ true → OneNext heads tokens → OneNext others tokens
+one-more heads others [] inside is = absurd (false≢true is)
+one-more heads others (token ∷ tokens) inside is = all_in-among heads others token inside is
+
+none-less : (heads others : List Head) (tokens : Tokens) → all_in heads others ≡ true → NoneNext others tokens → NoneNext heads tokens
+none-less heads others tokens inside none = by (next_is (among heads) tokens) refl
+  where
+    by : (answer : Bool) → next_is (among heads) tokens ≡ answer → next_is (among heads) tokens ≡ false
+    by false is = is
+    by true is = absurd (false≢true (sym none ∙ one-more heads others tokens inside is))
+
+begins-more : (first heads : List Head) (empty blank : Bool) (tokens rest : Tokens) → all_in first heads ≡ true → (empty ≡ true → blank ≡ true) → Begins first empty tokens rest → Begins heads blank tokens rest
+begins-more first heads empty blank tokens rest inside emptier (inl here) = inl (emptier here.0, here.1)
+begins-more first heads empty blank tokens rest inside emptier (inr here) = inr (one-more first heads tokens inside here.0, here.1)
+
+-- with more tokens at the front and behind
+pub with_more : {A : Type 0} {lifts : LimitName → Bool} {reader other : Reader A} {language : Language A} {first : List Head} {empty : Bool} {follow : List Head} (heads : List Head) (blank : Bool) (after : List Head)
+    → Right lifts reader other language first empty follow → all_in first heads ≡ true → (empty ≡ true → blank ≡ true) → all_in follow after ≡ true → Right lifts reader other language heads blank after
+with_more {first = first} {empty = empty} {follow = follow} heads blank after right inside emptier behind =
+    record {
+      goes = right.goes;
+      reads = λ value tokens rest word none. right.reads value tokens rest word (none-less follow after rest behind none);
+      begins = λ value tokens rest word. begins-more first heads empty blank tokens rest inside emptier (right.begins value tokens rest word);
+      some = right.some;
+      lifted = right.lifted;
+      within = right.within;
+    }
+
+-- a rule that a value decides
+pub decided : {A : Type 0} {lifts : LimitName → Bool} {reader other second wider : Reader A} {language behind : Language A} {first : List Head} {empty : Bool} {follow : List Head} (answer : Bool)
+    → Right lifts reader other language first empty follow → Right lifts second wider behind first empty follow → Right lifts (if answer then reader else second) (if answer then other else wider) (whether answer language behind) first empty follow
+decided true one two = one
+decided false one two = two
+
+means-same : {A : Type 0} (language same : Language A) → ((value : A) (tokens rest : Tokens) → language value tokens rest → same value tokens rest) → (front : Tokens) (outcome : Outcome A) → Means language front outcome → Means same front outcome
+means-same language same to front (Ok (value, rest)) means = λ ending. to value (front ++ ending) ending (means ending)
+means-same language same to front (Err fault) means = (means.0, means.1, λ ending. to means.0 ((front ++ means.1) ++ ending) ending (means.2 ending))
+
+-- what the one language says, the other says too
+abbrev pub Into : {A : Type 0} → Language A → Language A → Type 0
+Into {A = A} language same = (value : A) (tokens rest : Tokens) → language value tokens rest → same value tokens rest
+
+-- the same language in other words
+pub in_words : {A : Type 0} {lifts : LimitName → Bool} {reader other : Reader A} {language : Language A} {first : List Head} {empty : Bool} {follow : List Head} (same : Language A) → Into language same → Into same language
+    → Right lifts reader other language first empty follow → Right lifts reader other same first empty follow
+in_words {reader = reader} {language = language} same to from right =
+    record {
+      goes = λ tokens. let went = right.goes tokens in record { front = went.front; is = went.is; local = went.local; means = means-same language same to went.front (reader tokens) went.means };
+      reads = λ value tokens rest word none. right.reads value tokens rest (from value tokens rest word) none;
+      begins = λ value tokens rest word. right.begins value tokens rest (from value tokens rest word);
+      some = (right.some.0, right.some.1, λ ending. to right.some.0 (right.some.1 ++ ending) ending (right.some.2 ending));
+      lifted = right.lifted;
+      within = right.within;
+    }
+
+-- the same readers in other words
+pub same_readers : {A : Type 0} {lifts : LimitName → Bool} {reader other : Reader A} {language : Language A} {first : List Head} {empty : Bool} {follow : List Head} (second wider : Reader A)
+    → ((tokens : Tokens) → reader tokens ≡ second tokens) → ((tokens : Tokens) → other tokens ≡ wider tokens) → Right lifts reader other language first empty follow → Right lifts second wider language first empty follow
+same_readers {A = A} {lifts = lifts} {reader = reader} {other = other} {language = language} {first = first} {empty = empty} {follow = follow} second wider one two right =
+    subst (λ r. Right lifts second r language first empty follow) (λ i tokens. two tokens i) (subst (λ r. Right lifts r other language first empty follow) (λ i tokens. one tokens i) right)
+
+up_to-from : {A : Type 0} (test : Token → Bool) (reader : Reader A) (times count : ℕ) (tokens : Tokens) → up_from test (λ _. reader) times count tokens ≡ up_to times test reader tokens
+up_to-from test reader zero count tokens = refl
+up_to-from {A = A} test reader (suc times) count tokens = by (λ middle. up_to-from test reader times (count + 1) middle) (next_is test tokens)
+  where
+    onward : ((middle : Tokens) → up_from test (λ _. reader) times (count + 1) middle ≡ up_to times test reader middle) → (outcome : Outcome A)
+        → then_read outcome (λ value. reads_both (up_from test (λ _. reader) times (count + 1)) (λ more. pure (value ∷ more))) ≡ then_read outcome (λ value. reads_both (up_to times test reader) (λ more. pure (value ∷ more)))
+    onward later (Ok (value, middle)) = ap (λ o. then_read o (λ more. pure (value ∷ more))) (later middle)
+    onward later (Err fault) = refl
+    by : ((middle : Tokens) → up_from test (λ _. reader) times (count + 1) middle ≡ up_to times test reader middle) → (answer : Bool)
+        → (if answer then then_read (reader tokens) (λ value. reads_both (up_from test (λ _. reader) times (count + 1)) (λ more. pure (value ∷ more))) else Ok ([], tokens))
+        ≡ (if answer then then_read (reader tokens) (λ value. reads_both (up_to times test reader) (λ more. pure (value ∷ more))) else Ok ([], tokens))
+    by later true = onward later (reader tokens)
+    by later false = refl
+
+-- the rule as often as it comes
+pub as_often : {A : Type 0} {lifts : LimitName → Bool} {test : Token → Bool} {reader other : Reader A} {language : Language A} {first follow : List Head}
+    → ((token : Token) → test token ≡ among first token) → Right lifts reader other language first false follow → apart first follow ≡ true → Right lifts (many test reader) (many test other) (grammar.many language) first true (first ++ follow)
+as_often {test = test} {reader = reader} {other = other} {language = language} {first = first} {follow = follow} tests right distinct =
+    same_readers (many test reader) (many test other) (λ tokens. up_to-from test reader (length tokens) 0 tokens) (λ tokens. up_to-from test other (length tokens) 0 tokens)
+        (as_often_from test (λ _. reader) (λ _. other) (λ _. language) first follow tests (λ _. right) distinct 0)

@@ -1,0 +1,142 @@
+-- The rules of an item of a select.
+use Rattle.std.proofs.Common.{◌≡◌, ℕ, Bool, true, false, ℤ, List, [], ◌∷◌, refl, sym, ap, ◌∙◌, codes, subst, inl, inr}
+use Rattle.std.proofs.lemmas.Slice.Eq.{bytes_eq-Decides}
+use Rattle.std.specs.Prelude.{◌||◌, ◌&&◌, not, Option, None, Some}
+use Rattle.std.specs.Str.{bytes_eq}
+use Rattle.own_base.specs.declared.value.Key.TheVariants as Key
+use Rattle.own_base.specs.declared.value.Value.{Value}
+use Rattle.own_base.specs.declared.value.Value.TheVariants as Value
+use Rattle.own_model.specs.declared.condition.Cmp.TheVariants as Cmp
+use Rattle.own_model.specs.declared.condition.Cond.{Cond}
+use Rattle.own_model.specs.declared.condition.Cond.TheVariants as Cond
+use Rattle.own_model.specs.declared.condition.Operand.TheVariants as Operand
+use Rattle.own_model.specs.declared.create.Attr.TheVariants as Attr
+use Rattle.own_model.specs.declared.create.Part.TheVariants as Part
+use Rattle.own_model.specs.declared.expression.Expr.TheVariants as Expr
+use Rattle.own_model.specs.declared.limit.LimitName.{LimitName}
+use Rattle.own_model.specs.declared.schema.Kind.TheVariants as Kind
+use Rattle.own_model.specs.declared.schema.RefKind.TheVariants as RefKind
+use Rattle.own_model.specs.declared.select.ColRef.{ColRef}
+use Rattle.own_model.specs.declared.select.Item.{Item}
+use Rattle.own_model.specs.declared.select.Items.{Items}
+use Rattle.own_model.specs.declared.select.Items.TheVariants as Items
+use Rattle.own_model.specs.declared.select.Join.{Join}
+use Rattle.own_model.specs.declared.select.What.{What}
+use Rattle.own_model.specs.declared.create.CreateTable.{CreateTable}
+use Rattle.own_model.specs.declared.expression.Expr.{Expr}
+use Rattle.own_model.specs.declared.select.What.TheVariants as What
+use Rattle.own_model.specs.declared.statement.Statement.TheVariants as Statement
+use Rattle.sql_reader.specs.Grammar as grammar
+use Rattle.sql_reader.specs.Language as language
+use Rattle.sql_reader.specs.Language.{Language, ◌>>=◌, ◌>>◌, ◌or◌}
+use Rattle.sql_reader.specs.Limits.{Limits}
+use Rattle.sql_reader.specs.Reading.{Reader, Tokens}
+use Rattle.sql_reader.specs.Rules as rules
+use Rattle.sql_reader.specs.Condition as condition_rules
+use Rattle.sql_reader.specs.Create as create_rules
+use Rattle.sql_reader.specs.Select as select_rules
+use Rattle.sql_reader.specs.Statements as statement_rules
+use Rattle.sql_reader.specs.Select.{is_plain, is_listed}
+use Rattle.sql_reader.specs.Token.{Token, is_word}
+use Rattle.sql_reader.proofs.Changes.{as_often, decided, with_more, in_words, Into}
+use Rattle.sql_reader.proofs.Choices.{or_else, or_nothing, word_right, mark_right, pure_right, word_tests, mark_tests, name_tests, quoted_tests, or_none}
+use Rattle.sql_reader.proofs.Heads.{AWord, AMark, AName, ANumber, AQuoted, ASlot, among}
+use Rattle.sql_reader.proofs.Joins.{and_then}
+use Rattle.sql_reader.proofs.Leaves.{name_right, text_right, number_right}
+use Rattle.sql_reader.proofs.Right.{Right}
+use Rattle.sql_reader.proofs.Rules.Values.{col_behind_right, col_right}
+use Rattle.sql_reader.specs.Made.{is_there, list_of, col_of}
+use Rattle.sql_reader.proofs.Lifts.{lift, Fair}
+
+-- ( * ), behind COUNT
+abbrev count_behind : Language What
+count_behind = do
+  language.mark (codes "(")
+  language.mark (codes "*")
+  language.mark (codes ")")
+  language.pure What.Count
+
+-- ( col ), behind SUM
+abbrev sum_of_behind : Limits → Language What
+sum_of_behind limits = do
+  language.mark (codes "(")
+  found ← grammar.col limits
+  language.mark (codes ")")
+  language.pure (What.SumOf found)
+
+-- a column, behind its first name
+abbrev col_what : Limits → List ℕ → Language What
+col_what limits first = grammar.col_behind limits first >>= λ column. language.pure (What.Column column)
+
+-- what may come behind the first name of an item
+abbrev pub what_behind : Limits → List ℕ → Language What
+what_behind limits first =
+    language.whether (bytes_eq first (codes "count")) (count_behind or col_what limits first)
+    (language.whether (bytes_eq first (codes "sum")) (sum_of_behind limits or col_what limits first)
+    (col_what limits first))
+
+module _ (lifts : LimitName → Bool) (limits : Limits) (fair : Fair limits) where
+  -- ( * ), behind COUNT
+  pub count_behind_right : Right lifts select_rules.count_behind select_rules.count_behind count_behind (AMark (codes "(") ∷ []) false []
+  unfolding select_rules.count_behind
+  count_behind_right = and_then (mark_right (codes "(")) (λ _. and_then (mark_right (codes "*")) (λ _. and_then (mark_right (codes ")")) (λ _. pure_right What.Count) refl) refl) refl
+
+  -- ( col ), behind SUM
+  pub sum_of_behind_right : Right lifts (select_rules.sum_of_behind limits) (select_rules.sum_of_behind (lift lifts limits)) (sum_of_behind limits) (AMark (codes "(") ∷ []) false []
+  unfolding select_rules.sum_of_behind
+  sum_of_behind_right = and_then (mark_right (codes "(")) (λ _. and_then (col_right lifts limits fair) (λ column. and_then (mark_right (codes ")")) (λ _. pure_right (What.SumOf column)) refl) refl) refl
+
+  -- what an item is, behind its first name
+  pub what_behind_right : (first : List ℕ) → Right lifts (select_rules.what_behind limits first) (select_rules.what_behind (lift lifts limits) first) (what_behind limits first) (AMark (codes "(") ∷ AMark (codes ".") ∷ []) true (AMark (codes ".") ∷ AMark (codes "(") ∷ [])
+  unfolding select_rules.what_behind
+  what_behind_right first = decided (bytes_eq first (codes "count")) (with_more (AMark (codes "(") ∷ AMark (codes ".") ∷ []) true (AMark (codes ".") ∷ AMark (codes "(") ∷ []) (or_else (mark_tests (codes "(")) count_behind_right (and_then ((col_behind_right lifts limits fair) first) (λ column. pure_right (What.Column column)) refl) refl) refl (λ is. is) refl) (decided (bytes_eq first (codes "sum")) (with_more (AMark (codes "(") ∷ AMark (codes ".") ∷ []) true (AMark (codes ".") ∷ AMark (codes "(") ∷ []) (or_else (mark_tests (codes "(")) sum_of_behind_right (and_then ((col_behind_right lifts limits fair) first) (λ column. pure_right (What.Column column)) refl) refl) refl (λ is. is) refl) (with_more (AMark (codes "(") ∷ AMark (codes ".") ∷ []) true (AMark (codes ".") ∷ AMark (codes "(") ∷ []) (and_then ((col_behind_right lifts limits fair) first) (λ column. pure_right (What.Column column)) refl) refl (λ is. is) refl))
+
+  -- [AS name]
+  pub alias_right : Right lifts (select_rules.alias limits) (select_rules.alias (lift lifts limits)) (grammar.alias limits) (AWord (codes "AS") ∷ []) true (AWord (codes "AS") ∷ [])
+  unfolding select_rules.alias grammar.alias
+  alias_right = or_nothing (word_tests (codes "AS")) (and_then (word_right (codes "AS")) (λ _. name_right lifts limits fair) refl)
+
+  -- what an item is, as its rule says it
+  what_to : (first : List ℕ) (value : What) (tokens middle rest : Tokens) → grammar.name limits first tokens middle → what_behind limits first value middle rest → (grammar.column limits or (grammar.count limits or grammar.sum limits)) value tokens rest
+  unfolding grammar.col
+  what_to first value tokens middle rest named behind = by_count (bytes_eq first (codes "count")) refl behind
+    where
+      a_column : col_what limits first value middle rest → (grammar.column limits or (grammar.count limits or grammar.sum limits)) value tokens rest
+      a_column (column, end, text, made) = inl (column, end, (first, middle, named, text), made)
+      called : (wanted : List ℕ) → bytes_eq first wanted ≡ true → grammar.function limits wanted tt tokens middle
+      called wanted is = subst (λ n. grammar.name limits n tokens middle) ((bytes_eq-Decides first wanted).0 is) named
+      by_sum : (answer : Bool) → bytes_eq first (codes "sum") ≡ answer → language.whether answer (sum_of_behind limits or col_what limits first) (col_what limits first) value middle rest → (grammar.column limits or (grammar.count limits or grammar.sum limits)) value tokens rest
+      by_sum true is (inl text) = inr (inr (tt, middle, called (codes "sum") is, text))
+      by_sum true is (inr text) = a_column text
+      by_sum false is text = a_column text
+      by_count : (answer : Bool) → bytes_eq first (codes "count") ≡ answer → language.whether answer (count_behind or col_what limits first) (language.whether (bytes_eq first (codes "sum")) (sum_of_behind limits or col_what limits first) (col_what limits first)) value middle rest → (grammar.column limits or (grammar.count limits or grammar.sum limits)) value tokens rest
+      by_count true is (inl text) = inr (inl (tt, middle, called (codes "count") is, text))
+      by_count true is (inr text) = a_column text
+      by_count false is text = by_sum (bytes_eq first (codes "sum")) refl text
+
+  -- a column may stand behind each first name
+  what_column : (first : List ℕ) (value : What) (middle rest : Tokens) → col_what limits first value middle rest → what_behind limits first value middle rest
+  what_column first value middle rest text = by_count (bytes_eq first (codes "count"))
+    where
+      by_sum : (answer : Bool) → language.whether answer (sum_of_behind limits or col_what limits first) (col_what limits first) value middle rest
+      by_sum true = inr text
+      by_sum false = text
+      by_count : (answer : Bool) → language.whether answer (count_behind or col_what limits first) (language.whether (bytes_eq first (codes "sum")) (sum_of_behind limits or col_what limits first) (col_what limits first)) value middle rest
+      by_count true = inr text
+      by_count false = by_sum (bytes_eq first (codes "sum"))
+
+  what_from : (value : What) (tokens rest : Tokens) → (grammar.column limits or (grammar.count limits or grammar.sum limits)) value tokens rest → (grammar.name limits >>= what_behind limits) value tokens rest
+  unfolding grammar.col
+  what_from value tokens rest (inl (column, end, (first, middle, named, text), made)) = (first, middle, named, what_column first value middle rest (column, end, text, made))
+  what_from value tokens rest (inr (inl (found, middle, named, text))) = (codes "count", middle, named, inl text)
+  what_from value tokens rest (inr (inr (found, middle, named, text))) = (codes "sum", middle, named, inl text)
+
+  -- gitem = (col | COUNT ( * ) | SUM ( col )) [AS name]
+  pub item_right : Right lifts (select_rules.item limits) (select_rules.item (lift lifts limits)) (grammar.gitem limits) (AName ∷ []) false (AWord (codes "AS") ∷ AMark (codes ".") ∷ AMark (codes "(") ∷ [])
+  unfolding select_rules.item grammar.gitem
+  item_right = in_words (grammar.gitem limits) to from (and_then (name_right lifts limits fair) (λ first. and_then (what_behind_right first) (λ found. and_then alias_right (λ called. pure_right (record { what = found; alias = called })) refl) refl) refl)
+    where
+      to : Into (grammar.name limits >>= λ first. what_behind limits first >>= λ found. grammar.alias limits >>= λ called. language.pure (record { what = found; alias = called })) (grammar.gitem limits)
+      to value tokens rest (first, middle, named, (found, end, what, called)) = (found, end, what_to first found tokens middle end named what, called)
+      from : Into (grammar.gitem limits) (grammar.name limits >>= λ first. what_behind limits first >>= λ found. grammar.alias limits >>= λ called. language.pure (record { what = found; alias = called }))
+      from value tokens rest (found, end, what, called) = let text = what_from found tokens end what in (text.0, text.1, text.2, (found, end, text.3, called))

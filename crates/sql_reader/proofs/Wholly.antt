@@ -1,0 +1,164 @@
+-- What comes of a whole text.
+use Rattle.std.proofs.Common.{◌≡◌, ◌≤◌, ◌<◌, ◌+◌, ℕ, zero, suc, Bool, true, false, List, [], ◌∷◌, ◌++◌, length, take, drop, map, Result, Ok, Err, refl, sym, ap, ◌∙◌, subst, inl, inr, arith, append_assoc}
+use Rattle.std.specs.Prelude.{◌⊎◌, ◌==◌, not, if◌then◌else◌, Option, None, Some}
+use Rattle.std.proofs.lemmas.Bool.{false≢true}
+use Rattle.std.proofs.lemmas.List.{length-append}
+use Rattle.own_model.specs.declared.limit.LimitName.{LimitName}
+use Rattle.own_model.specs.declared.limit.LimitName.TheVariants as limit
+use Rattle.own_model.specs.declared.statement.Statement.{Statement}
+use Rattle.sql_reader.specs.declared.fault.Fault.{Fault}
+use Rattle.sql_reader.specs.declared.fault.Fault.TheVariants.{Syntax, Limit, Memory}
+use Rattle.sql_reader.specs.Continues.{Continues, IsSyntaxAt, IsLimitAt, IsNone, only}
+use Rattle.sql_reader.specs.Condition.{neg}
+use Rattle.sql_reader.specs.Grammar as grammar
+use Rattle.sql_reader.specs.Limits.{Limits, fits, store_limits, no_limits}
+use Rattle.sql_reader.specs.Outcomes.{ended, whole}
+use Rattle.sql_reader.specs.Reading.{Tokens, Outcome, Reader, then_read, pure}
+use Rattle.sql_reader.specs.Statements.{statement_rule}
+use Rattle.sql_reader.specs.Token.{Token}
+use Rattle.sql_reader.proofs.Choices.{none-some}
+use Rattle.sql_reader.proofs.Heads.{Head, AWord, AMark}
+use Rattle.sql_reader.proofs.Right.{next_of, stop_of, moved_to, Means, Goes, Beyond, Lifted, Right, Spells, Real, NoSlot, reads_both}
+use Rattle.sql_reader.proofs.Rules.Levels.{neg_kept, neg_freed, deeper, deeper-sum}
+use Rattle.sql_reader.proofs.Rules.Statements.{statement_rule_right, begins_statement, behind_statement}
+use Rattle.sql_reader.proofs.Lifts.{lift, Fair}
+
+-- so many levels more where their limit is lifted
+abbrev pub raised : Bool → ℕ → ℕ → ℕ
+raised true extra levels = deeper extra levels
+raised false extra levels = levels
+
+-- the rule of a statement, with some limits lifted in the other reader
+pub statement_right : (lifts : LimitName → Bool) (limits : Limits) → Fair limits → (extra levels : ℕ) → Right lifts (statement_rule limits levels) (statement_rule (lift lifts limits) (raised (lifts limit.Nesting) extra levels)) (grammar.statement limits levels) begins_statement false behind_statement
+statement_right lifts limits fair extra levels = by (lifts limit.Nesting) refl
+  where
+    by : (freed : Bool) → lifts limit.Nesting ≡ freed → Right lifts (statement_rule limits levels) (statement_rule (lift lifts limits) (raised freed extra levels)) (grammar.statement limits levels) begins_statement false behind_statement
+    by true is = statement_rule_right lifts limits fair levels (deeper extra levels) (neg_freed lifts limits fair is extra levels)
+    by false is = statement_rule_right lifts limits fair levels levels (neg_kept lifts limits fair is levels)
+
+-- no limit is lifted
+pub none_lifts : LimitName → Bool
+none_lifts which = false
+
+pub statement_goes : (limits : Limits) → Fair limits → (levels : ℕ) (tokens : Tokens) → Goes (statement_rule limits levels) (grammar.statement limits levels) tokens (statement_rule limits levels tokens)
+statement_goes limits fair levels = (statement_right none_lifts limits fair 0 levels).goes
+
+-- nothing behind a statement
+abbrev pub finish : Statement → Reader Statement
+finish found = reads_both ended (λ _. pure found)
+
+-- a statement and nothing behind it
+abbrev pub whole_at : Limits → ℕ → Reader Statement
+whole_at limits levels = reads_both (statement_rule limits levels) finish
+
+-- the fault of an outcome
+abbrev pub fault_of : {A : Type 0} → Outcome A → Fault × Tokens
+fault_of (Ok (value, rest)) = (Memory, rest)
+fault_of (Err fault) = fault
+
+abbrev pub read_of : Outcome Statement → Statement → Statement
+read_of (Ok (value, rest)) other = value
+read_of (Err fault) other = other
+
+pub ok_err : (found : Statement) (rest : Tokens) (fault : Fault × Tokens) → ◌≡◌ {A = Outcome Statement} (Ok (found, rest)) (Err fault) → ⊥
+ok_err found rest fault same = cc
+
+-- a text that is no statement: what stands before the fault begins one, and the fault comes where the token there is the same
+pub record Fails (limits : Limits) (levels : ℕ) (tokens : Tokens) (fault : Fault × Tokens) : Type 0 where
+  pub front : Tokens
+  pub is : tokens ≡ front ++ fault.1
+  pub local : (other : Tokens) → next_of fault.1 ≡ next_of other → whole_at limits levels (front ++ other) ≡ Err (fault.0, other)
+  pub begins : (found : Statement) × (more : Tokens) × grammar.statement limits levels found (front ++ more) []
+
+fails_at : (limits : Limits) (levels : ℕ) (tokens : Tokens) (outcome : Outcome Statement) (fault : Fault × Tokens) → Goes (statement_rule limits levels) (grammar.statement limits levels) tokens outcome → then_read outcome finish ≡ Err fault → Fails limits levels tokens fault
+fails_at limits levels tokens (Ok (found, [])) fault went is = absurd (ok_err found [] fault is)
+fails_at limits levels tokens (Ok (found, token ∷ behind)) fault went is =
+    subst (λ f. Fails limits levels tokens f) (ap fault_of is) (record { front = went.front; is = went.is; local = local; begins = (found, [], went.means []) })
+  where
+    stopped : (other : Tokens) → Some token ≡ next_of other → finish found other ≡ Err (Syntax, other)
+    stopped [] same = absurd (none-some token (sym same))
+    stopped (next ∷ other) same = refl
+    local : (other : Tokens) → next_of (token ∷ behind) ≡ next_of other → whole_at limits levels (went.front ++ other) ≡ Err (Syntax, other)
+    local other same = ap (λ o. then_read o finish) (went.local other same) ∙ stopped other same
+fails_at limits levels tokens (Err other) fault went is =
+    subst (λ f. Fails limits levels tokens f) (ap fault_of is)
+        (record {
+          front = went.front;
+          is = went.is;
+          local = λ more same. ap (λ o. then_read o finish) (went.local more same);
+          begins = (went.means.0, went.means.1 ++ [], subst (λ l. grammar.statement limits levels went.means.0 l []) (append_assoc went.front went.means.1 []) (went.means.2 []));
+        })
+
+pub fails : (limits : Limits) → Fair limits → (levels : ℕ) (tokens : Tokens) (fault : Fault × Tokens) → whole_at limits levels tokens ≡ Err fault → Fails limits levels tokens fault
+fails limits fair levels tokens fault is = fails_at limits levels tokens (statement_rule limits levels tokens) fault (statement_goes limits fair levels tokens) is
+
+-- a statement of the tokens is what is read
+pub reads_whole : (limits : Limits) → Fair limits → (levels : ℕ) (found : Statement) (tokens : Tokens) → grammar.statement limits levels found tokens [] → whole_at limits levels tokens ≡ Ok (found, [])
+reads_whole limits fair levels found tokens text = ap (λ o. then_read o finish) ((statement_right none_lifts limits fair 0 levels).reads found tokens [] text refl)
+
+-- what is read is a statement of the tokens
+pub means_whole : (limits : Limits) → Fair limits → (levels : ℕ) (found : Statement) (tokens : Tokens) → whole_at limits levels tokens ≡ Ok (found, []) → grammar.statement limits levels found tokens []
+means_whole limits fair levels found tokens is = by (statement_rule limits levels tokens) (statement_goes limits fair levels tokens) is
+  where
+    by : (outcome : Outcome Statement) → Goes (statement_rule limits levels) (grammar.statement limits levels) tokens outcome → then_read outcome finish ≡ Ok (found, []) → grammar.statement limits levels found tokens []
+    by (Ok (value, [])) went same = subst (λ v. grammar.statement limits levels v tokens []) (ap (λ o. read_of o found) same) (subst (λ l. grammar.statement limits levels value l []) (sym went.is) (went.means []))
+    by (Ok (value, token ∷ behind)) went same = absurd (ok_err found [] (Syntax, token ∷ behind) (sym same))
+    by (Err fault) went same = absurd (ok_err found [] fault (sym same))
+
+-- with the same tokens up to the fault, and the one there, a text has the same front
+same_front : (front rest other : Tokens) → take (suc (length front)) other ≡ take (suc (length front)) (front ++ rest) → (more : Tokens) × (other ≡ front ++ more) × (next_of rest ≡ next_of more)
+same_front [] rest other same = (other, refl, first rest other same)
+  where
+    first : (rest other : Tokens) → take 1 other ≡ take 1 rest → next_of rest ≡ next_of other
+    first [] [] same = refl
+    first [] (token ∷ other) same = absurd (wrong same)
+      where
+        wrong : ◌≡◌ {A = Tokens} (token ∷ []) [] → ⊥
+        wrong same = cc
+    first (token ∷ rest) [] same = absurd (wrong same)
+      where
+        wrong : ◌≡◌ {A = Tokens} [] (token ∷ []) → ⊥
+        wrong same = cc
+    first (token ∷ rest) (next ∷ other) same = sym (ap next_of same)
+same_front (token ∷ front) rest [] same = absurd (wrong same)
+  where
+    wrong : ◌≡◌ {A = Tokens} [] (token ∷ take (suc (length front)) (front ++ rest)) → ⊥
+    wrong same = cc
+same_front (token ∷ front) rest (next ∷ other) same =
+    let first : next ≡ token = cc in
+    let later : take (suc (length front)) other ≡ take (suc (length front)) (front ++ rest) = cc in
+    let parts = same_front front rest other later in
+    (parts.0, (λ i. first i ∷ parts.1 i), parts.2)
+
+-- no statement goes on through the token of the fault
+pub no_more : (limits : Limits) → Fair limits → (deep levels : ℕ) (tokens : Tokens) (fault : Fault × Tokens) (failed : Fails limits deep tokens fault) → ((other : Tokens) (found : Statement) → whole_at limits levels other ≡ Ok (found, []) → whole_at limits deep other ≡ Ok (found, []))
+    → Continues limits levels tokens (suc (length failed.front)) → ⊥
+no_more limits fair deep levels tokens fault failed raise going =
+    let parts = same_front failed.front fault.1 going.spelling (going.same ∙ ap (take (suc (length failed.front))) failed.is) in
+    ok_err going.found [] (fault.0, parts.0) (sym (raise going.spelling going.found (reads_whole limits fair levels going.found going.spelling going.spells)) ∙ ap (whole_at limits deep) parts.1 ∙ failed.local parts.0 parts.2)
+
+pub take-front : (count : ℕ) (front one other : Tokens) → count ≤ length front → take count (front ++ one) ≡ take count (front ++ other)
+take-front zero front one other short = refl
+take-front (suc count) [] one other short = absurd (omega (arith, short))
+take-front (suc count) (token ∷ front) one other short = ap (λ l. token ∷ l) (take-front count front one other (omega arith))
+
+pub drop-front : (front rest : Tokens) → drop (length front) (front ++ rest) ≡ rest
+drop-front [] rest = refl
+drop-front (token ∷ front) rest = drop-front front rest
+
+-- a reader goes on up to where it stops
+pub continues_to : (limits : Limits) (levels : ℕ) (tokens : Tokens) (outcome : Outcome Statement) → Goes (statement_rule limits levels) (grammar.statement limits levels) tokens outcome → (count : ℕ) → count + length (stop_of outcome) ≤ length tokens → Continues limits levels tokens count
+continues_to limits levels tokens outcome went count short = by outcome went.means went.is
+  where
+    enough : (stop : Tokens) → tokens ≡ went.front ++ stop → stop ≡ stop_of outcome → count ≤ length went.front
+    enough stop is same = let lengths = ap length is ∙ length-append went.front stop in let stops = ap length same in omega arith
+    by : (other : Outcome Statement) → Means (grammar.statement limits levels) went.front other → tokens ≡ went.front ++ stop_of outcome → Continues limits levels tokens count
+    by (Ok (value, rest)) means is =
+        record { found = value; spelling = went.front ++ []; spells = means []; same = take-front count went.front [] (stop_of outcome) (enough (stop_of outcome) is refl) ∙ ap (take count) (sym is) }
+    by (Err fault) means is =
+        record {
+          found = means.0;
+          spelling = went.front ++ (means.1 ++ []);
+          spells = subst (λ l. grammar.statement limits levels means.0 l []) (append_assoc went.front means.1 []) (means.2 []);
+          same = take-front count went.front (means.1 ++ []) (stop_of outcome) (enough (stop_of outcome) is refl) ∙ ap (take count) (sym is);
+        }
