@@ -1,17 +1,16 @@
 -- The answer for a text, of what the reading rules give for its tokens.
-use Rattle.std.proofs.Common.{◌≡◌, ℕ, Bool, true, false, List, [], ◌∷◌, length, drop, map, Result, Ok, Err, refl, sym, ap, ◌∙◌, subst}
+use Rattle.std.proofs.Common.{◌≡◌, ℕ, List, [], ◌∷◌, length, map, Result, Ok, Err, refl, sym, ap, ◌∙◌}
 use Rattle.own_model.specs.declared.limit.LimitName.{LimitName}
 use Rattle.own_model.specs.declared.statement.Statement.{Statement}
 use Rattle.sql_lex.specs.declared.token.Token as lexed
 use Rattle.sql_reader.specs.declared.fault.Fault.TheVariants as fault
 use Rattle.sql_reader.specs.declared.fault.ReadFault.{ReadFault}
-use Rattle.sql_reader.specs.declared.fault.ReadFault.TheVariants.{Syntax, Limit, Memory}
+use Rattle.sql_reader.specs.declared.fault.ReadFault.TheVariants.{Syntax, Limit}
 use Rattle.sql_reader.specs.Answer.{Answers, IsRead}
 use Rattle.sql_reader.specs.Cut.{Cut, AreTokens}
-use Rattle.sql_reader.specs.Grammar.{statement}
 use Rattle.sql_reader.specs.Limits.{store_limits}
 use Rattle.sql_reader.specs.Outcomes.{whole}
-use Rattle.sql_reader.specs.Reading.{Tokens, Outcome}
+use Rattle.sql_reader.specs.Reading.{Tokens}
 use Rattle.sql_reader.specs.Token.{token_of, place_of}
 use Rattle.sql_reader.proofs.Right.{NoSlot}
 use Rattle.sql_reader.proofs.Verdicts.{store_fair, syntax_at, limit_at}

@@ -1,18 +1,17 @@
 -- The same rule in other words, and a rule that a value decides.
-use Rattle.std.proofs.Common.{◌≡◌, ◌≤◌, ◌<◌, ◌+◌, ℕ, zero, suc, Bool, true, false, List, [], ◌∷◌, ◌++◌, length, Result, Ok, Err, refl, sym, ap, ◌∙◌, subst, inl, inr, arith}
-use Rattle.std.specs.Prelude.{◌⊎◌, ◌&&◌, ◌||◌, if◌then◌else◌, Option, None, Some}
+use Rattle.std.proofs.Common.{◌≡◌, ◌+◌, ℕ, zero, suc, Bool, true, false, List, [], ◌∷◌, ◌++◌, length, Ok, Err, refl, sym, ap, ◌∙◌, subst, inl, inr}
+use Rattle.std.specs.Prelude.{◌⊎◌, ◌&&◌, ◌||◌, if◌then◌else◌}
 use Rattle.std.specs.Str.{bytes_eq}
 use Rattle.std.proofs.lemmas.Bool.{false≢true}
 use Rattle.std.proofs.lemmas.Slice.Eq.{bytes_eq-Decides}
 use Rattle.own_model.specs.declared.limit.LimitName.{LimitName}
-use Rattle.sql_reader.specs.declared.fault.Fault.{Fault}
-use Rattle.sql_reader.specs.Reading.{Tokens, Outcome, Reader, next_is, then_read, either, pure, up_to, many}
+use Rattle.sql_reader.specs.Reading.{Tokens, Outcome, Reader, next_is, then_read, pure, up_to, many}
 use Rattle.sql_reader.specs.Token.{Token}
 use Rattle.sql_reader.specs.Language.{Language, whether, many_from}
 use Rattle.sql_reader.specs.Language as grammar
 use Rattle.sql_reader.proofs.Heads.{Head, AWord, AMark, AName, ANumber, AQuoted, ASlot, is_head, among, apart, NoneNext, OneNext, both}
-use Rattle.sql_reader.proofs.Right.{next_of, stop_of, moved_to, Means, Goes, Beyond, Lifted, Begins, Right, Spells, reads_both}
-use Rattle.sql_reader.proofs.Repeats.{up_from, all_from, as_often_from}
+use Rattle.sql_reader.proofs.Right.{Means, Begins, Right, reads_both}
+use Rattle.sql_reader.proofs.Repeats.{up_from, as_often_from}
 
 -- one head is the other
 abbrev pub same_head : Head → Head → Bool
@@ -53,6 +52,7 @@ is_in-among head (other ∷ others) token inside is = by (λ later. is_in-among 
     or_right : (a b : Bool) → b ≡ true → (a || b) ≡ true
     or_right true b is = refl
     or_right false b is = is
+
     by : (is_in head others ≡ true → among others token ≡ true) → (same_head head other ≡ true) ⊎ (is_in head others ≡ true) → (is_head other token || among others token) ≡ true
     by later (inl same) = ap (λ b. b || among others token) (ap (λ h. is_head h token) (sym (same-heads head other same)) ∙ is)
     by later (inr more) = or_right (is_head other token) (among others token) (later more)
@@ -134,6 +134,7 @@ up_to-from {A = A} test reader (suc times) count tokens = by (λ middle. up_to-f
         → then_read outcome (λ value. reads_both (up_from test (λ _. reader) times (count + 1)) (λ more. pure (value ∷ more))) ≡ then_read outcome (λ value. reads_both (up_to times test reader) (λ more. pure (value ∷ more)))
     onward later (Ok (value, middle)) = ap (λ o. then_read o (λ more. pure (value ∷ more))) (later middle)
     onward later (Err fault) = refl
+
     by : ((middle : Tokens) → up_from test (λ _. reader) times (count + 1) middle ≡ up_to times test reader middle) → (answer : Bool)
         → (if answer then then_read (reader tokens) (λ value. reads_both (up_from test (λ _. reader) times (count + 1)) (λ more. pure (value ∷ more))) else Ok ([], tokens))
         ≡ (if answer then then_read (reader tokens) (λ value. reads_both (up_to times test reader) (λ more. pure (value ∷ more))) else Ok ([], tokens))
@@ -145,4 +146,4 @@ pub as_often : {A : Type 0} {lifts : LimitName → Bool} {test : Token → Bool}
     → ((token : Token) → test token ≡ among first token) → Right lifts reader other language first false follow → apart first follow ≡ true → Right lifts (many test reader) (many test other) (grammar.many language) first true (first ++ follow)
 as_often {test = test} {reader = reader} {other = other} {language = language} {first = first} {follow = follow} tests right distinct =
     same_readers (many test reader) (many test other) (λ tokens. up_to-from test reader (length tokens) 0 tokens) (λ tokens. up_to-from test other (length tokens) 0 tokens)
-        (as_often_from test (λ _. reader) (λ _. other) (λ _. language) first follow tests (λ _. right) distinct 0)
+    (as_often_from test (λ _. reader) (λ _. other) (λ _. language) first follow tests (λ _. right) distinct 0)

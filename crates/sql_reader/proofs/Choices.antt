@@ -1,11 +1,10 @@
 -- One token, no token, and one rule or another.
-use Rattle.std.proofs.Common.{◌≡◌, ◌≤◌, ◌<◌, ℕ, zero, suc, Bool, true, false, List, [], ◌∷◌, ◌++◌, length, Result, Ok, Err, refl, sym, ap, ◌∙◌, subst, inl, inr, arith}
-use Rattle.std.specs.Prelude.{◌⊎◌, ◌&&◌, ◌||◌, if◌then◌else◌, Option, None, Some}
-use Rattle.std.specs.Str.{bytes_eq, str_to_ascii_lowercase}
+use Rattle.std.proofs.Common.{◌≡◌, ◌≤◌, ◌<◌, ℕ, Bool, true, false, List, [], ◌∷◌, ◌++◌, length, Result, Ok, Err, refl, sym, ap, ◌∙◌, subst, inl, inr, arith}
+use Rattle.std.specs.Prelude.{◌⊎◌, ◌||◌, if◌then◌else◌, None, Some}
+use Rattle.std.specs.Str.{str_to_ascii_lowercase}
 use Rattle.std.proofs.lemmas.Bool.{false≢true}
 use Rattle.std.proofs.lemmas.Slice.Eq.{bytes_eq-Decides}
 use Rattle.own_model.specs.declared.limit.LimitName.{LimitName}
-use Rattle.own_model.specs.declared.limit.LimitName.TheVariants as limit
 use Rattle.sql_lex.specs.declared.token.TokenKind.TheVariants.{Keyword, Mark}
 use Rattle.sql_reader.specs.declared.fault.Fault.{Fault}
 use Rattle.sql_reader.specs.declared.fault.Fault.TheVariants.{Syntax, Limit, Memory}
@@ -16,7 +15,7 @@ use Rattle.sql_reader.specs.Token.{Token, Written, is_word, is_mark, is_name, is
 use Rattle.sql_reader.specs.Language.{Language, one, ◌or◌, ◌>>=◌}
 use Rattle.sql_reader.specs.Language as grammar
 use Rattle.sql_reader.proofs.Heads.{Head, AWord, AMark, AName, AQuoted, among, apart, NoneNext, OneNext, none-append, one-append-left, one-append-right, one-none}
-use Rattle.sql_reader.proofs.Right.{next_of, stop_of, moved_to, Means, Goes, Beyond, Lifted, Begins, Right, Spells, reads_both, Real}
+use Rattle.sql_reader.proofs.Right.{next_of, stop_of, Means, Goes, Lifted, Begins, Right, Real}
 use Rattle.sql_reader.proofs.Joins.{and_then, joined, next-append}
 
 -- what comes of a judgement where some limits are lifted
@@ -97,9 +96,11 @@ one_token {A = A} {lifts = lifts} judge other heads value fitting fits begins li
     goes : (tokens : Tokens) → Goes (accept judge) (one judge) tokens (accept judge tokens)
     goes [] = nothing_there judge value fitting fits
     goes (token ∷ rest) = judged_there judge value fitting fits token rest (judge token) refl
+
     lifts_one : (tokens : Tokens) → Lifted lifts (accept judge tokens) (accept other tokens)
     lifts_one [] = refl
     lifts_one (token ∷ rest) = lifted_judge lifts token rest (judge token) (other token) (lifted token)
+
     within : (tokens : Tokens) → length (stop_of (accept other tokens)) ≤ length tokens
     within [] = omega arith
     within (token ∷ rest) = judged-within (other token) token rest
@@ -119,6 +120,7 @@ passing {lifts = lifts} test heads fitting fits begins =
     by : (answer : Bool) → LiftedJudge {A = Unit {0}} lifts (if answer then Ok tt else Err Syntax) (if answer then Ok tt else Err Syntax)
     by true = refl
     by false = refl
+
     same : (token : Token) → LiftedJudge lifts (passes test token) (passes test token)
     same token = by (test token)
 
@@ -206,15 +208,19 @@ or_else {A = A} {lifts = lifts} {test = test} {reader = reader} {other = other} 
           local = λ more same. chosen test reader second (went.front ++ more) false (still_next test went more same ∙ is) ∙ went.local more same;
           means = means-right language behind went.front (second tokens) went.means;
         }
+
     tested : (tokens : Tokens) (answer : Bool) → next_is (among first) tokens ≡ answer → next_is test tokens ≡ answer
     tested tokens answer is = next_is-tests test first tests tokens ∙ is
+
     before : (rest : Tokens) → NoneNext (follow ++ joined blank after first) rest → NoneNext follow rest × NoneNext (joined blank after first) rest
     before rest none = none-append follow (joined blank after first) rest none
+
     unread : (tokens rest : Tokens) (empty : Bool) → NoneNext (joined empty after first) rest → Begins heads empty tokens rest → NoneNext first tokens × NoneNext after rest
     unread tokens rest true none (inl here) = (subst (NoneNext first) (sym here.1) (none-append after first rest none).1, (none-append after first rest none).0)
     unread tokens rest true none (inr here) = (one-none heads first tokens distinct here.0, (none-append after first rest none).0)
     unread tokens rest false none (inl here) = absurd (false≢true here.0)
     unread tokens rest false none (inr here) = (one-none heads first tokens distinct here.0, none)
+
     reads : (value : A) (tokens rest : Tokens) → (language or behind) value tokens rest → NoneNext (follow ++ joined blank after first) rest → either test reader second tokens ≡ Ok (value, rest)
     reads value tokens rest (inl word) none = left (one.begins value tokens rest word)
       where
@@ -224,6 +230,7 @@ or_else {A = A} {lifts = lifts} {test = test} {reader = reader} {other = other} 
     reads value tokens rest (inr word) none =
         let fits = unread tokens rest blank (before rest none).1 (two.begins value tokens rest word) in
         chosen test reader second tokens false (tested tokens false fits.0) ∙ two.reads value tokens rest word fits.1
+
     begins : (value : A) (tokens rest : Tokens) → (language or behind) value tokens rest → Begins (first ++ heads) blank tokens rest
     begins value tokens rest (inl word) = left (one.begins value tokens rest word)
       where
@@ -235,9 +242,11 @@ or_else {A = A} {lifts = lifts} {test = test} {reader = reader} {other = other} 
         right : Begins heads blank tokens rest → Begins (first ++ heads) blank tokens rest
         right (inl here) = inl here
         right (inr here) = inr (one-append-right first heads tokens here.0, here.1)
+
     lifted_by : (tokens : Tokens) → Real lifts tokens → (answer : Bool) → Lifted lifts (if answer then reader tokens else second tokens) (if answer then other tokens else wider tokens)
     lifted_by tokens real true = one.lifted tokens real
     lifted_by tokens real false = two.lifted tokens real
+
     within_by : (tokens : Tokens) (answer : Bool) → length (stop_of (if answer then other tokens else wider tokens)) ≤ length tokens
     within_by tokens true = one.within tokens
     within_by tokens false = two.within tokens

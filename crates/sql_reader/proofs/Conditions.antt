@@ -1,13 +1,12 @@
 -- Conditions without NOT and brackets at their front.
-use Rattle.std.proofs.Common.{◌≡◌, ◌≤◌, ◌+◌, ℕ, zero, suc, Bool, true, false, length, Result, Ok, Err, refl, sym, ap, ◌∙◌, codes, arith}
+use Rattle.std.proofs.Common.{◌≡◌, ◌≤◌, ◌+◌, ℕ, zero, suc, Bool, false, Result, Ok, Err, ap, ◌∙◌, codes, arith}
 use Rattle.std.specs.Prelude.{if◌then◌else◌, nat_le}
-use Rattle.own_model.specs.declared.condition.Cond.{Cond}
 use Rattle.sql_reader.specs.declared.fault.Fault.{Fault}
 use Rattle.sql_reader.specs.declared.fault.Fault.TheVariants.{Syntax, Limit, Memory}
 use Rattle.own_model.specs.declared.condition.Cond.TheVariants as cond
 use Rattle.sql_reader.specs.Condition.{neg, comparison, too_deep, cond_over}
 use Rattle.sql_reader.specs.Limits.{Limits, store_limits}
-use Rattle.sql_reader.specs.Reading.{Tokens, Outcome, Reader, Does, either, next_is, accept, pure, ◌>>=◌, ◌>>◌}
+use Rattle.sql_reader.specs.Reading.{Tokens, Reader, Does, either, next_is, accept, pure, ◌>>=◌, ◌>>◌}
 use Rattle.sql_reader.specs.Rules.{word, mark}
 use Rattle.sql_reader.specs.Select.{item, item_behind}
 use Rattle.sql_reader.specs.Made.{slot_of}

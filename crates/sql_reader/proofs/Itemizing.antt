@@ -1,5 +1,5 @@
 -- The items of a select, which a loop reads one by one.
-use Rattle.std.proofs.Common.{◌≡◌, ◌<◌, ◌≤◌, ◌+◌, ℕ, zero, suc, Bool, true, false, List, [], ◌∷◌, ◌++◌, length, Result, Ok, Err, refl, sym, ap, ◌∙◌, subst, arith, append_assoc, codes}
+use Rattle.std.proofs.Common.{◌≡◌, ◌<◌, ◌≤◌, ◌+◌, ℕ, zero, suc, true, false, List, [], ◌∷◌, ◌++◌, length, Ok, Err, refl, sym, ap, ◌∙◌, arith, codes}
 use Rattle.std.proofs.lemmas.List.{length-append}
 use Rattle.std.specs.Prelude.{if◌then◌else◌}
 use Rattle.own_model.specs.declared.select.Item.{Item}
@@ -9,7 +9,7 @@ use Rattle.sql_reader.specs.Limits.{Limits}
 use Rattle.sql_reader.specs.Reading.{Tokens, Outcome, Reader, then_read, pure, ◌>>=◌, ◌>>◌, next_is, prepended, Does}
 use Rattle.sql_reader.specs.Rules.{mark}
 use Rattle.sql_reader.specs.Select.{item_behind, items_behind, all_items_behind}
-use Rattle.sql_reader.specs.Token.{Token, is_mark}
+use Rattle.sql_reader.specs.Token.{is_mark}
 use Rattle.sql_reader.proofs.Listing.{append-nil, first-prepended, prepended-more, some_token}
 
 -- the outcome of all items: what was read so far, and what is still to be read

@@ -1,15 +1,13 @@
 -- One rule and then another.
-use Rattle.std.proofs.Common.{◌≡◌, ◌≤◌, ◌<◌, ℕ, zero, suc, Bool, true, false, List, [], ◌∷◌, ◌++◌, length, Result, Ok, Err, refl, sym, ap, ◌∙◌, subst, inl, inr, append_assoc, arith}
-use Rattle.std.specs.Prelude.{◌⊎◌, ◌&&◌, if◌then◌else◌, Option, None, Some}
+use Rattle.std.proofs.Common.{◌≡◌, ◌≤◌, ◌<◌, Bool, true, false, List, [], ◌∷◌, ◌++◌, length, Ok, Err, refl, sym, ap, ◌∙◌, subst, inl, inr, append_assoc, arith}
+use Rattle.std.specs.Prelude.{◌&&◌, if◌then◌else◌}
 use Rattle.std.proofs.lemmas.Bool.{false≢true}
 use Rattle.own_model.specs.declared.limit.LimitName.{LimitName}
-use Rattle.sql_reader.specs.declared.fault.Fault.{Fault}
 use Rattle.sql_reader.specs.declared.fault.Fault.TheVariants.{Syntax, Limit, Memory}
-use Rattle.sql_reader.specs.Reading.{Tokens, Outcome, Reader, next_is, then_read}
-use Rattle.sql_reader.specs.Token.{Token}
+use Rattle.sql_reader.specs.Reading.{Tokens, Outcome, Reader, then_read}
 use Rattle.sql_reader.specs.Language.{Language, ◌>>=◌}
-use Rattle.sql_reader.proofs.Heads.{Head, among, apart, NoneNext, OneNext, none-append, one-append-left, one-append-right, one-none}
-use Rattle.sql_reader.proofs.Right.{next_of, stop_of, moved_to, Means, Goes, Beyond, Lifted, Begins, Right, Spells, reads_both, Real, real_behind}
+use Rattle.sql_reader.proofs.Heads.{Head, apart, NoneNext, OneNext, none-append, one-append-left, one-append-right, one-none}
+use Rattle.sql_reader.proofs.Right.{next_of, stop_of, Means, Goes, Beyond, Lifted, Begins, Right, Spells, reads_both, real_behind}
 
 -- behind the same tokens, the same token comes first
 pub next-append : (front rest other : Tokens) → next_of rest ≡ next_of other → next_of (front ++ rest) ≡ next_of (front ++ other)
@@ -30,6 +28,7 @@ goes_on {B = B} reader next language behind goes some tokens (Ok (value, middle)
     meant back (Ok (found, rest)) means = spells-both language behind value found first.front back first.means means
     meant back (Err fault) means =
         (means.0, means.1, subst (Spells (language >>= behind) means.0) (sym (append_assoc first.front back means.1)) (spells-both language behind value means.0 first.front (back ++ means.1) first.means means.2))
+
     joined : (outcome : Outcome B) → Goes (next value) (behind value) middle outcome → Goes (reads_both reader next) (language >>= behind) tokens outcome
     joined outcome second =
         record {
@@ -94,6 +93,7 @@ lifted_on {A = A} {B = B} lifts next wider within (Err (Limit which, rest)) othe
     further : (outcome : Outcome A) → length (stop_of outcome) < length rest → length (stop_of (then_read outcome wider)) < length rest
     further (Ok (value, middle)) less = let more = within value middle in omega arith
     further (Err fault) less = less
+
     beyond : Beyond lifts which rest other → Beyond lifts which rest (then_read other wider)
     beyond (inl less) = inl (further other less)
     beyond (inr named) = inr (named.0, named.1, ap (λ o. then_read o wider) named.2)

@@ -1,18 +1,17 @@
 -- The rules of one token.
-use Rattle.std.proofs.Common.{◌≡◌, ◌≤◌, ◌<◌, ◌+◌, ℕ, zero, suc, Bool, true, false, List, [], ◌∷◌, ◌++◌, length, map, Result, Ok, Err, refl, sym, ap, ◌∙◌, subst, inl, inr, arith, codes}
-use Rattle.std.specs.Prelude.{◌⊎◌, ◌==◌, ◌^◌, ◌-◌, nat_le, ℤ, if◌then◌else◌, Option, None, Some}
+use Rattle.std.proofs.Common.{◌≡◌, ℕ, Bool, true, false, List, [], ◌∷◌, length, map, Result, Ok, Err, refl, ap, inl, inr, codes}
+use Rattle.std.specs.Prelude.{◌==◌, ◌^◌, ◌-◌, nat_le, ℤ, if◌then◌else◌, Option, None}
 use Rattle.std.specs.Char.{to_ascii_lowercase}
-use Rattle.std.proofs.lemmas.Bool.{false≢true}
 use Rattle.own_base.specs.Name.{is_spelled}
 use Rattle.own_model.specs.declared.limit.LimitName.{LimitName}
 use Rattle.own_model.specs.declared.limit.LimitName.TheVariants as limit
 use Rattle.sql_lex.specs.declared.token.TokenKind.TheVariants.{Name, Keyword, Number, Quoted, Mark}
 use Rattle.sql_reader.specs.declared.fault.Fault.{Fault}
-use Rattle.sql_reader.specs.declared.fault.Fault.TheVariants.{Syntax, Limit, Memory}
+use Rattle.sql_reader.specs.declared.fault.Fault.TheVariants.{Syntax, Limit}
 use Rattle.sql_reader.specs.Grammar as grammar
 use Rattle.sql_reader.specs.Limits.{Limits, fits}
 use Rattle.sql_reader.specs.Rules as rules
-use Rattle.sql_reader.specs.Token.{Token, Written, Slot, name_of, text_of, number_of, folded, short_text, value_of, signed, undoubled, digits_behind}
+use Rattle.sql_reader.specs.Token.{Token, Written, Slot, name_of, text_of, number_of, short_text, value_of, signed, undoubled, digits_behind}
 use Rattle.sql_reader.proofs.Choices.{LiftedJudge, one_token}
 use Rattle.sql_reader.proofs.Heads.{AName, ANumber, AQuoted, among}
 use Rattle.sql_reader.proofs.Right.{Right}

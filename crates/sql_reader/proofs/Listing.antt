@@ -1,10 +1,10 @@
 -- A list that a loop reads, item by item.
-use Rattle.std.proofs.Common.{◌≡◌, ◌<◌, ◌≤◌, ℕ, zero, suc, Bool, true, false, List, [], ◌∷◌, ◌++◌, length, Result, Ok, Err, refl, sym, ap, ◌∙◌, subst, arith, append_assoc}
+use Rattle.std.proofs.Common.{◌≡◌, ◌<◌, ◌≤◌, ℕ, zero, suc, Bool, true, false, List, [], ◌∷◌, ◌++◌, length, Ok, Err, refl, sym, ap, ◌∙◌, arith, append_assoc}
 use Rattle.std.proofs.lemmas.Bool.{false≢true}
 use Rattle.std.specs.Prelude.{if◌then◌else◌}
 use Rattle.sql_reader.specs.declared.fault.Fault.{Fault}
 use Rattle.sql_reader.specs.declared.fault.Fault.TheVariants.{Syntax, Limit, Memory}
-use Rattle.sql_reader.specs.Reading.{Tokens, Outcome, Reader, then_read, pure, ◌>>=◌, next_is, either, up_to, many, prepended, Does}
+use Rattle.sql_reader.specs.Reading.{Tokens, Outcome, Reader, then_read, pure, ◌>>=◌, next_is, up_to, many, prepended, Does}
 use Rattle.sql_reader.specs.Token.{Token}
 
 -- the outcome of the whole list: what was read so far, and what is still to be read

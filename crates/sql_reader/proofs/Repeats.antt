@@ -1,19 +1,16 @@
 -- A rule as often as it comes.
-use Rattle.std.proofs.Common.{◌≡◌, ◌≤◌, ◌<◌, ◌+◌, ℕ, zero, suc, Bool, true, false, List, [], ◌∷◌, ◌++◌, length, Result, Ok, Err, refl, sym, ap, ◌∙◌, subst, inl, inr, arith, append_assoc}
-use Rattle.std.specs.Prelude.{◌⊎◌, ◌&&◌, ◌||◌, if◌then◌else◌, Option, None, Some}
+use Rattle.std.proofs.Common.{◌≡◌, ◌≤◌, ◌<◌, ◌+◌, ℕ, zero, suc, Bool, true, false, List, [], ◌∷◌, ◌++◌, length, Ok, Err, refl, sym, ap, ◌∙◌, subst, inl, inr, arith, append_assoc}
+use Rattle.std.specs.Prelude.{if◌then◌else◌}
 use Rattle.std.proofs.lemmas.Bool.{false≢true}
-use Rattle.std.proofs.lemmas.List.{length-append}
 use Rattle.own_model.specs.declared.limit.LimitName.{LimitName}
 use Rattle.sql_reader.specs.declared.fault.Fault.{Fault}
-use Rattle.sql_reader.specs.declared.fault.Fault.TheVariants.{Syntax, Limit, Memory}
-use Rattle.sql_reader.specs.Reading.{Tokens, Outcome, Reader, next_is, then_read, either, pure, up_to, many}
+use Rattle.sql_reader.specs.Reading.{Tokens, Outcome, Reader, next_is, then_read, either, pure}
 use Rattle.sql_reader.specs.Token.{Token}
 use Rattle.sql_reader.specs.Language.{Language, many_from}
-use Rattle.sql_reader.specs.Language as grammar
-use Rattle.sql_reader.proofs.Heads.{Head, among, apart, NoneNext, OneNext, none-append, one-append-left, one-append-right, one-none}
-use Rattle.sql_reader.proofs.Right.{next_of, stop_of, moved_to, Means, Goes, Beyond, Lifted, Begins, Right, Spells, reads_both, Real, real_behind}
+use Rattle.sql_reader.proofs.Heads.{Head, among, apart, NoneNext, OneNext, none-append, one-none}
+use Rattle.sql_reader.proofs.Right.{next_of, stop_of, moved_to, Means, Goes, Lifted, Begins, Right, Spells, reads_both, Real, real_behind}
 use Rattle.sql_reader.proofs.Joins.{next-append, lifted_on, within_on}
-use Rattle.sql_reader.proofs.Choices.{next_is-tests, next_is-same, still_next, none-some}
+use Rattle.sql_reader.proofs.Choices.{next_is-tests, next_is-same, still_next}
 
 -- a fault is no answer
 pub not_ok : {A : Type 0} (fault : Fault × Tokens) (value : A) (rest : Tokens) → ◌≡◌ {A = Outcome A} (Err fault) (Ok (value, rest)) → ⊥
@@ -73,6 +70,7 @@ module _ {A : Type 0} {lifts : LimitName → Bool} (test : Token → Bool) (read
           let less = takes count tokens value middle is in
           ap (λ o. then_read o (λ more. pure (value ∷ more))) (later middle (omega arith) (omega arith))
       onward later (Err fault) is = refl
+
       by : ((middle : Tokens) → length middle ≤ times → length middle ≤ more → up_from test readers times (count + 1) middle ≡ up_from test readers more (count + 1) middle) → (answer : Bool)
           → (if answer then reads_both (readers count) (λ value. reads_both (up_from test readers times (count + 1)) (λ more. pure (value ∷ more))) tokens else Ok ([], tokens)) ≡ (if answer then reads_both (readers count) (λ value. reads_both (up_from test readers more (count + 1)) (λ more. pure (value ∷ more))) tokens else Ok ([], tokens))
       by later true = onward later (readers count tokens) refl
@@ -138,10 +136,10 @@ module _ {A : Type 0} {lifts : LimitName → Bool} (test : Token → Bool) (read
           → Lifted lifts (if answer then then_read (readers count tokens) (λ value. reads_both (up_from test readers times (count + 1)) (λ more. pure (value ∷ more))) else Ok ([], tokens)) (if answer then then_read (others count tokens) (λ value. reads_both (up_from test others times (count + 1)) (λ more. pure (value ∷ more))) else Ok ([], tokens))
       by later true =
           lifted_on lifts (λ value. reads_both (up_from test readers times (count + 1)) (λ more. pure (value ∷ more))) (λ value. reads_both (up_from test others times (count + 1)) (λ more. pure (value ∷ more)))
-              (λ value middle. within_on (λ more. pure (value ∷ more)) (λ more rest. omega arith) middle (up_from test others times (count + 1) middle) (within_all times (count + 1) middle))
-              (readers count tokens) (others count tokens)
-              (λ value middle is. lifted_on lifts (λ more. pure (value ∷ more)) (λ more. pure (value ∷ more)) (λ more rest. omega arith) (up_from test readers times (count + 1) middle) (up_from test others times (count + 1) middle) (λ more rest is. refl) (later middle (real_behind lifts ((each count).goes tokens) real value middle is)))
-              ((each count).lifted tokens real)
+          (λ value middle. within_on (λ more. pure (value ∷ more)) (λ more rest. omega arith) middle (up_from test others times (count + 1) middle) (within_all times (count + 1) middle))
+          (readers count tokens) (others count tokens)
+          (λ value middle is. lifted_on lifts (λ more. pure (value ∷ more)) (λ more. pure (value ∷ more)) (λ more rest. omega arith) (up_from test readers times (count + 1) middle) (up_from test others times (count + 1) middle) (λ more rest is. refl) (later middle (real_behind lifts ((each count).goes tokens) real value middle is)))
+          ((each count).lifted tokens real)
       by later false = refl
 
   -- the whole list's outcome, of the one's and of the others'
@@ -164,11 +162,14 @@ module _ {A : Type 0} {lifts : LimitName → Bool} (test : Token → Bool) (read
       stop-prepended : (outcome : Outcome (List A)) → stop_of (then_read outcome (λ more. pure (value ∷ more))) ≡ stop_of outcome
       stop-prepended (Ok (values, rest)) = refl
       stop-prepended (Err fault) = refl
+
       moved-prepended : (outcome : Outcome (List A)) (other : Tokens) → then_read (moved_to outcome other) (λ more. pure (value ∷ more)) ≡ moved_to (then_read outcome (λ more. pure (value ∷ more))) other
       moved-prepended (Ok (values, rest)) other = refl
       moved-prepended (Err fault) other = refl
+
       spelled : (values : List A) (back : Tokens) → Spells (many_from languages (count + 1)) values back → Spells (many_from languages count) (value ∷ values) (one.front ++ back)
       spelled values back spells ending = (back ++ ending, subst (λ l. languages count value l (back ++ ending)) (sym (append_assoc one.front back ending)) (one.means (back ++ ending)), spells ending)
+
       meant : (outcome : Outcome (List A)) → Means (many_from languages (count + 1)) rest.front outcome → Means (many_from languages count) (one.front ++ rest.front) (then_read outcome (λ more. pure (value ∷ more)))
       meant (Ok (values, behind)) means = spelled values rest.front means
       meant (Err fault) means = (value ∷ means.0, means.1, subst (Spells (many_from languages count) (value ∷ means.0)) (sym (append_assoc one.front rest.front means.1)) (spelled means.0 (rest.front ++ means.1) means.2))
@@ -202,6 +203,7 @@ module _ {A : Type 0} {lifts : LimitName → Bool} (test : Token → Bool) (read
           let less = takes count tokens value middle read in
           goes_one count tokens value middle (up_from test readers times (count + 1) middle) is read one (later middle (omega arith))
       onward later is (Err fault) read one = goes_fault count tokens fault is one
+
       by : ((middle : Tokens) → length middle ≤ times → Goes (all_from test readers (count + 1)) (many_from languages (count + 1)) middle (up_from test readers times (count + 1) middle)) → (answer : Bool) → next_is test tokens ≡ answer
           → Goes (all_from test readers count) (many_from languages count) tokens (if answer then then_read (readers count tokens) (λ value. reads_both (up_from test readers times (count + 1)) (λ more. pure (value ∷ more))) else Ok ([], tokens))
       by later true is = onward later is (readers count tokens) refl ((each count).goes tokens)

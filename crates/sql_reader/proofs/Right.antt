@@ -1,14 +1,13 @@
 -- A reader is right for a language.
-use Rattle.std.proofs.Common.{◌≡◌, ◌≤◌, ◌<◌, ℕ, zero, suc, Bool, true, false, List, [], ◌∷◌, ◌++◌, length, Result, Ok, Err, refl, sym, ap, ◌∙◌, subst}
-use Rattle.std.specs.Prelude.{◌⊎◌, ◌&&◌, if◌then◌else◌, Option, None, Some}
+use Rattle.std.proofs.Common.{◌≡◌, ◌≤◌, ◌<◌, Bool, true, false, List, [], ◌∷◌, ◌++◌, length, Ok, Err, ap, ◌∙◌, subst}
+use Rattle.std.specs.Prelude.{◌⊎◌, Option, None, Some}
 use Rattle.own_model.specs.declared.limit.LimitName.{LimitName}
 use Rattle.own_model.specs.declared.limit.LimitName.TheVariants as limit
-use Rattle.sql_reader.specs.declared.fault.Fault.{Fault}
 use Rattle.sql_reader.specs.declared.fault.Fault.TheVariants.{Syntax, Limit, Memory}
-use Rattle.sql_reader.specs.Reading.{Tokens, Outcome, Reader, next_is, then_read}
+use Rattle.sql_reader.specs.Reading.{Tokens, Outcome, Reader, then_read}
 use Rattle.sql_reader.specs.Token.{Token, is_slot}
 use Rattle.sql_reader.specs.Language.{Language}
-use Rattle.sql_reader.proofs.Heads.{Head, among, NoneNext, OneNext}
+use Rattle.sql_reader.proofs.Heads.{Head, NoneNext, OneNext}
 
 -- the first of the tokens
 abbrev pub next_of : Tokens → Option Token

@@ -1,6 +1,6 @@
 -- Where the fault of a text stands, in the grammar's terms.
-use Rattle.std.proofs.Common.{◌≡◌, ◌≤◌, ◌<◌, ◌+◌, ℕ, zero, suc, Bool, true, false, List, [], ◌∷◌, ◌++◌, length, take, drop, map, Result, Ok, Err, refl, sym, ap, ◌∙◌, subst, inl, inr, arith}
-use Rattle.std.specs.Prelude.{◌⊎◌, ◌==◌, not, if◌then◌else◌, Option, None, Some}
+use Rattle.std.proofs.Common.{◌≡◌, ◌≤◌, ◌<◌, ◌+◌, ℕ, suc, Bool, true, false, [], ◌∷◌, ◌++◌, length, take, drop, Ok, Err, refl, sym, ap, ◌∙◌, subst, inl, inr, arith}
+use Rattle.std.specs.Prelude.{◌==◌, not}
 use Rattle.std.proofs.lemmas.Bool.{false≢true}
 use Rattle.std.proofs.lemmas.List.{length-append}
 use Rattle.own_model.specs.declared.limit.LimitName.{LimitName}
@@ -9,11 +9,10 @@ use Rattle.own_model.specs.declared.statement.Statement.{Statement}
 use Rattle.sql_reader.specs.declared.fault.Fault.{Fault}
 use Rattle.sql_reader.specs.declared.fault.Fault.TheVariants.{Syntax, Limit, Memory}
 use Rattle.sql_reader.specs.Continues.{Continues, IsSyntaxAt, IsLimitAt, IsNone, only}
-use Rattle.sql_reader.specs.Grammar as grammar
-use Rattle.sql_reader.specs.Limits.{Limits, fits, store_limits, no_limits}
+use Rattle.sql_reader.specs.Limits.{Limits, store_limits, no_limits}
 use Rattle.sql_reader.specs.Reading.{Tokens, Outcome, then_read}
 use Rattle.sql_reader.specs.Statements.{statement_rule}
-use Rattle.sql_reader.proofs.Right.{stop_of, Goes, Beyond, Lifted, Real, NoSlot}
+use Rattle.sql_reader.proofs.Right.{stop_of, Beyond, Lifted, NoSlot}
 use Rattle.sql_reader.proofs.Rules.Levels.{deeper, deeper-sum}
 use Rattle.sql_reader.proofs.Wholly.{statement_right, statement_goes, whole_at, Fails, fails, reads_whole, no_more, drop-front, continues_to, take-front, raised, finish, ok_err, fault_of}
 use Rattle.sql_reader.proofs.Lifts.{lift, Fair, fair-lift}
@@ -170,17 +169,19 @@ module _ (tokens : Tokens) (real : NoSlot tokens) where
   pub syntax_at : (rest : Tokens) → whole_at store_limits 64 tokens ≡ Err (Syntax, rest) → (at : ℕ) × IsSyntaxAt tokens at × (drop at tokens ≡ rest)
   unfolding all_lift
   syntax_at rest is =
-      let failed = fails store_limits store_fair 64 tokens (Syntax, rest) is in
-      ( length failed.front,
+      let failed = fails store_limits store_fair 64 tokens (Syntax, rest) is in (
+        length failed.front,
         record { none = none_is (Syntax, rest) is; before = before (Syntax, rest) failed; ends = ends failed },
-        ap (drop (length failed.front)) failed.is ∙ drop-front failed.front rest )
+        ap (drop (length failed.front)) failed.is ∙ drop-front failed.front rest,
+      )
     where
       free : (extra : ℕ) → whole_at no_limits (deeper extra 64) tokens ≡ Err (Syntax, rest)
       free extra = fault_kept all_lift (statement_rule store_limits 64 tokens) (statement_rule no_limits (deeper extra 64) tokens) (Syntax, rest) ((statement_right all_lift store_limits store_fair extra 64).lifted tokens (λ lifted. real)) (λ which same. absurd (syntax_limit which same)) is
+
       ends : (failed : Fails store_limits 64 tokens (Syntax, rest)) (levels : ℕ) → Continues no_limits levels tokens (suc (length failed.front)) → ⊥
       ends failed levels going =
           ends_there no_limits free_fair (deeper levels 64) levels (Syntax, rest) (free levels) failed.front failed.is
-              (λ other found read. subst (λ n. whole_at no_limits n other ≡ Ok (found, [])) (both_ways levels) (more_levels no_limits free_fair 64 levels other found read)) going
+          (λ other found read. subst (λ n. whole_at no_limits n other ≡ Ok (found, [])) (both_ways levels) (more_levels no_limits free_fair 64 levels other found read)) going
         where
           both_ways : (levels : ℕ) → deeper 64 levels ≡ deeper levels 64
           both_ways levels = let one = deeper-sum 64 levels in let two = deeper-sum levels 64 in omega arith
@@ -189,11 +190,12 @@ module _ (tokens : Tokens) (real : NoSlot tokens) where
   only_this : (name : LimitName) (rest : Tokens) (extra : ℕ) → whole_at store_limits 64 tokens ≡ Err (Limit name, rest) → whole_at (only name) (raised (all_but name limit.Nesting) extra 64) tokens ≡ Err (Limit name, rest)
   only_this name rest extra is =
       subst (λ l. whole_at l (raised (all_but name limit.Nesting) extra 64) tokens ≡ Err (Limit name, rest)) (all_but-lift name)
-          (fault_kept (all_but name) (statement_rule store_limits 64 tokens) (statement_rule (lift (all_but name) store_limits) (raised (all_but name limit.Nesting) extra 64) tokens) (Limit name, rest)
-              ((statement_right (all_but name) store_limits store_fair extra 64).lifted tokens (λ lifted. real)) (λ which same. ap (all_but name) (sym (ap (λ f. limit_of f which) same)) ∙ all_but-self name) is)
+      (fault_kept (all_but name) (statement_rule store_limits 64 tokens) (statement_rule (lift (all_but name) store_limits) (raised (all_but name limit.Nesting) extra 64) tokens) (Limit name, rest)
+      ((statement_right (all_but name) store_limits store_fair extra 64).lifted tokens (λ lifted. real)) (λ which same. ap (all_but name) (sym (ap (λ f. limit_of f which) same)) ∙ all_but-self name) is)
 
   further : (name : LimitName) (rest : Tokens) (failed : Fails store_limits 64 tokens (Limit name, rest)) (outcome : Outcome Statement) → length (stop_of outcome) < length rest → suc (length failed.front) + length (stop_of outcome) ≤ length tokens
   further name rest failed outcome less = let lengths = ap length failed.is ∙ length-append failed.front rest in omega arith
+
   -- without limits a statement goes on through the token
   goes_on : (name : LimitName) (rest : Tokens) → whole_at store_limits 64 tokens ≡ Err (Limit name, rest) → (failed : Fails store_limits 64 tokens (Limit name, rest)) → (levels : ℕ) × Continues no_limits levels tokens (suc (length failed.front))
   unfolding all_lift
@@ -202,6 +204,7 @@ module _ (tokens : Tokens) (real : NoSlot tokens) where
       by : Beyond all_lift name rest (statement_rule no_limits 65 tokens) → Continues no_limits 65 tokens (suc (length failed.front))
       by (inl less) = continues_to no_limits 65 tokens (statement_rule no_limits 65 tokens) (statement_goes no_limits free_fair 65 tokens) (suc (length failed.front)) (further name rest failed (statement_rule no_limits 65 tokens) less)
       by (inr named) = absurd (false≢true (sym named.1))
+
   -- nor is a name's limit told where items are too many
   not_items : (name : LimitName) (rest : Tokens) → whole_at store_limits 64 tokens ≡ Err (Limit name, rest) → (failed : Fails store_limits 64 tokens (Limit name, rest)) → name ≡ limit.Name → (levels : ℕ) × Continues (only limit.Items) levels tokens (suc (length failed.front))
   unfolding all_but number_of_limit
@@ -215,19 +218,21 @@ module _ (tokens : Tokens) (real : NoSlot tokens) where
   -- a fault of a limit
   pub limit_at : (name : LimitName) (rest : Tokens) → whole_at store_limits 64 tokens ≡ Err (Limit name, rest) → (at : ℕ) × IsLimitAt name tokens at
   limit_at name rest is =
-      let failed = fails store_limits store_fair 64 tokens (Limit name, rest) is in
-      ( length failed.front,
-        record { none = none_is (Limit name, rest) is; before = before (Limit name, rest) failed; ends = ends failed; goes_on = goes_on name rest is failed; not_items = not_items name rest is failed } )
+      let failed = fails store_limits store_fair 64 tokens (Limit name, rest) is in (
+        length failed.front,
+        record { none = none_is (Limit name, rest) is; before = before (Limit name, rest) failed; ends = ends failed; goes_on = goes_on name rest is failed; not_items = not_items name rest is failed },
+      )
     where
       ends : (failed : Fails store_limits 64 tokens (Limit name, rest)) (levels : ℕ) → (name ≡ limit.Nesting → levels ≡ 64) → Continues (only name) levels tokens (suc (length failed.front)) → ⊥
       ends failed levels fixed going = by (all_but name limit.Nesting) refl
         where
           both_ways : deeper 64 levels ≡ deeper levels 64
           both_ways = let one = deeper-sum 64 levels in let two = deeper-sum levels 64 in omega arith
+
           by : (freed : Bool) → all_but name limit.Nesting ≡ freed → ⊥
           by true free =
               ends_there (only name) (only_fair name) (deeper levels 64) levels (Limit name, rest) (subst (λ b. whole_at (only name) (raised b levels 64) tokens ≡ Err (Limit name, rest)) free (only_this name rest levels is)) failed.front failed.is
-                  (λ other found read. subst (λ n. whole_at (only name) n other ≡ Ok (found, [])) both_ways (more_levels (only name) (only_fair name) 64 levels other found read)) going
+              (λ other found read. subst (λ n. whole_at (only name) n other ≡ Ok (found, [])) both_ways (more_levels (only name) (only_fair name) 64 levels other found read)) going
           by false kept =
               ends_there (only name) (only_fair name) 64 levels (Limit name, rest) (subst (λ b. whole_at (only name) (raised b levels 64) tokens ≡ Err (Limit name, rest)) kept (only_this name rest levels is)) failed.front failed.is
-                  (λ other found read. subst (λ n. whole_at (only name) n other ≡ Ok (found, [])) (fixed (nesting_alone name kept)) read) going
+              (λ other found read. subst (λ n. whole_at (only name) n other ≡ Ok (found, [])) (fixed (nesting_alone name kept)) read) going

@@ -1,25 +1,21 @@
 -- What comes of a whole text.
-use Rattle.std.proofs.Common.{◌≡◌, ◌≤◌, ◌<◌, ◌+◌, ℕ, zero, suc, Bool, true, false, List, [], ◌∷◌, ◌++◌, length, take, drop, map, Result, Ok, Err, refl, sym, ap, ◌∙◌, subst, inl, inr, arith, append_assoc}
-use Rattle.std.specs.Prelude.{◌⊎◌, ◌==◌, not, if◌then◌else◌, Option, None, Some}
-use Rattle.std.proofs.lemmas.Bool.{false≢true}
+use Rattle.std.proofs.Common.{◌≡◌, ◌≤◌, ◌+◌, ℕ, zero, suc, Bool, true, false, [], ◌∷◌, ◌++◌, length, take, drop, Ok, Err, refl, sym, ap, ◌∙◌, subst, arith, append_assoc}
+use Rattle.std.specs.Prelude.{Some}
 use Rattle.std.proofs.lemmas.List.{length-append}
 use Rattle.own_model.specs.declared.limit.LimitName.{LimitName}
 use Rattle.own_model.specs.declared.limit.LimitName.TheVariants as limit
 use Rattle.own_model.specs.declared.statement.Statement.{Statement}
 use Rattle.sql_reader.specs.declared.fault.Fault.{Fault}
-use Rattle.sql_reader.specs.declared.fault.Fault.TheVariants.{Syntax, Limit, Memory}
-use Rattle.sql_reader.specs.Continues.{Continues, IsSyntaxAt, IsLimitAt, IsNone, only}
-use Rattle.sql_reader.specs.Condition.{neg}
+use Rattle.sql_reader.specs.declared.fault.Fault.TheVariants.{Syntax, Memory}
+use Rattle.sql_reader.specs.Continues.{Continues}
 use Rattle.sql_reader.specs.Grammar as grammar
-use Rattle.sql_reader.specs.Limits.{Limits, fits, store_limits, no_limits}
-use Rattle.sql_reader.specs.Outcomes.{ended, whole}
+use Rattle.sql_reader.specs.Limits.{Limits}
+use Rattle.sql_reader.specs.Outcomes.{ended}
 use Rattle.sql_reader.specs.Reading.{Tokens, Outcome, Reader, then_read, pure}
 use Rattle.sql_reader.specs.Statements.{statement_rule}
-use Rattle.sql_reader.specs.Token.{Token}
 use Rattle.sql_reader.proofs.Choices.{none-some}
-use Rattle.sql_reader.proofs.Heads.{Head, AWord, AMark}
-use Rattle.sql_reader.proofs.Right.{next_of, stop_of, moved_to, Means, Goes, Beyond, Lifted, Right, Spells, Real, NoSlot, reads_both}
-use Rattle.sql_reader.proofs.Rules.Levels.{neg_kept, neg_freed, deeper, deeper-sum}
+use Rattle.sql_reader.proofs.Right.{next_of, stop_of, Means, Goes, Right, reads_both}
+use Rattle.sql_reader.proofs.Rules.Levels.{neg_kept, neg_freed, deeper}
 use Rattle.sql_reader.proofs.Rules.Statements.{statement_rule_right, begins_statement, behind_statement}
 use Rattle.sql_reader.proofs.Lifts.{lift, Fair}
 
@@ -78,16 +74,17 @@ fails_at limits levels tokens (Ok (found, token ∷ behind)) fault went is =
     stopped : (other : Tokens) → Some token ≡ next_of other → finish found other ≡ Err (Syntax, other)
     stopped [] same = absurd (none-some token (sym same))
     stopped (next ∷ other) same = refl
+
     local : (other : Tokens) → next_of (token ∷ behind) ≡ next_of other → whole_at limits levels (went.front ++ other) ≡ Err (Syntax, other)
     local other same = ap (λ o. then_read o finish) (went.local other same) ∙ stopped other same
 fails_at limits levels tokens (Err other) fault went is =
     subst (λ f. Fails limits levels tokens f) (ap fault_of is)
-        (record {
-          front = went.front;
-          is = went.is;
-          local = λ more same. ap (λ o. then_read o finish) (went.local more same);
-          begins = (went.means.0, went.means.1 ++ [], subst (λ l. grammar.statement limits levels went.means.0 l []) (append_assoc went.front went.means.1 []) (went.means.2 []));
-        })
+    (record {
+      front = went.front;
+      is = went.is;
+      local = λ more same. ap (λ o. then_read o finish) (went.local more same);
+      begins = (went.means.0, went.means.1 ++ [], subst (λ l. grammar.statement limits levels went.means.0 l []) (append_assoc went.front went.means.1 []) (went.means.2 []));
+    })
 
 pub fails : (limits : Limits) → Fair limits → (levels : ℕ) (tokens : Tokens) (fault : Fault × Tokens) → whole_at limits levels tokens ≡ Err fault → Fails limits levels tokens fault
 fails limits fair levels tokens fault is = fails_at limits levels tokens (statement_rule limits levels tokens) fault (statement_goes limits fair levels tokens) is
@@ -152,6 +149,7 @@ continues_to limits levels tokens outcome went count short = by outcome went.mea
   where
     enough : (stop : Tokens) → tokens ≡ went.front ++ stop → stop ≡ stop_of outcome → count ≤ length went.front
     enough stop is same = let lengths = ap length is ∙ length-append went.front stop in let stops = ap length same in omega arith
+
     by : (other : Outcome Statement) → Means (grammar.statement limits levels) went.front other → tokens ≡ went.front ++ stop_of outcome → Continues limits levels tokens count
     by (Ok (value, rest)) means is =
         record { found = value; spelling = went.front ++ []; spells = means []; same = take-front count went.front [] (stop_of outcome) (enough (stop_of outcome) is refl) ∙ ap (take count) (sym is) }

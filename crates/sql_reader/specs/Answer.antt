@@ -1,5 +1,5 @@
 -- What the reader answers for a text.
-use Rattle.std.specs.Prelude.{◌≡◌, ℕ, List, [], ◌∷◌, length, drop, Result, Ok, Err}
+use Rattle.std.specs.Prelude.{◌≡◌, ℕ, List, [], length, drop, Result, Ok, Err}
 use Rattle.own_model.specs.declared.statement.Statement.{Statement}
 use Rattle.sql_reader.specs.declared.fault.ReadFault.{ReadFault}
 use Rattle.sql_reader.specs.declared.fault.ReadFault.TheVariants.{Syntax, Limit, Memory}

@@ -1,6 +1,5 @@
 -- The rules of conditions, as they are read.
-use Rattle.std.specs.Prelude.{ℕ, zero, suc, Bool, true, false, List, [], ◌∷◌, Option, None, Some, ◌||◌, codes, Err}
-use Rattle.own_base.specs.declared.value.Value.{Value}
+use Rattle.std.specs.Prelude.{ℕ, zero, suc, List, ◌∷◌, Option, codes, Err}
 use Rattle.own_model.specs.declared.condition.Cmp.{Cmp}
 use Rattle.own_model.specs.declared.condition.Cmp.TheVariants as cmp
 use Rattle.own_model.specs.declared.condition.Cond.{Cond}
@@ -9,12 +8,12 @@ use Rattle.own_model.specs.declared.condition.Operand.{Operand}
 use Rattle.own_model.specs.declared.condition.Operand.TheVariants as operand
 use Rattle.own_model.specs.declared.limit.LimitName.TheVariants as limit
 use Rattle.own_model.specs.declared.select.ColRef.{ColRef}
-use Rattle.sql_reader.specs.declared.fault.Fault.TheVariants.{Syntax, Limit}
+use Rattle.sql_reader.specs.declared.fault.Fault.TheVariants.{Limit}
 use Rattle.sql_reader.specs.Limits.{Limits}
 use Rattle.sql_reader.specs.Made.{is_there, list_of}
-use Rattle.sql_reader.specs.Reading.{Reader, Tokens, ◌>>=◌, ◌>>◌, pure, accept, passes, either, optional, many, next_is}
+use Rattle.sql_reader.specs.Reading.{Reader, ◌>>=◌, ◌>>◌, pure, either, optional, many}
 use Rattle.sql_reader.specs.Rules.{word, mark, col, literal}
-use Rattle.sql_reader.specs.Token.{Token, is_word, is_mark, is_name}
+use Rattle.sql_reader.specs.Token.{is_word, is_mark, is_name}
 
 -- cmp = = | <> | != | < | <= | > | >=
 unfoldable pub comparison_sign : Reader Cmp

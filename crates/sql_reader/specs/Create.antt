@@ -1,5 +1,5 @@
 -- The rules of CREATE, as they are read.
-use Rattle.std.specs.Prelude.{ℕ, Bool, true, false, List, [], ◌∷◌, Option, None, Some, ◌||◌, codes}
+use Rattle.std.specs.Prelude.{ℕ, Bool, List, ◌∷◌, ◌||◌, codes}
 use Rattle.own_model.specs.declared.create.Attr.{Attr}
 use Rattle.own_model.specs.declared.create.Attr.TheVariants as attr
 use Rattle.own_model.specs.declared.create.CreateTable.{CreateTable}

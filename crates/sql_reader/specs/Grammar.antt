@@ -1,41 +1,29 @@
 -- The grammar of statements, from the smallest rule up: what each rule says of a text's tokens. Behind the dashes stands
 -- the rule as a grammar is written: {x} is any number of x, [x] is one or none.
-use Rattle.std.specs.Prelude.{◌≡◌, ℕ, zero, suc, ◌+◌, Bool, true, false, ℤ, List, [], ◌∷◌, Option, None, Some, codes}
+use Rattle.std.specs.Prelude.{ℕ, zero, suc, ◌+◌, Bool, true, false, ℤ, List, ◌∷◌, Option, None, codes}
 use Rattle.own_base.specs.declared.value.Key.{Key}
-use Rattle.own_base.specs.declared.value.Key.TheVariants as Key
 use Rattle.own_base.specs.declared.value.Value.{Value}
-use Rattle.own_base.specs.declared.value.Value.TheVariants as Value
 use Rattle.own_model.specs.declared.condition.Cmp.{Cmp}
-use Rattle.own_model.specs.declared.condition.Cmp.TheVariants as Cmp
 use Rattle.own_model.specs.declared.condition.Cond.{Cond}
 use Rattle.own_model.specs.declared.condition.Cond.TheVariants as Cond
 use Rattle.own_model.specs.declared.condition.Operand.{Operand}
-use Rattle.own_model.specs.declared.condition.Operand.TheVariants as Operand
 use Rattle.own_model.specs.declared.create.Attr.{Attr}
-use Rattle.own_model.specs.declared.create.Attr.TheVariants as Attr
 use Rattle.own_model.specs.declared.create.Part.{Part}
-use Rattle.own_model.specs.declared.create.Part.TheVariants as Part
 use Rattle.own_model.specs.declared.create.RefDef.{RefDef}
 use Rattle.own_model.specs.declared.expression.Expr.{Expr}
-use Rattle.own_model.specs.declared.expression.Expr.TheVariants as Expr
 use Rattle.own_model.specs.declared.schema.Kind.{Kind}
-use Rattle.own_model.specs.declared.schema.Kind.TheVariants as Kind
 use Rattle.own_model.specs.declared.schema.RefKind.{RefKind}
-use Rattle.own_model.specs.declared.schema.RefKind.TheVariants as RefKind
 use Rattle.own_model.specs.declared.select.ColRef.{ColRef}
 use Rattle.own_model.specs.declared.select.Item.{Item}
 use Rattle.own_model.specs.declared.select.Items.{Items}
-use Rattle.own_model.specs.declared.select.Items.TheVariants as Items
 use Rattle.own_model.specs.declared.select.Join.{Join}
 use Rattle.own_model.specs.declared.select.Order.{Order}
 use Rattle.own_model.specs.declared.select.Select.{Select}
 use Rattle.own_model.specs.declared.select.What.{What}
-use Rattle.own_model.specs.declared.select.What.TheVariants as What
 use Rattle.own_model.specs.declared.statement.Statement.{Statement}
-use Rattle.own_model.specs.declared.statement.Statement.TheVariants as Statement
 use Rattle.sql_reader.specs.Language.{Language, one, ◌>>=◌, ◌>>◌, pure, ◌or◌, optional, many, many_from, word, mark, separated, listed, bracketed, whether}
 use Rattle.sql_reader.specs.Limits.{Limits, fits}
-use Rattle.sql_reader.specs.Token.{Token, name_of, number_of, text_of}
+use Rattle.sql_reader.specs.Token.{name_of, number_of, text_of}
 use Rattle.sql_reader.specs.Made.{is_there, list_of, col_of, slot_of}
 
 -- name: a name, in lower case
@@ -398,10 +386,10 @@ key limits = (text limits >>= λ found. pure (Key.Text found)) or (int >>= λ fo
 -- gdpr = GDPR (GET | FORGET) name (int | text)
 unfoldable pub gdpr : Limits → Language Statement
 gdpr limits = word (codes "GDPR") >> ((do
-      word (codes "GET")
-      table ← name limits
-      found ← key limits
-      pure (Statement.GdprGet table found))
+  word (codes "GET")
+  table ← name limits
+  found ← key limits
+  pure (Statement.GdprGet table found))
     or (do
       word (codes "FORGET")
       table ← name limits

@@ -1,6 +1,6 @@
 -- How the reader goes over the tokens: what it reads and the tokens behind it, or the fault and the tokens from the
 -- fault on.
-use Rattle.std.specs.Prelude.{◌≡◌, ◌≤◌, ℕ, zero, suc, Bool, true, false, List, [], ◌∷◌, ◌++◌, length, Option, None, Some, Result, Ok, Err, if◌then◌else◌}
+use Rattle.std.specs.Prelude.{◌≡◌, ◌≤◌, ℕ, zero, suc, Bool, false, List, [], ◌∷◌, ◌++◌, length, Option, None, Some, Result, Ok, Err, if◌then◌else◌}
 use Rattle.sql_reader.specs.declared.fault.Fault.{Fault}
 use Rattle.sql_reader.specs.declared.fault.Fault.TheVariants.{Syntax, Limit, Memory}
 use Rattle.sql_reader.specs.Token.{Token}

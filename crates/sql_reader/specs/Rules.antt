@@ -1,5 +1,5 @@
 -- The rules of which the statements are made, as they are read.
-use Rattle.std.specs.Prelude.{ℕ, Bool, true, false, ℤ, List, [], ◌∷◌, Option, None, Some, ◌||◌, codes}
+use Rattle.std.specs.Prelude.{ℕ, Bool, true, false, ℤ, List, ◌∷◌, codes}
 use Rattle.own_base.specs.declared.value.Value.{Value}
 use Rattle.own_base.specs.declared.value.Value.TheVariants as value
 use Rattle.own_model.specs.declared.expression.Expr.{Expr}
@@ -8,7 +8,7 @@ use Rattle.own_model.specs.declared.select.ColRef.{ColRef}
 use Rattle.sql_reader.specs.Limits.{Limits}
 use Rattle.sql_reader.specs.Made.{col_of}
 use Rattle.sql_reader.specs.Reading.{Reader, ◌>>=◌, ◌>>◌, pure, accept, passes, either, optional, many}
-use Rattle.sql_reader.specs.Token.{is_word, is_mark, is_name, is_number, is_quoted, name_of, number_of, text_of}
+use Rattle.sql_reader.specs.Token.{is_word, is_mark, is_name, is_quoted, name_of, number_of, text_of}
 
 abbrev pub word : List ℕ → Reader (Unit {0})
 word wanted = accept (passes (is_word wanted))

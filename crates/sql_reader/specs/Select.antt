@@ -1,9 +1,7 @@
 -- The rules of selects, as they are read.
-use Rattle.std.specs.Prelude.{ℕ, zero, suc, ◌+◌, Bool, true, false, not, List, [], ◌∷◌, length, Option, None, Some, Result, ◌||◌, ◌&&◌, if◌then◌else◌, codes, Err, Ok}
+use Rattle.std.specs.Prelude.{ℕ, zero, suc, ◌+◌, Bool, true, false, not, List, [], ◌∷◌, length, Option, None, ◌||◌, ◌&&◌, if◌then◌else◌, codes}
 use Rattle.std.specs.List.{list_all}
 use Rattle.std.specs.Str.{bytes_eq}
-use Rattle.own_model.specs.declared.condition.Cond.{Cond}
-use Rattle.own_model.specs.declared.limit.LimitName.TheVariants as limit
 use Rattle.own_model.specs.declared.select.ColRef.{ColRef}
 use Rattle.own_model.specs.declared.select.Item.{Item}
 use Rattle.own_model.specs.declared.select.Items.{Items}
@@ -13,14 +11,12 @@ use Rattle.own_model.specs.declared.select.Order.{Order}
 use Rattle.own_model.specs.declared.select.Select.{Select}
 use Rattle.own_model.specs.declared.select.What.{What}
 use Rattle.own_model.specs.declared.select.What.TheVariants as what
-use Rattle.sql_reader.specs.declared.fault.Fault.{Fault}
-use Rattle.sql_reader.specs.declared.fault.Fault.TheVariants.{Syntax, Limit}
 use Rattle.sql_reader.specs.Condition.{condition}
 use Rattle.sql_reader.specs.Made.{is_there, slot_of}
-use Rattle.sql_reader.specs.Limits.{Limits, no_limits, fits}
-use Rattle.sql_reader.specs.Reading.{Reader, Tokens, ◌>>=◌, ◌>>◌, pure, accept, passes, either, optional}
+use Rattle.sql_reader.specs.Limits.{Limits, fits}
+use Rattle.sql_reader.specs.Reading.{Reader, ◌>>=◌, ◌>>◌, pure, accept, either, optional}
 use Rattle.sql_reader.specs.Rules.{word, mark, name, col, col_behind}
-use Rattle.sql_reader.specs.Token.{Token, Written, Slot, is_word, is_mark, name_of}
+use Rattle.sql_reader.specs.Token.{is_word, is_mark}
 
 -- COUNT ( * ) behind COUNT
 unfoldable pub count_behind : Reader What

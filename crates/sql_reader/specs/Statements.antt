@@ -1,5 +1,5 @@
 -- The rules of statements, as they are read.
-use Rattle.std.specs.Prelude.{ℕ, Bool, true, false, List, [], ◌∷◌, Option, None, Some, codes}
+use Rattle.std.specs.Prelude.{ℕ, List, ◌∷◌, Option, codes}
 use Rattle.own_base.specs.declared.value.Key.{Key}
 use Rattle.own_base.specs.declared.value.Key.TheVariants as key
 use Rattle.own_base.specs.declared.value.Value.{Value}

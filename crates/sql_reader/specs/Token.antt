@@ -1,5 +1,5 @@
 -- Tokens as the rules of the grammar see them.
-use Rattle.std.specs.Prelude.{◌≡◌, ℕ, ◌+◌, ◌*◌, ◌-◌, ◌^◌, Bool, true, false, ◌&&◌, ◌==◌, if◌then◌else◌, ℤ, pos, negsuc, zero, suc, nat_le, List, [], ◌∷◌, map, length, drop, Result, Ok, Err}
+use Rattle.std.specs.Prelude.{ℕ, ◌+◌, ◌*◌, ◌-◌, ◌^◌, Bool, true, false, ◌==◌, if◌then◌else◌, ℤ, pos, negsuc, zero, suc, nat_le, List, [], ◌∷◌, map, length, Result, Ok, Err}
 use Rattle.std.specs.Char.{to_ascii_lowercase}
 use Rattle.std.specs.Str.{bytes_eq, str_eq_ignore_ascii_case}
 use Rattle.own_base.specs.Name.{is_spelled}

@@ -1,51 +1,23 @@
 -- The rules of an item of a select.
-use Rattle.std.proofs.Common.{◌≡◌, ℕ, Bool, true, false, ℤ, List, [], ◌∷◌, refl, sym, ap, ◌∙◌, codes, subst, inl, inr}
+use Rattle.std.proofs.Common.{◌≡◌, ℕ, Bool, true, false, List, [], ◌∷◌, refl, codes, subst, inl, inr}
 use Rattle.std.proofs.lemmas.Slice.Eq.{bytes_eq-Decides}
-use Rattle.std.specs.Prelude.{◌||◌, ◌&&◌, not, Option, None, Some}
 use Rattle.std.specs.Str.{bytes_eq}
-use Rattle.own_base.specs.declared.value.Key.TheVariants as Key
-use Rattle.own_base.specs.declared.value.Value.{Value}
-use Rattle.own_base.specs.declared.value.Value.TheVariants as Value
-use Rattle.own_model.specs.declared.condition.Cmp.TheVariants as Cmp
-use Rattle.own_model.specs.declared.condition.Cond.{Cond}
-use Rattle.own_model.specs.declared.condition.Cond.TheVariants as Cond
-use Rattle.own_model.specs.declared.condition.Operand.TheVariants as Operand
-use Rattle.own_model.specs.declared.create.Attr.TheVariants as Attr
-use Rattle.own_model.specs.declared.create.Part.TheVariants as Part
-use Rattle.own_model.specs.declared.expression.Expr.TheVariants as Expr
 use Rattle.own_model.specs.declared.limit.LimitName.{LimitName}
-use Rattle.own_model.specs.declared.schema.Kind.TheVariants as Kind
-use Rattle.own_model.specs.declared.schema.RefKind.TheVariants as RefKind
-use Rattle.own_model.specs.declared.select.ColRef.{ColRef}
-use Rattle.own_model.specs.declared.select.Item.{Item}
-use Rattle.own_model.specs.declared.select.Items.{Items}
-use Rattle.own_model.specs.declared.select.Items.TheVariants as Items
-use Rattle.own_model.specs.declared.select.Join.{Join}
 use Rattle.own_model.specs.declared.select.What.{What}
-use Rattle.own_model.specs.declared.create.CreateTable.{CreateTable}
-use Rattle.own_model.specs.declared.expression.Expr.{Expr}
-use Rattle.own_model.specs.declared.select.What.TheVariants as What
-use Rattle.own_model.specs.declared.statement.Statement.TheVariants as Statement
 use Rattle.sql_reader.specs.Grammar as grammar
 use Rattle.sql_reader.specs.Language as language
 use Rattle.sql_reader.specs.Language.{Language, ◌>>=◌, ◌>>◌, ◌or◌}
 use Rattle.sql_reader.specs.Limits.{Limits}
-use Rattle.sql_reader.specs.Reading.{Reader, Tokens}
-use Rattle.sql_reader.specs.Rules as rules
-use Rattle.sql_reader.specs.Condition as condition_rules
-use Rattle.sql_reader.specs.Create as create_rules
+use Rattle.sql_reader.specs.Reading.{Tokens}
 use Rattle.sql_reader.specs.Select as select_rules
-use Rattle.sql_reader.specs.Statements as statement_rules
 use Rattle.sql_reader.specs.Select.{is_plain, is_listed}
-use Rattle.sql_reader.specs.Token.{Token, is_word}
-use Rattle.sql_reader.proofs.Changes.{as_often, decided, with_more, in_words, Into}
-use Rattle.sql_reader.proofs.Choices.{or_else, or_nothing, word_right, mark_right, pure_right, word_tests, mark_tests, name_tests, quoted_tests, or_none}
-use Rattle.sql_reader.proofs.Heads.{AWord, AMark, AName, ANumber, AQuoted, ASlot, among}
+use Rattle.sql_reader.proofs.Changes.{decided, with_more, in_words, Into}
+use Rattle.sql_reader.proofs.Choices.{or_else, or_nothing, word_right, mark_right, pure_right, word_tests, mark_tests}
+use Rattle.sql_reader.proofs.Heads.{AWord, AMark, AName}
 use Rattle.sql_reader.proofs.Joins.{and_then}
-use Rattle.sql_reader.proofs.Leaves.{name_right, text_right, number_right}
+use Rattle.sql_reader.proofs.Leaves.{name_right}
 use Rattle.sql_reader.proofs.Right.{Right}
 use Rattle.sql_reader.proofs.Rules.Values.{col_behind_right, col_right}
-use Rattle.sql_reader.specs.Made.{is_there, list_of, col_of}
 use Rattle.sql_reader.proofs.Lifts.{lift, Fair}
 
 -- ( * ), behind COUNT
@@ -103,12 +75,15 @@ module _ (lifts : LimitName → Bool) (limits : Limits) (fair : Fair limits) whe
     where
       a_column : col_what limits first value middle rest → (grammar.column limits or (grammar.count limits or grammar.sum limits)) value tokens rest
       a_column (column, end, text, made) = inl (column, end, (first, middle, named, text), made)
+
       called : (wanted : List ℕ) → bytes_eq first wanted ≡ true → grammar.function limits wanted tt tokens middle
       called wanted is = subst (λ n. grammar.name limits n tokens middle) ((bytes_eq-Decides first wanted).0 is) named
+
       by_sum : (answer : Bool) → bytes_eq first (codes "sum") ≡ answer → language.whether answer (sum_of_behind limits or col_what limits first) (col_what limits first) value middle rest → (grammar.column limits or (grammar.count limits or grammar.sum limits)) value tokens rest
       by_sum true is (inl text) = inr (inr (tt, middle, called (codes "sum") is, text))
       by_sum true is (inr text) = a_column text
       by_sum false is text = a_column text
+
       by_count : (answer : Bool) → bytes_eq first (codes "count") ≡ answer → language.whether answer (count_behind or col_what limits first) (language.whether (bytes_eq first (codes "sum")) (sum_of_behind limits or col_what limits first) (col_what limits first)) value middle rest → (grammar.column limits or (grammar.count limits or grammar.sum limits)) value tokens rest
       by_count true is (inl text) = inr (inl (tt, middle, called (codes "count") is, text))
       by_count true is (inr text) = a_column text
@@ -121,6 +96,7 @@ module _ (lifts : LimitName → Bool) (limits : Limits) (fair : Fair limits) whe
       by_sum : (answer : Bool) → language.whether answer (sum_of_behind limits or col_what limits first) (col_what limits first) value middle rest
       by_sum true = inr text
       by_sum false = text
+
       by_count : (answer : Bool) → language.whether answer (count_behind or col_what limits first) (language.whether (bytes_eq first (codes "sum")) (sum_of_behind limits or col_what limits first) (col_what limits first)) value middle rest
       by_count true = inr text
       by_count false = by_sum (bytes_eq first (codes "sum"))
@@ -138,5 +114,6 @@ module _ (lifts : LimitName → Bool) (limits : Limits) (fair : Fair limits) whe
     where
       to : Into (grammar.name limits >>= λ first. what_behind limits first >>= λ found. grammar.alias limits >>= λ called. language.pure (record { what = found; alias = called })) (grammar.gitem limits)
       to value tokens rest (first, middle, named, (found, end, what, called)) = (found, end, what_to first found tokens middle end named what, called)
+
       from : Into (grammar.gitem limits) (grammar.name limits >>= λ first. what_behind limits first >>= λ found. grammar.alias limits >>= λ called. language.pure (record { what = found; alias = called }))
       from value tokens rest (found, end, what, called) = let text = what_from found tokens end what in (text.0, text.1, text.2, (found, end, text.3, called))

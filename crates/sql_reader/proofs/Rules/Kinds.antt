@@ -1,9 +1,7 @@
 -- The kinds of statements, as they are read: both kinds of CREATE begin alike.
-use Rattle.std.proofs.Common.{◌≡◌, ℕ, List, [], ◌∷◌, refl, sym, ap, ◌∙◌, inl, inr, codes}
-use Rattle.std.specs.Prelude.{◌⊎◌}
+use Rattle.std.proofs.Common.{ℕ, refl, ap, ◌∙◌, inl, inr, codes}
 use Rattle.own_model.specs.declared.create.CreateView.{CreateView}
 use Rattle.own_model.specs.declared.statement.Statement.{Statement}
-use Rattle.own_model.specs.declared.statement.Statement.TheVariants as Statement
 use Rattle.sql_reader.specs.Grammar as grammar
 use Rattle.sql_reader.specs.Language.{Language, ◌>>=◌, ◌>>◌, ◌or◌, pure, word}
 use Rattle.sql_reader.specs.Limits.{Limits}

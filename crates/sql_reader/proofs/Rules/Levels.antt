@@ -1,26 +1,25 @@
 -- The rule of NOT and brackets, level by level.
-use Rattle.std.proofs.Common.{◌≡◌, ◌≤◌, ◌<◌, ◌+◌, ℕ, zero, suc, Bool, true, false, List, [], ◌∷◌, ◌++◌, length, Result, Ok, Err, refl, sym, ap, ◌∙◌, subst, inl, inr, arith, codes}
-use Rattle.std.specs.Prelude.{◌⊎◌, if◌then◌else◌, Option, None, Some}
+use Rattle.std.proofs.Common.{◌≡◌, ◌≤◌, ◌<◌, ◌+◌, ℕ, zero, suc, Bool, true, false, List, [], ◌∷◌, ◌++◌, length, Ok, Err, refl, sym, ap, ◌∙◌, subst, inl, inr, arith, codes}
+use Rattle.std.specs.Prelude.{◌⊎◌, if◌then◌else◌}
 use Rattle.std.proofs.lemmas.Bool.{false≢true}
 use Rattle.own_model.specs.declared.condition.Cond.{Cond}
 use Rattle.own_model.specs.declared.condition.Cond.TheVariants as Cond
 use Rattle.own_model.specs.declared.limit.LimitName.{LimitName}
 use Rattle.own_model.specs.declared.limit.LimitName.TheVariants as limit
-use Rattle.sql_reader.specs.declared.fault.Fault.{Fault}
-use Rattle.sql_reader.specs.declared.fault.Fault.TheVariants.{Syntax, Limit, Memory}
-use Rattle.sql_reader.specs.Condition.{neg, comparison, cond_over, too_deep}
+use Rattle.sql_reader.specs.declared.fault.Fault.TheVariants.{Syntax, Limit}
+use Rattle.sql_reader.specs.Condition.{neg, cond_over, too_deep}
 use Rattle.sql_reader.specs.Grammar as grammar
 use Rattle.sql_reader.specs.Language.{Language, ◌>>=◌, ◌>>◌, ◌or◌}
 use Rattle.sql_reader.specs.Language as language
-use Rattle.sql_reader.specs.Limits.{Limits, fits}
+use Rattle.sql_reader.specs.Limits.{Limits}
 use Rattle.sql_reader.specs.Reading.{Tokens, Outcome, Reader, next_is, then_read, either, accept, passes, pure, judged}
 use Rattle.sql_reader.specs.Rules.{word, mark}
 use Rattle.sql_reader.specs.Token.{Token, is_word, is_mark}
 use Rattle.sql_reader.proofs.Changes.{with_more, in_words, Into}
 use Rattle.sql_reader.proofs.Choices.{or_else, word_right, mark_right, pure_right, word_tests, mark_tests, next_is-tests, next_is-same, still_next}
-use Rattle.sql_reader.proofs.Heads.{Head, AWord, AMark, AName, among, apart, NoneNext, OneNext, one-none}
+use Rattle.sql_reader.proofs.Heads.{Head, AWord, AMark, AName, among, apart, OneNext, one-none}
 use Rattle.sql_reader.proofs.Joins.{and_then}
-use Rattle.sql_reader.proofs.Right.{next_of, stop_of, moved_to, Means, Goes, Lifted, Begins, Right, reads_both}
+use Rattle.sql_reader.proofs.Right.{next_of, stop_of, Goes, Lifted, Begins, Right, reads_both}
 use Rattle.sql_reader.proofs.Rules.Conditions.{comparison_right}
 use Rattle.sql_reader.proofs.Rules.Lists.{cond_over_right}
 use Rattle.sql_reader.proofs.Lifts.{Fair, lift, fair-lift}
@@ -52,8 +51,10 @@ too_deep_right {lifts = lifts} {test = test} {reader = reader} {other = other} {
     starts : {tokens rest : Tokens} → Begins first false tokens rest → OneNext first tokens
     starts (inl here) = absurd (false≢true here.0)
     starts (inr here) = here.0
+
     unopened : (tokens : Tokens) → OneNext first tokens → next_is test tokens ≡ false
     unopened tokens is = next_is-tests test heads tests tokens ∙ one-none first heads tokens distinct is
+
     goes_by : (tokens : Tokens) (answer : Bool) → next_is test tokens ≡ answer → Goes (either test too_deep reader) language tokens (if answer then too_deep tokens else reader tokens)
     goes_by tokens true is = went
       where
@@ -76,6 +77,7 @@ too_deep_right {lifts = lifts} {test = test} {reader = reader} {other = other} {
           local = λ more same. ap (λ b. if b then too_deep (went.front ++ more) else reader (went.front ++ more)) (still_next test went more same ∙ is) ∙ went.local more same;
           means = went.means;
         }
+
     lifted_by : (tokens : Tokens) → Lifted lifts (reader tokens) (other tokens) → (answer : Bool) → next_is test tokens ≡ answer → Lifted lifts (if answer then too_deep tokens else reader tokens) (if answer then opened tokens else other tokens)
     lifted_by tokens later true is = opened_by (opens tokens is)
       where
@@ -83,6 +85,7 @@ too_deep_right {lifts = lifts} {test = test} {reader = reader} {other = other} {
         opened_by (inl free) = inl (free.0, inl free.1)
         opened_by (inr kept) = inr kept
     lifted_by tokens later false is = later
+
     within_by : (tokens : Tokens) (answer : Bool) → length (stop_of (if answer then opened tokens else other tokens)) ≤ length tokens
     within_by tokens true = within tokens
     within_by tokens false = right.within tokens
@@ -105,19 +108,21 @@ module _ (lifts : LimitName → Bool) (limits : Limits) (fair : Fair limits) whe
   unfolding neg grammar.neg
   neg_step levels deep right =
       in_words (grammar.neg limits (suc levels)) to from
-          (with_more begins_neg false behind_neg
-              (or_else (word_tests (codes "NOT")) (and_then (and_then (word_right (codes "NOT")) (λ _. right) refl) (λ inner. pure_right (Cond.Not inner)) refl)
-                  (or_else (mark_tests (codes "("))
-                      (and_then (mark_right (codes "(")) (λ _. and_then (cond_over_right lifts (neg limits levels) (neg (lift lifts limits) deep) (grammar.neg limits levels) right) (λ inner. and_then (mark_right (codes ")")) (λ _. pure_right inner) refl) refl) refl)
-                      (comparison_right lifts limits fair) refl) refl)
-              refl (λ is. is) refl)
+      (with_more begins_neg false behind_neg
+      (or_else (word_tests (codes "NOT")) (and_then (and_then (word_right (codes "NOT")) (λ _. right) refl) (λ inner. pure_right (Cond.Not inner)) refl)
+      (or_else (mark_tests (codes "("))
+      (and_then (mark_right (codes "(")) (λ _. and_then (cond_over_right lifts (neg limits levels) (neg (lift lifts limits) deep) (grammar.neg limits levels) right) (λ inner. and_then (mark_right (codes ")")) (λ _. pure_right inner) refl) refl) refl)
+      (comparison_right lifts limits fair) refl) refl)
+      refl (λ is. is) refl)
     where
       read : Language Cond
       read = (language.word (codes "NOT") >> grammar.neg limits levels >>= λ inner. language.pure (Cond.Not inner)) or (language.bracketed (grammar.cond (grammar.neg limits levels)) or grammar.comparison limits)
+
       to : Into read (grammar.neg limits (suc levels))
       to value tokens rest (inl text) = inl text
       to value tokens rest (inr (inl text)) = inr (inr text)
       to value tokens rest (inr (inr text)) = inr (inl text)
+
       from : Into (grammar.neg limits (suc levels)) read
       from value tokens rest (inl text) = inl text
       from value tokens rest (inr (inl text)) = inr (inr text)
@@ -128,10 +133,10 @@ module _ (lifts : LimitName → Bool) (limits : Limits) (fair : Fair limits) whe
   unfolding neg grammar.neg
   last_kept kept =
       with_more begins_neg false behind_neg
-          (too_deep_right (AWord (codes "NOT") ∷ []) (word_tests (codes "NOT")) refl
-              (too_deep_right (AMark (codes "(") ∷ []) (mark_tests (codes "(")) refl (comparison_right lifts limits fair) (λ tokens is. inr (kept, refl)) (λ tokens. omega arith))
-              (λ tokens is. inr (kept, refl)) (λ tokens. omega arith))
-          refl (λ is. is) refl
+      (too_deep_right (AWord (codes "NOT") ∷ []) (word_tests (codes "NOT")) refl
+      (too_deep_right (AMark (codes "(") ∷ []) (mark_tests (codes "(")) refl (comparison_right lifts limits fair) (λ tokens is. inr (kept, refl)) (λ tokens. omega arith))
+      (λ tokens is. inr (kept, refl)) (λ tokens. omega arith))
+      refl (λ is. is) refl
 
   -- where the limit of levels is kept
   pub neg_kept : lifts limit.Nesting ≡ false → (levels : ℕ) → Right lifts (neg limits levels) (neg (lift lifts limits) levels) (grammar.neg limits levels) begins_neg false behind_neg
@@ -164,12 +169,15 @@ module _ (lifts : LimitName → Bool) (limits : Limits) (fair : Fair limits) whe
       let inside = λ (value : Unit {0}). and_then (cond_over_right none_lifted (neg (lift lifts limits) extra) (neg (lift lifts limits) extra) (grammar.neg (lift lifts limits) extra) (lifted_neg extra)) (λ inner. and_then (mark_right (codes ")")) (λ _. pure_right inner) refl) refl in
       let bracketed = and_then (mark_right {lifts = none_lifted} (codes "(")) inside refl in
       with_more begins_neg false behind_neg
-          (too_deep_right (AWord (codes "NOT") ∷ []) (word_tests (codes "NOT")) refl
-              (too_deep_right (AMark (codes "(") ∷ []) (mark_tests (codes "(")) refl (comparison_right lifts limits fair)
-                  (λ tokens is. inl (freed, opened-shorter (is_mark (codes "(")) (λ _. reads_both (cond_over (neg (lift lifts limits) extra)) (λ inner. reads_both (mark (codes ")")) (λ _. pure inner))) (inside tt).within tokens is)) bracketed.within)
-              (λ tokens is. inl (freed, subst (λ l. length l < length tokens) (sym (stop-pure Cond.Not (reads_both (word (codes "NOT")) (λ _. neg (lift lifts limits) extra) tokens)))
-                  (opened-shorter (is_word (codes "NOT")) (λ _. neg (lift lifts limits) extra) (lifted_neg extra).within tokens is))) negated.within)
-          refl (λ is. is) refl
+      (too_deep_right (AWord (codes "NOT") ∷ []) (word_tests (codes "NOT")) refl
+      (too_deep_right (AMark (codes "(") ∷ []) (mark_tests (codes "(")) refl (comparison_right lifts limits fair)
+      (λ tokens is. inl (freed, opened-shorter (is_mark (codes "(")) (λ _. reads_both (cond_over (neg (lift lifts limits) extra)) (λ inner. reads_both (mark (codes ")")) (λ _. pure inner))) (inside tt).within tokens is)) bracketed.within)
+      (λ tokens is. inl (
+        freed,
+        subst (λ l. length l < length tokens) (sym (stop-pure Cond.Not (reads_both (word (codes "NOT")) (λ _. neg (lift lifts limits) extra) tokens)))
+            (opened-shorter (is_word (codes "NOT")) (λ _. neg (lift lifts limits) extra) (lifted_neg extra).within tokens is),
+      )) negated.within)
+      refl (λ is. is) refl
 
   -- where the limit of levels is lifted
   pub neg_freed : lifts limit.Nesting ≡ true → (extra levels : ℕ) → Right lifts (neg limits levels) (neg (lift lifts limits) (deeper extra levels)) (grammar.neg limits levels) begins_neg false behind_neg

@@ -8,14 +8,11 @@ use Rattle.own_model.specs.declared.condition.Cond.{Cond}
 use Rattle.own_model.specs.declared.select.ColRef.{ColRef}
 use Rattle.own_model.specs.declared.select.Item.{Item}
 use Rattle.own_model.specs.declared.select.Items.{Items}
-use Rattle.own_model.specs.declared.select.Items.TheVariants as Items
 use Rattle.own_model.specs.declared.select.Join.{Join}
 use Rattle.own_model.specs.declared.select.Select.{Select}
-use Rattle.own_model.specs.declared.select.What.{What}
-use Rattle.own_model.specs.declared.select.What.TheVariants as What
 use Rattle.sql_reader.specs.declared.fault.Fault.{Fault}
 use Rattle.sql_reader.specs.declared.fault.Fault.TheVariants.{Syntax, Limit}
-use Rattle.sql_reader.specs.Grammar.{name, col, alias, citem, gitem, column, item_behind, items, join, condition, plain, grouped}
+use Rattle.sql_reader.specs.Grammar.{name, col, citem, gitem, item_behind, items, join, condition, plain, grouped}
 use Rattle.sql_reader.specs.Language.{Language, one, ◌>>=◌, ◌>>◌, ◌or◌, pure, optional, many_from, word, mark, whether}
 use Rattle.sql_reader.specs.Limits.{Limits, fits, no_limits}
 use Rattle.sql_reader.specs.Reading.{Tokens}
@@ -23,7 +20,7 @@ use Rattle.sql_reader.specs.Select.{is_plain, is_listed, is_column}
 use Rattle.sql_reader.specs.Token.{Token, Written, Slot, name_of}
 use Rattle.sql_reader.proofs.Changes.{Into}
 use Rattle.sql_reader.proofs.Heads.{both}
-use Rattle.sql_reader.specs.Made.{is_there, slot_of, slot_item, barred}
+use Rattle.sql_reader.specs.Made.{is_there, slot_of, barred}
 
 -- * | gitem {, gitem}
 abbrev pub items_or_all : Limits → Language Items
@@ -101,6 +98,7 @@ listed_to limits levels found value tokens rest (_, a, word_from, (from, b, name
       where
         wrong : ◌≡◌ {A = Option Join} (Some one) None → ⊥
         wrong same = cc
+
     joined_one : (joined : Option Join) → (one : Join) → joined ≡ Some one → optional (join limits) joined b c → whether (not (is_there joined)) (optional (group_by limits)) (pure None) group d e → value ≡ made (Items.Listed found) from joined cond group → behind_plain limits levels (Items.Listed found) value tokens rest
     joined_one None one some there group_there is = absurd (wrong some)
       where
@@ -108,6 +106,7 @@ listed_to limits levels found value tokens rest (_, a, word_from, (from, b, name
         wrong same = cc
     joined_one (Some other) one some there (no_group, same) is =
         (tt, a, word_from, (from, b, named, (Some other, c, there, (cond, d, where_there, (is ∙ ap (made (Items.Listed found) from (Some other) cond) no_group, same ∙ ends)))))
+
     by : (answer : Bool) → list_all is_column found ≡ answer → (joined : Option Join) → whether answer (optional (join limits)) (pure None) joined b c → whether (not (is_there joined)) (optional (group_by limits)) (pure None) group d e → value ≡ made (Items.Listed found) from joined cond group
         → (list_all is_column found ≡ true × behind_plain limits levels (Items.Listed found) value tokens rest) ⊎ behind_grouped limits levels (Items.Listed found) value tokens rest
     by true columns joined (inl (one, middle, text, (some, same))) group_there is = inl (columns, joined_one joined one some (inl (one, middle, text, (some, same))) group_there is)

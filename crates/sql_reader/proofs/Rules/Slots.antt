@@ -1,6 +1,6 @@
 -- An item behind so many others, and the slot that stands for one too many.
-use Rattle.std.proofs.Common.{◌≡◌, ◌≤◌, ◌<◌, ◌+◌, ℕ, zero, suc, Bool, true, false, List, [], ◌∷◌, ◌++◌, length, map, Result, Ok, Err, refl, sym, ap, ◌∙◌, inl, inr, arith, codes}
-use Rattle.std.specs.Prelude.{◌⊎◌, if◌then◌else◌, Option, None, Some}
+use Rattle.std.proofs.Common.{◌≡◌, ◌≤◌, ◌+◌, ℕ, zero, suc, Bool, true, false, List, [], ◌∷◌, length, map, Result, Ok, Err, refl, sym, ap, inl, inr, arith, codes}
+use Rattle.std.specs.Prelude.{if◌then◌else◌, Option, None}
 use Rattle.std.specs.Char.{to_ascii_lowercase}
 use Rattle.std.proofs.lemmas.Bool.{false≢true}
 use Rattle.own_base.specs.Name.{is_spelled}
@@ -9,7 +9,7 @@ use Rattle.own_model.specs.declared.limit.LimitName.TheVariants as limit
 use Rattle.own_model.specs.declared.select.Item.{Item}
 use Rattle.sql_lex.specs.declared.token.TokenKind.TheVariants.{Name, Keyword, Number, Quoted, Mark}
 use Rattle.sql_reader.specs.declared.fault.Fault.{Fault}
-use Rattle.sql_reader.specs.declared.fault.Fault.TheVariants.{Syntax, Limit, Memory}
+use Rattle.sql_reader.specs.declared.fault.Fault.TheVariants.{Syntax, Limit}
 use Rattle.sql_reader.specs.Grammar as grammar
 use Rattle.sql_reader.specs.Language.{one, whether, many_from, ◌>>◌}
 use Rattle.sql_reader.specs.Language as language
@@ -76,6 +76,7 @@ module _ (lifts : LimitName → Bool) (limits : Limits) (fair : Fair limits) whe
       kept : (freed : Bool) → fits (if freed then None else limits.name) (length name) ≡ false → freed ≡ false
       kept true is = absurd (false≢true (sym is))
       kept false is = refl
+
       by : (answer : Bool) → fits (lift lifts limits).name (length name) ≡ answer → Beyond lifts limit.Items (token ∷ rest) (then_read (judged (if answer then Ok name else Err (Limit limit.Name)) token rest) item_rest)
       by true is = let less = rest-within name rest in inl (omega arith)
       by false is = inr (refl, kept (lifts limit.Name) is, refl)
@@ -114,6 +115,7 @@ module _ (lifts : LimitName → Bool) (limits : Limits) (fair : Fair limits) whe
     where
       an_item : Right lifts (select_rules.item limits) (select_rules.item (lift lifts limits)) (grammar.gitem limits) (AName ∷ ASlot ∷ []) false behind_item
       an_item = with_more (AName ∷ ASlot ∷ []) false behind_item (item_right lifts limits fair) refl (λ is. is) refl
+
       by_free : (free : Bool) → lifts limit.Items ≡ free → Right lifts (if fits limits.items (count + 1) then select_rules.item limits else accept slot_of) (if fits (if free then None else limits.items) (count + 1) then select_rules.item (lift lifts limits) else accept slot_of) (whether (fits limits.items (count + 1)) (grammar.gitem limits) (one slot_of)) (AName ∷ ASlot ∷ []) false behind_item
       by_free true is = by (fits limits.items (count + 1))
         where
@@ -134,15 +136,18 @@ items-from limits (suc times) count tokens = by (λ middle. items-from limits ti
   where
     each : ℕ → Reader Item
     each count = reads_both (rules.mark (codes ",")) (λ _. select_rules.item_behind limits count)
+
     onward : ((middle : Tokens) → up_from (is_mark (codes ",")) each times (count + 1) middle ≡ select_rules.items_behind times limits (count + 1) middle) → (outcome : Outcome Item)
         → then_read outcome (λ value. reads_both (up_from (is_mark (codes ",")) each times (count + 1)) (λ more. pure (value ∷ more))) ≡ then_read outcome (λ value. reads_both (select_rules.items_behind times limits (count + 1)) (λ more. pure (value ∷ more)))
     onward later (Ok (value, middle)) = ap (λ o. then_read o (λ more. pure (value ∷ more))) (later middle)
     onward later (Err fault) = refl
+
     comma : ((middle : Tokens) → up_from (is_mark (codes ",")) each times (count + 1) middle ≡ select_rules.items_behind times limits (count + 1) middle) → (outcome : Outcome (Unit {0}))
         → then_read (then_read outcome (λ _. select_rules.item_behind limits count)) (λ value. reads_both (up_from (is_mark (codes ",")) each times (count + 1)) (λ more. pure (value ∷ more)))
         ≡ then_read outcome (λ _. reads_both (select_rules.item_behind limits count) (λ value. reads_both (select_rules.items_behind times limits (count + 1)) (λ more. pure (value ∷ more))))
     comma later (Ok (found, middle)) = onward later (select_rules.item_behind limits count middle)
     comma later (Err fault) = refl
+
     by : ((middle : Tokens) → up_from (is_mark (codes ",")) each times (count + 1) middle ≡ select_rules.items_behind times limits (count + 1) middle) → (answer : Bool)
         → (if answer then then_read (each count tokens) (λ value. reads_both (up_from (is_mark (codes ",")) each times (count + 1)) (λ more. pure (value ∷ more))) else Ok ([], tokens))
         ≡ (if answer then then_read (rules.mark (codes ",") tokens) (λ _. reads_both (select_rules.item_behind limits count) (λ value. reads_both (select_rules.items_behind times limits (count + 1)) (λ more. pure (value ∷ more)))) else Ok ([], tokens))
@@ -153,5 +158,5 @@ items-from limits (suc times) count tokens = by (λ middle. items-from limits ti
 pub all_items_right : (lifts : LimitName → Bool) (limits : Limits) (fair : Fair limits) → Right lifts (select_rules.all_items_behind limits 1) (select_rules.all_items_behind (lift lifts limits) 1) (many_from (λ count. language.mark (codes ",") >> grammar.item_behind (grammar.gitem limits) limits count) 1) (AMark (codes ",") ∷ []) true (AMark (codes ",") ∷ AWord (codes "AS") ∷ AMark (codes ".") ∷ AMark (codes "(") ∷ [])
 all_items_right lifts limits fair =
     same_readers (select_rules.all_items_behind limits 1) (select_rules.all_items_behind (lift lifts limits) 1) (λ tokens. items-from limits (length tokens) 1 tokens) (λ tokens. items-from (lift lifts limits) (length tokens) 1 tokens)
-        (as_often_from (is_mark (codes ",")) (λ count. reads_both (rules.mark (codes ",")) (λ _. select_rules.item_behind limits count)) (λ count. reads_both (rules.mark (codes ",")) (λ _. select_rules.item_behind (lift lifts limits) count))
-            (λ count. language.mark (codes ",") >> grammar.item_behind (grammar.gitem limits) limits count) (AMark (codes ",") ∷ []) behind_item (mark_tests (codes ",")) (λ count. and_then (mark_right (codes ",")) (λ _. item_behind_right lifts limits fair count) refl) refl 1)
+    (as_often_from (is_mark (codes ",")) (λ count. reads_both (rules.mark (codes ",")) (λ _. select_rules.item_behind limits count)) (λ count. reads_both (rules.mark (codes ",")) (λ _. select_rules.item_behind (lift lifts limits) count))
+    (λ count. language.mark (codes ",") >> grammar.item_behind (grammar.gitem limits) limits count) (AMark (codes ",") ∷ []) behind_item (mark_tests (codes ",")) (λ count. and_then (mark_right (codes ",")) (λ _. item_behind_right lifts limits fair count) refl) refl 1)

@@ -1,50 +1,20 @@
 -- The rules of names, numbers, texts and values.
-use Rattle.std.proofs.Common.{◌≡◌, ℕ, Bool, true, false, ℤ, List, [], ◌∷◌, refl, sym, ap, ◌∙◌, codes, subst, inl, inr}
-use Rattle.std.proofs.lemmas.Slice.Eq.{bytes_eq-Decides}
-use Rattle.std.specs.Prelude.{◌||◌, ◌&&◌, not, Option, None, Some}
-use Rattle.std.specs.Str.{bytes_eq}
-use Rattle.own_base.specs.declared.value.Key.TheVariants as Key
+use Rattle.std.proofs.Common.{ℕ, Bool, true, false, List, [], ◌∷◌, refl, codes, inl, inr}
 use Rattle.own_base.specs.declared.value.Value.{Value}
-use Rattle.own_base.specs.declared.value.Value.TheVariants as Value
-use Rattle.own_model.specs.declared.condition.Cmp.TheVariants as Cmp
-use Rattle.own_model.specs.declared.condition.Cond.{Cond}
-use Rattle.own_model.specs.declared.condition.Cond.TheVariants as Cond
-use Rattle.own_model.specs.declared.condition.Operand.TheVariants as Operand
-use Rattle.own_model.specs.declared.create.Attr.TheVariants as Attr
-use Rattle.own_model.specs.declared.create.Part.TheVariants as Part
-use Rattle.own_model.specs.declared.expression.Expr.TheVariants as Expr
 use Rattle.own_model.specs.declared.limit.LimitName.{LimitName}
-use Rattle.own_model.specs.declared.schema.Kind.TheVariants as Kind
-use Rattle.own_model.specs.declared.schema.RefKind.TheVariants as RefKind
-use Rattle.own_model.specs.declared.select.ColRef.{ColRef}
-use Rattle.own_model.specs.declared.select.Item.{Item}
-use Rattle.own_model.specs.declared.select.Items.{Items}
-use Rattle.own_model.specs.declared.select.Items.TheVariants as Items
-use Rattle.own_model.specs.declared.select.Join.{Join}
-use Rattle.own_model.specs.declared.select.What.{What}
-use Rattle.own_model.specs.declared.create.CreateTable.{CreateTable}
 use Rattle.own_model.specs.declared.expression.Expr.{Expr}
-use Rattle.own_model.specs.declared.select.What.TheVariants as What
-use Rattle.own_model.specs.declared.statement.Statement.TheVariants as Statement
 use Rattle.sql_reader.specs.Grammar as grammar
 use Rattle.sql_reader.specs.Language as language
 use Rattle.sql_reader.specs.Language.{Language, ◌>>=◌, ◌>>◌, ◌or◌}
 use Rattle.sql_reader.specs.Limits.{Limits}
-use Rattle.sql_reader.specs.Reading.{Reader, Tokens}
 use Rattle.sql_reader.specs.Rules as rules
-use Rattle.sql_reader.specs.Condition as condition_rules
-use Rattle.sql_reader.specs.Create as create_rules
-use Rattle.sql_reader.specs.Select as select_rules
-use Rattle.sql_reader.specs.Statements as statement_rules
-use Rattle.sql_reader.specs.Select.{is_plain, is_listed}
-use Rattle.sql_reader.specs.Token.{Token, is_word}
-use Rattle.sql_reader.proofs.Changes.{as_often, decided, with_more, in_words, Into}
-use Rattle.sql_reader.proofs.Choices.{or_else, or_nothing, word_right, mark_right, pure_right, word_tests, mark_tests, name_tests, quoted_tests, or_none}
-use Rattle.sql_reader.proofs.Heads.{AWord, AMark, AName, ANumber, AQuoted, ASlot, among}
+use Rattle.sql_reader.proofs.Changes.{as_often, in_words, Into}
+use Rattle.sql_reader.proofs.Choices.{or_else, or_nothing, word_right, mark_right, pure_right, word_tests, mark_tests, name_tests, quoted_tests}
+use Rattle.sql_reader.proofs.Heads.{AWord, AMark, AName, ANumber, AQuoted}
 use Rattle.sql_reader.proofs.Joins.{and_then}
 use Rattle.sql_reader.proofs.Leaves.{name_right, text_right, number_right}
 use Rattle.sql_reader.proofs.Right.{Right}
-use Rattle.sql_reader.specs.Made.{is_there, list_of, col_of}
+use Rattle.sql_reader.specs.Made.{col_of}
 use Rattle.sql_reader.proofs.Lifts.{lift, Fair}
 
 -- what may come behind the name of an expression
@@ -115,6 +85,7 @@ module _ (lifts : LimitName → Bool) (limits : Limits) (fair : Fair limits) whe
       to value tokens rest (inl (column, middle, text, inr (inl fewer))) = inr (inr (inr (column, middle, text, fewer)))
       to value tokens rest (inl (column, middle, text, inr (inr alone))) = inr (inl (column, middle, text, alone))
       to value tokens rest (inr text) = inl text
+
       from : Into (grammar.expr limits) ((grammar.name limits >>= sum_lang) or (grammar.literal limits >>= λ found. language.pure (Expr.Literal found)))
       from value tokens rest (inl text) = inr text
       from value tokens rest (inr (inl (column, middle, text, alone))) = inl (column, middle, text, inr (inr alone))

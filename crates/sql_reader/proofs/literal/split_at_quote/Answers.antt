@@ -1,4 +1,4 @@
-use Rattle.std.proofs.Common.{◌<◌, length, get_or, arith, ap, subst, sym, ◌∙◌}
+use Rattle.std.proofs.Common.{length, get_or, arith, ap}
 use Rattle.std.proofs.lemmas.Str.{IsCharBoundary-after_ascii}
 use Rattle.sql_reader.proofs.literal.split_at_quote.Goals as goal
 

@@ -1,4 +1,4 @@
-use Rattle.std.proofs.Common.{◌≡◌, length, codes, arith, sym, ap, ◌∙◌, subst, Ok, Err}
+use Rattle.std.proofs.Common.{length, arith, sym, ap, ◌∙◌, subst, Ok, Err}
 use Rattle.sql_reader.specs.Limits.{store_limits}
 use Rattle.sql_reader.specs.Reading.{then_read, Does}
 use Rattle.sql_reader.specs.Select as rules

@@ -1,4 +1,4 @@
-use Rattle.std.proofs.Common.{◌≤◌, ◌<◌, length}
+use Rattle.std.proofs.Common.{◌≤◌, length}
 use Rattle.sql_reader.specs.Limits.{store_limits}
 use Rattle.sql_reader.specs.Select as rules
 use Rattle.sql_reader.proofs.Itemizing.{Itemizing}

@@ -1,4 +1,4 @@
-use Rattle.std.proofs.Common.{◌≡◌, length, codes, arith, sym, ap, ◌∙◌, subst}
+use Rattle.std.proofs.Common.{codes, arith, sym, ap, ◌∙◌, subst}
 use Rattle.sql_reader.specs.Limits.{store_limits}
 use Rattle.sql_reader.specs.Reading.{◌>>◌}
 use Rattle.sql_reader.specs.Statements as rules
