@@ -1,5 +1,8 @@
 ghost use Rattle.std.specs.Prelude.{◌<◌, ◌^◌, length};
 
+mod places;
+mod words;
+
 use crate::{ReadFault, read_statement};
 use own_model::LimitName;
 use std::alloc::Global;
@@ -8,14 +11,14 @@ use std::test::Fail;
 
 /// What reading gives: a statement, a fault at a byte, or a limit.
 #[derive(Clone, Copy, Debug, PartialEq, Eq)]
-enum Answer {
+pub enum Answer {
     Read,
     At(u32),
     Over(LimitName),
     Memory,
 }
 
-fn answer_of(alloc: Global, text: &str) -> Answer
+pub fn answer_of(alloc: Global, text: &str) -> Answer
     requires { length text.now < 2 ^ 32 }
 {
     match read_statement(alloc, text) {
