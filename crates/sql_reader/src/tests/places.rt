@@ -151,6 +151,9 @@ const CONTROLS: [&str; 13] = [
 /// The tokens that are tried at each place, besides the keywords. `;` and `!` begin none.
 const OTHERS: &str = "q COUNT SUM 7 'q' ( ) , . = <> != < <= > >= + - * ; !";
 
+/// Those that are tried with the rest of the statement behind them.
+const WRONG: &str = "; q 7 , )";
+
 /// The tokens that a word of a row stands for.
 fn several(word: &str) -> &str {
     match word {
@@ -216,29 +219,45 @@ fn at_end(parts: &[&str]) -> Result<Answer, Fail> {
     Ok(Answer::At(len))
 }
 
-/// The token between these texts: it goes on exactly where the place lists it.
+/// The token behind the text: it goes on exactly where the place lists it.
 fn goes_on(
+    rt: &(impl Abort + AllocGlobal),
+    before: &str,
+    token: &str,
+    place: &str,
+) -> Result<(), Fail> {
+    let answer = answer_to(rt, &[before, token])?;
+    if lists(place, token) {
+        let early = at_end(&[before, token])?;
+        assert!(rt; answer == Answer::Read || answer == early, "{before}{token}: {answer:?}");
+    } else {
+        assert_eq!(rt; answer, at_end(&[before])?, "{before}{token}");
+    }
+    Ok(())
+}
+
+/// The token in place of the statement's own, with the rest of the statement behind it: it isn't listed.
+fn stands_wrong(
     rt: &(impl Abort + AllocGlobal),
     before: &str,
     token: &str,
     behind: &str,
     place: &str,
 ) -> Result<(), Fail> {
-    let alone = answer_to(rt, &[before, token])?;
-    if lists(place, token) {
-        let early = at_end(&[before, token])?;
-        assert!(rt; alone == Answer::Read || alone == early, "{before}{token}: {alone:?}");
-        return Ok(());
+    if !lists(place, token) {
+        let answer = answer_to(rt, &[before, token, " ", behind])?;
+        assert_eq!(rt; answer, at_end(&[before])?, "{before}{token} {behind}");
     }
-    let wanted = at_end(&[before])?;
-    assert_eq!(rt; alone, wanted, "{before}{token}");
-    let within = answer_to(rt, &[before, token, " ", behind])?;
-    assert_eq!(rt; within, wanted, "{before}{token} {behind}");
     Ok(())
 }
 
 /// Each place of the row, with its tokens joined so.
-fn check(rt: &(impl Abort + AllocGlobal), row: &str, glue: &str) -> Result<(), Fail> {
+fn check(
+    rt: &(impl Abort + AllocGlobal),
+    row: &str,
+    glue: &str,
+    tokens: &str,
+) -> Result<(), Fail> {
     let last = row.split('|').count().saturating_sub(1);
     for (at, place) in row.split('|').enumerate() {
         let mut before = joined(rt.alloc(), row, 0, at, glue)?;
@@ -252,11 +271,11 @@ fn check(rt: &(impl Abort + AllocGlobal), row: &str, glue: &str) -> Result<(), F
         if at > 0 {
             before.push_str(glue)?;
         }
-        for token in KEYWORDS.split(' ') {
-            goes_on(rt, before.as_str(), token, behind.as_str(), place)?;
+        for token in tokens.split(' ') {
+            goes_on(rt, before.as_str(), token, place)?;
         }
-        for token in OTHERS.split(' ') {
-            goes_on(rt, before.as_str(), token, behind.as_str(), place)?;
+        for token in WRONG.split(' ') {
+            stands_wrong(rt, before.as_str(), token, behind.as_str(), place)?;
         }
         assert_eq!(rt; lists(place, "$"), at == last, "{row}");
     }
@@ -265,18 +284,28 @@ fn check(rt: &(impl Abort + AllocGlobal), row: &str, glue: &str) -> Result<(), F
 
 fn check_all(rt: &(impl Abort + AllocGlobal), rows: &[&str]) -> Result<(), Fail> {
     for row in rows {
-        check(rt, row, " ")?;
-        check(rt, row, "\t--'(;\r\n")?;
+        check(rt, row, " ", KEYWORDS)?;
+        check(rt, row, "\t--'(;\r\n", OTHERS)?;
     }
     Ok(())
 }
 
 #[test]
-fn each_place_of_each_rule(rt: HostRuntime) -> Result<(), Fail> {
+fn each_place_of_each_create(rt: HostRuntime) -> Result<(), Fail> {
     check_all(&rt, &CREATES)?;
     check_all(&rt, &VIEWS)?;
+    Ok(())
+}
+
+#[test]
+fn each_place_of_each_select(rt: HostRuntime) -> Result<(), Fail> {
     check_all(&rt, &PLAIN_SELECTS)?;
     check_all(&rt, &GROUPED_SELECTS)?;
+    Ok(())
+}
+
+#[test]
+fn each_place_of_each_other_call(rt: HostRuntime) -> Result<(), Fail> {
     check_all(&rt, &WRITES)?;
     check_all(&rt, &CONDITIONS)?;
     check_all(&rt, &CONTROLS)?;
