@@ -28,7 +28,7 @@ const CREATES: [&str; 22] = [
     "create table u^.t (a int)",
 ];
 
-const SELECTS: [&str; 24] = [
+const SELECTS: [&str; 25] = [
     "select * from t",
     "select a, t.b as c from t inner join u on t.a = u.b where not a = 1 order by a desc",
     "select count(*), sum(a) as s, b from t group by b",
@@ -53,6 +53,7 @@ const SELECTS: [&str; 24] = [
     "select ^'it''s",
     "select ^'it''s'",
     "select ^1 from t",
+    "SELECT * FROM acc WHERE n = ^9223372036854775808",
 ];
 
 const WRITES: [&str; 22] = [
@@ -104,7 +105,7 @@ const CONDITIONS: [&str; 20] = [
 ];
 
 /// The tokens, the comments, and the texts that end too early.
-const TOKENS: [&str; 40] = [
+const TOKENS: [&str; 41] = [
     "begin transaction",
     "begin ^work",
     "begin transaction ^transaction",
@@ -141,6 +142,7 @@ const TOKENS: [&str; 40] = [
     "^",
     "  -- nothing^",
     "^t",
+    "^SELEC 1",
     "^;",
     "commit^;",
     "delete from ^select",

@@ -186,15 +186,16 @@ fn lists(place: &str, token: &str) -> bool {
     false
 }
 
-/// The tokens of a row from one place up to another, joined.
+/// The statement's tokens from one place of the row up to another, joined.
 fn joined(alloc: Global, row: &str, from: usize, to: usize, glue: &str) -> Result<String, Fail> {
     let mut text = String::new(alloc);
     for (at, place) in row.split('|').enumerate() {
-        if from <= at && at < to {
+        let token = place.split_whitespace().next().unwrap_or("no token");
+        if from <= at && at < to && token != "$" {
             if from < at {
                 text.push_str(glue)?;
             }
-            text.push_str(place.split_whitespace().next().unwrap_or("no token"))?;
+            text.push_str(token)?;
         }
     }
     Ok(text)
@@ -258,10 +259,12 @@ fn check(
     glue: &str,
     tokens: &str,
 ) -> Result<(), Fail> {
-    let last = row.split('|').count().saturating_sub(1);
+    let mut is_over = false;
     for (at, place) in row.split('|').enumerate() {
+        assert!(rt; !is_over, "a place behind $: {row}");
+        is_over = lists(place, "$");
         let mut before = joined(rt.alloc(), row, 0, at, glue)?;
-        let behind = joined(rt.alloc(), row, at.saturating_add(1), last, glue)?;
+        let behind = joined(rt.alloc(), row, at.saturating_add(1), usize::MAX, glue)?;
         let ended = answer_to(rt, &[before.as_str()])?;
         if lists(place, "end") {
             assert_eq!(rt; ended, Answer::Read, "{before}");
@@ -277,8 +280,8 @@ fn check(
         for token in WRONG.split(' ') {
             stands_wrong(rt, before.as_str(), token, behind.as_str(), place)?;
         }
-        assert_eq!(rt; lists(place, "$"), at == last, "{row}");
     }
+    assert!(rt; is_over, "no $: {row}");
     Ok(())
 }
 

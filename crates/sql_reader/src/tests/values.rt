@@ -79,7 +79,7 @@ const WRITES: [(&str, &str); 3] = [
     ),
 ];
 
-const CONDITIONS: [(&str, &str); 5] = [
+const CONDITIONS: [(&str, &str); 6] = [
     (
         "delete from t",
         "Delete { table: <t>, cond: None }",
@@ -94,6 +94,11 @@ const CONDITIONS: [(&str, &str); 5] = [
         "delete from t where (a = 1 or b != 2) and (c >= 3 and d is not null)",
         "Delete { table: <t>, cond: Some(Every([Some1([Compare(«a», Eq, Literal(Int(1))), \
          Compare(«b», Ne, Literal(Int(2)))]), Every([Compare(«c», Ge, Literal(Int(3))), IsNull(«d», true)])])) }",
+    ),
+    (
+        "delete from T where not (a=1 or b != 'x') and c is null",
+        "Delete { table: <t>, cond: Some(Every([Not(Boxed { inner: Some1([Compare(«a», Eq, Literal(Int(1))), \
+         Compare(«b», Ne, Literal(Text(Text { text: \"x\" })))]) }), IsNull(«c», false)])) }",
     ),
     (
         "delete from t where (a = 1 or b = 2) or c = null",
