@@ -3,6 +3,7 @@
 ghost use Rattle.std.specs.Prelude.{◌<◌, ◌^◌, length};
 
 use crate::read_statement;
+use crate::tests::{Answer, answer_of};
 use std::alloc::Global;
 use std::mem::drop;
 use std::process::Abort;
@@ -114,7 +115,7 @@ const CONDITIONS: [(&str, &str); 6] = [
     ),
 ];
 
-const OTHERS: [(&str, &str); 8] = [
+const OTHERS: [(&str, &str); 7] = [
     (
         "GDPR Get Tab 'it''s'",
         "GdprGet { table: <tab>, key: Text(Text { text: \"it's\" }) }",
@@ -128,7 +129,6 @@ const OTHERS: [(&str, &str); 8] = [
     ("rollback", "Rollback"),
     ("explain compliance", "Explain"),
     ("checkpoint", "Checkpoint"),
-    ("delete from t where", "nothing"),
 ];
 
 /// Two texts of one statement.
@@ -278,9 +278,10 @@ fn check_values(
 ) -> Result<(), Fail> {
     for (text, wanted) in rows {
         assert!(rt; text.len() < 1000);
+        assert_eq!(rt; answer_of(rt.alloc(), text), Answer::Read, "{text}");
         let told = told(rt.alloc(), text)?;
         let wanted = written_out(rt.alloc(), wanted)?;
-        assert_eq!(rt; told.as_str(), wanted.as_str());
+        assert_eq!(rt; told.as_str(), wanted.as_str(), "{text}");
     }
     Ok(())
 }
@@ -293,10 +294,10 @@ fn check_pairs(
 ) -> Result<(), Fail> {
     for (left, right) in pairs {
         assert!(rt; left.len() < 1000 && right.len() < 1000);
+        assert_eq!(rt; answer_of(rt.alloc(), left), Answer::Read, "{left}");
+        assert_eq!(rt; answer_of(rt.alloc(), right), Answer::Read, "{right}");
         let left_told = told(rt.alloc(), left)?;
         let right_told = told(rt.alloc(), right)?;
-        assert_ne!(rt; left_told.as_str(), "nothing", "{left}");
-        assert_ne!(rt; right_told.as_str(), "nothing", "{right}");
         assert_eq!(rt; left_told.as_str() == right_told.as_str(), same, "{left}, {right}");
     }
     Ok(())
