@@ -105,7 +105,7 @@ const CONDITIONS: [&str; 20] = [
 ];
 
 /// The tokens, the comments, and the texts that end too early.
-const TOKENS: [&str; 41] = [
+const TOKENS: [&str; 52] = [
     "begin transaction",
     "begin ^work",
     "begin transaction ^transaction",
@@ -147,6 +147,17 @@ const TOKENS: [&str; 41] = [
     "commit^;",
     "delete from ^select",
     "delete from t^\u{0}",
+    "delete^\u{c}from t",
+    "delete from t^\u{b}",
+    "^selecta from t",
+    "select*from t where a<-1and b>='x'or(c<>d)",
+    "select a,b from t where a='x'and b=1or not(a is null)",
+    "delete from t where a = 1^_",
+    "delete from t where a ^! = 1",
+    "delete from t where a >= ^> 1",
+    "update t set a = b--1",
+    "begin ^/**/",
+    "begin ^#",
 ];
 
 const NUMBERS: [&str; 20] = [

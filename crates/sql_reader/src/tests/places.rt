@@ -11,19 +11,24 @@ use std::test::Fail;
 // in front of the place. The last place has `$` for its token. What isn't listed is refused at the place's first byte.
 
 /// The parts and the attributes of a CREATE TABLE, and its references.
-const CREATES: [&str; 12] = [
+const CREATES: [&str; 19] = [
     "CREATE begin | TABLE DATA_SUBJECT VIEW | t name | ( | a part | INT TEXT | ) attr , | $ end",
     "CREATE begin | DATA_SUBJECT TABLE VIEW | TABLE | t name | ( | a part | TEXT INT | , attr ) | b part | INT TEXT \
      | ) attr , | $ end",
     // attr
     "CREATE begin | TABLE DATA_SUBJECT VIEW | t name | ( | a part | INT TEXT | PRIMARY attr , ) | KEY | NOT attr , ) \
-     | NULL | UNIQUE attr , ) | REFERENCES attr , ) | u name ONLY | ( | b name | ) | NOT attr , ) | NULL \
-     | UNIQUE attr , ) | PRIMARY attr , ) | KEY | , attr ) | c part | TEXT INT | UNIQUE attr , ) | ) attr , | $ end",
+     | NULL | UNIQUE attr , ) | NOT attr , ) | NULL | ) attr , | $ end",
+    "CREATE begin | TABLE DATA_SUBJECT VIEW | t name | ( | a part | INT TEXT | UNIQUE attr , ) | PRIMARY attr , ) \
+     | KEY | , attr ) | c part | TEXT INT | UNIQUE attr , ) | ) attr , | $ end",
     // refers
     "CREATE begin | TABLE DATA_SUBJECT VIEW | t name | ( | a part | INT TEXT | REFERENCES attr , ) | ONLY name \
-     | u name | ( | b name | ) | OWNED_BY attr , ) | u name | ( | b name | ) | OWNS attr , ) | u name | ( | b name \
-     | ) | ACCESSED_BY attr , ) | u name | ( | b name | ) | ACCESSES attr , ) | u name | ( | b name | ) \
-     | ) attr , | $ end",
+     | u name | ( | b name | ) | UNIQUE attr , ) | ) attr , | $ end",
+    "CREATE begin | TABLE DATA_SUBJECT VIEW | t name | ( | a part | INT TEXT | REFERENCES attr , ) | u name ONLY \
+     | ( | b name | ) | OWNED_BY attr , ) | u name | ( | b name | ) | ) attr , | $ end",
+    "CREATE begin | TABLE DATA_SUBJECT VIEW | t name | ( | a part | TEXT INT | OWNS attr , ) | u name | ( | b name | ) \
+     | NOT attr , ) | NULL | ) attr , | $ end",
+    "CREATE begin | TABLE DATA_SUBJECT VIEW | t name | ( | a part | TEXT INT | ACCESSED_BY attr , ) | u name | ( \
+     | b name | ) | ACCESSES attr , ) | u name | ( | b name | ) | ) attr , | $ end",
     // part: PRIMARY KEY
     "CREATE begin | TABLE DATA_SUBJECT VIEW | t name | ( | PRIMARY part | KEY | ( | a name | ) | , ) | PRIMARY part \
      | KEY | ( | b name | ) | ) , | $ end",
@@ -34,11 +39,15 @@ const CREATES: [&str; 12] = [
     "CREATE begin | TABLE DATA_SUBJECT VIEW | t name | ( | FOREIGN part | KEY | ( | a name | ) | REFERENCES refers \
      | u name ONLY | ( | b name | ) | ) , | $ end",
     "CREATE begin | TABLE DATA_SUBJECT VIEW | t name | ( | FOREIGN part | KEY | ( | a name | ) | REFERENCES refers \
-     | ONLY name | u name | ( | b name | ) | , ) | FOREIGN part | KEY | ( | a name | ) | OWNED_BY refers | u name | ( \
-     | b name | ) | , ) | FOREIGN part | KEY | ( | a name | ) | OWNS refers | u name | ( | b name | ) | ) , | $ end",
+     | ONLY name | u name | ( | b name | ) | ) , | $ end",
+    "CREATE begin | TABLE DATA_SUBJECT VIEW | t name | ( | FOREIGN part | KEY | ( | a name | ) | OWNED_BY refers \
+     | u name | ( | b name | ) | ) , | $ end",
+    "CREATE begin | TABLE DATA_SUBJECT VIEW | t name | ( | FOREIGN part | KEY | ( | a name | ) | OWNS refers \
+     | u name | ( | b name | ) | , ) | c part | INT TEXT | ) attr , | $ end",
     "CREATE begin | TABLE DATA_SUBJECT VIEW | t name | ( | FOREIGN part | KEY | ( | a name | ) | ACCESSED_BY refers \
-     | u name | ( | b name | ) | , ) | FOREIGN part | KEY | ( | a name | ) | ACCESSES refers | u name | ( | b name \
-     | ) | ) , | $ end",
+     | u name | ( | b name | ) | ) , | $ end",
+    "CREATE begin | TABLE DATA_SUBJECT VIEW | t name | ( | FOREIGN part | KEY | ( | a name | ) | ACCESSES refers \
+     | u name | ( | b name | ) | ) , | $ end",
     // part: ON GET
     "CREATE begin | TABLE DATA_SUBJECT VIEW | t name | ( | ON part | GET DEL | a name | ANON | ( | b name | , ) \
      | c name | ) , | , ) | ON part | GET DEL | d name | ANON | ( | e name | ) , | ) , | $ end",
@@ -151,8 +160,8 @@ const CONTROLS: [&str; 13] = [
 /// The tokens that are tried at each place, besides the keywords. `;` and `!` begin none.
 const OTHERS: &str = "q COUNT SUM 7 'q' ( ) , . = <> != < <= > >= + - * ; !";
 
-/// Those that are tried with the rest of the statement behind them.
-const WRONG: &str = "; q 7 , )";
+/// Those that are tried with the rest of the statement behind them, and with comments between all tokens.
+const FEW: &str = "; q 7 , )";
 
 /// The tokens that a word of a row stands for.
 fn several(word: &str) -> &str {
@@ -252,12 +261,12 @@ fn stands_wrong(
     Ok(())
 }
 
-/// Each place of the row, with its tokens joined so.
+/// Each place of the row, with its tokens joined so, and whether these tokens go on there.
 fn check(
     rt: &(impl Abort + AllocGlobal),
     row: &str,
     glue: &str,
-    tokens: &str,
+    tried: &[&str],
 ) -> Result<(), Fail> {
     let mut is_over = false;
     for (at, place) in row.split('|').enumerate() {
@@ -274,10 +283,12 @@ fn check(
         if at > 0 {
             before.push_str(glue)?;
         }
-        for token in tokens.split(' ') {
-            goes_on(rt, before.as_str(), token, place)?;
+        for tokens in tried {
+            for token in tokens.split(' ') {
+                goes_on(rt, before.as_str(), token, place)?;
+            }
         }
-        for token in WRONG.split(' ') {
+        for token in FEW.split(' ') {
             stands_wrong(rt, before.as_str(), token, behind.as_str(), place)?;
         }
     }
@@ -287,8 +298,8 @@ fn check(
 
 fn check_all(rt: &(impl Abort + AllocGlobal), rows: &[&str]) -> Result<(), Fail> {
     for row in rows {
-        check(rt, row, " ", KEYWORDS)?;
-        check(rt, row, "\t--'(;\r\n", OTHERS)?;
+        check(rt, row, " ", &[KEYWORDS, OTHERS])?;
+        check(rt, row, "\t--'(;\r\n", &[])?;
     }
     Ok(())
 }
