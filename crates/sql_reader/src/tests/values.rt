@@ -241,16 +241,18 @@ const DIFFERENT: [(&str, &str); 21] = [
     ("update t set a = a + 1", "update t set a = a - -1"),
 ];
 
-/// What is read, as its derived text.
+/// What is read, or why nothing is, as its derived text.
 fn told(alloc: Global, text: &str) -> Result<String, Fail>
     requires { length text.now < 2 ^ 32 }
 {
-    let Ok(statement) = read_statement(alloc, text) else {
-        return Ok(String::from_str(alloc, "nothing")?);
-    };
-    let told = format!(in alloc; "{statement:?}");
-    drop(statement);
-    Ok(told?)
+    match read_statement(alloc, text) {
+        Ok(statement) => {
+            let told = format!(in alloc; "{statement:?}");
+            drop(statement);
+            Ok(told?)
+        }
+        Err(fault) => Ok(format!(in alloc; "{fault:?}")?),
+    }
 }
 
 /// The derived text that a row stands for.
