@@ -1,21 +1,30 @@
+//! Calls of `read_statement` on texts whose answers were worked out by hand from the grammar.
+
+mod faults;
+mod limits;
+mod places;
+mod values;
+mod words;
+
 ghost use Rattle.std.specs.Prelude.{◌<◌, ◌^◌, length};
 
 use crate::{ReadFault, read_statement};
 use own_model::LimitName;
 use std::alloc::Global;
 use std::mem::drop;
+use std::process::Abort;
 use std::test::Fail;
 
 /// What reading gives: a statement, a fault at a byte, or a limit.
 #[derive(Clone, Copy, Debug, PartialEq, Eq)]
-enum Answer {
+pub enum Answer {
     Read,
     At(u32),
     Over(LimitName),
     Memory,
 }
 
-fn answer_of(alloc: Global, text: &str) -> Answer
+pub fn answer_of(alloc: Global, text: &str) -> Answer
     requires { length text.now < 2 ^ 32 }
 {
     match read_statement(alloc, text) {
@@ -29,260 +38,52 @@ fn answer_of(alloc: Global, text: &str) -> Answer
     }
 }
 
-#[test]
-fn faults_of_create(rt: HostRuntime) -> Result<(), Fail> {
-    let table = [
-        ("create table t (a int)", Answer::Read),
-        (
-            "CREATE DATA_SUBJECT TABLE t (a INT PRIMARY KEY, b TEXT NOT NULL UNIQUE)",
-            Answer::Read,
-        ),
-        (
-            "create table t (a int references only u (b), unique (a), primary key (a))",
-            Answer::Read,
-        ),
-        (
-            "create table t (a int owned_by u(b), foreign key (a) owns u (b))",
-            Answer::Read,
-        ),
-        (
-            "create table t (a int, on get a anon (b, c), on del a anon (b), on del a delete_row)",
-            Answer::Read,
-        ),
-        ("create view v as select * from t where a = 1", Answer::Read),
-        (
-            "create view v as select a from t order by a",
-            Answer::At(33),
-        ),
-        ("create tabel t (a int)", Answer::At(7)),
-        ("create table t (a int", Answer::At(21)),
-        ("create table t (a sum)", Answer::At(18)),
-        ("create table t ()", Answer::At(16)),
-        ("create table t (a int,)", Answer::At(22)),
-        ("create table t (on set a anon (b))", Answer::At(19)),
-    ];
-    for (text, wanted) in table {
-        assert!(rt; text.len() < 1000);
-        assert_eq!(rt; answer_of(rt.alloc(), text), wanted, "{text}");
+/// The text of a row, where `{64 a}` stands for 64 times `a`.
+pub fn spelled_out(alloc: Global, row: &str) -> Result<String, Fail> {
+    let mut text = String::new(alloc);
+    for (at, piece) in row.split('{').enumerate() {
+        if at == 0 {
+            text.push_str(piece)?;
+        } else {
+            let (repeated, behind) = piece.split_once('}').ok_or("a }")?;
+            let (times, part) = repeated.split_once(' ').ok_or("a space")?;
+            for _ in 0..times.parse::<u32>()? {
+                text.push_str(part)?;
+            }
+            text.push_str(behind)?;
+        }
     }
-    Ok(())
-}
-
-#[test]
-fn faults_of_select(rt: HostRuntime) -> Result<(), Fail> {
-    let table = [
-        ("select * from t", Answer::Read),
-        (
-            "select a, t.b as c from t inner join u on t.a = u.b where not a = 1 order by a desc",
-            Answer::Read,
-        ),
-        (
-            "select count(*), sum(a) as s, b from t group by b",
-            Answer::Read,
-        ),
-        ("select count, sum from t", Answer::Read),
-        ("select count(*) from t join u on a = b", Answer::At(23)),
-        ("select * from t group by a", Answer::At(16)),
-        ("select a from t join u on a = b group by a", Answer::At(32)),
-        ("select a from t as u", Answer::At(16)),
-        ("select from t", Answer::At(7)),
-        ("select 'it''s", Answer::At(7)),
-    ];
-    for (text, wanted) in table {
-        assert!(rt; text.len() < 1000);
-        assert_eq!(rt; answer_of(rt.alloc(), text), wanted, "{text}");
-    }
-    Ok(())
-}
-
-#[test]
-fn faults_of_write(rt: HostRuntime) -> Result<(), Fail> {
-    let table = [
-        (
-            "insert into t values (1, 'a', null), (-2, '', 3)",
-            Answer::Read,
-        ),
-        ("insert into t (a, b) values (1, 2)", Answer::Read),
-        ("insert into t (a, b) values (1, 2,)", Answer::At(34)),
-        ("insert into t values 1", Answer::At(21)),
-        (
-            "update t set a = 1, b = a + -2, c = a - 1, d = b where a is not null",
-            Answer::Read,
-        ),
-        ("update t set a = b + c", Answer::At(21)),
-        ("update t set where a = 1", Answer::At(13)),
-        ("delete from t", Answer::Read),
-        ("delete from t where", Answer::At(19)),
-        ("delete from t where a = 1 and", Answer::At(29)),
-        ("delete from t where (a = 1 or b <> 'x'", Answer::At(38)),
-        ("delete from t where a is 1", Answer::At(25)),
-    ];
-    for (text, wanted) in table {
-        assert!(rt; text.len() < 1000);
-        assert_eq!(rt; answer_of(rt.alloc(), text), wanted, "{text}");
-    }
-    Ok(())
-}
-
-#[test]
-fn faults_of_control(rt: HostRuntime) -> Result<(), Fail> {
-    let table = [
-        ("begin transaction", Answer::Read),
-        ("begin work", Answer::At(6)),
-        ("ctx start", Answer::Read),
-        ("ctx checkpoint", Answer::At(4)),
-        ("commit", Answer::Read),
-        ("ctx rollback", Answer::Read),
-        ("checkpoint", Answer::Read),
-        ("explain compliance", Answer::Read),
-        ("explain", Answer::At(7)),
-        ("gdpr get t 5", Answer::Read),
-        ("GDPR FORGET t 'it''s'", Answer::Read),
-        ("gdpr forget t null", Answer::At(14)),
-        ("gdpr get t", Answer::At(10)),
-        ("", Answer::At(0)),
-        ("  -- nothing", Answer::At(12)),
-        ("t", Answer::At(0)),
-        ("commit;", Answer::At(6)),
-        ("delete from select", Answer::At(12)),
-    ];
-    for (text, wanted) in table {
-        assert!(rt; text.len() < 1000);
-        assert_eq!(rt; answer_of(rt.alloc(), text), wanted, "{text}");
-    }
-    Ok(())
-}
-
-#[test]
-fn numbers_of_i64(rt: HostRuntime) -> Result<(), Fail> {
-    let table = [
-        ("gdpr get t 9223372036854775807", Answer::Read),
-        ("gdpr get t 9223372036854775808", Answer::At(11)),
-        ("gdpr get t -9223372036854775808", Answer::Read),
-        ("gdpr get t -9223372036854775809", Answer::At(12)),
-        (
-            "gdpr get t - 00000000000000000000000000000000001",
-            Answer::Read,
-        ),
-    ];
-    for (text, wanted) in table {
-        assert!(rt; text.len() < 1000);
-        assert_eq!(rt; answer_of(rt.alloc(), text), wanted, "{text}");
-    }
-    Ok(())
-}
-
-/// `before`, `part` so many times, and `after`.
-fn repeated(
-    alloc: Global,
-    before: &str,
-    part: &str,
-    times: usize,
-    after: &str,
-) -> Result<String, Fail> {
-    let mut text = String::from_str(alloc, before)?;
-    for _ in 0..times {
-        text.push_str(part)?;
-    }
-    text.push_str(after)?;
     Ok(text)
 }
 
-#[test]
-fn limits(rt: HostRuntime) -> Result<(), Fail> {
-    let table = [
-        ("delete from t where ", "(", 64, "a = 1", Answer::At(89)),
-        (
-            "delete from t where ",
-            "(",
-            65,
-            "a = 1",
-            Answer::Over(LimitName::Nesting),
-        ),
-        ("delete from t where ", "not ", 64, "a = 1", Answer::Read),
-        (
-            "delete from t where ",
-            "not ",
-            65,
-            "a = 1",
-            Answer::Over(LimitName::Nesting),
-        ),
-        (
-            "delete from t where ",
-            "not (",
-            33,
-            "a = 1",
-            Answer::Over(LimitName::Nesting),
-        ),
-        ("select a", ",a", 63, " from t", Answer::Read),
-        (
-            "select a",
-            ",a",
-            64,
-            " from t",
-            Answer::Over(LimitName::Items),
-        ),
-        ("select a", ",a", 63, ", from t", Answer::At(136)),
-        ("delete from ", "A", 64, "", Answer::Read),
-        ("delete from ", "A", 65, "", Answer::Over(LimitName::Name)),
-        ("delete ", "A", 65, "", Answer::At(7)),
-        ("gdpr get t '", "a", 4096, "'", Answer::Read),
-        (
-            "gdpr get t '",
-            "a",
-            4097,
-            "'",
-            Answer::Over(LimitName::Text),
-        ),
-        ("gdpr get t '", "''", 4096, "'", Answer::Read),
-        (
-            "gdpr get t '",
-            "''",
-            4097,
-            "'",
-            Answer::Over(LimitName::Text),
-        ),
-    ];
-    for (before, part, times, after, wanted) in table {
-        let text = repeated(rt.alloc(), before, part, times, after)?;
+/// Each row is a text, with a `^` where the fault stands. A row without `^` is read.
+pub fn check_rows(rt: &(impl Abort + AllocGlobal), rows: &[&str]) -> Result<(), Fail> {
+    for row in rows {
+        let (before, behind) = row.split_once('^').unwrap_or((*row, ""));
+        let mut text = spelled_out(rt.alloc(), before)?;
+        let wanted = if row.contains('^') {
+            Answer::At(u32::try_from(text.len())?)
+        } else {
+            Answer::Read
+        };
+        text.push_str(spelled_out(rt.alloc(), behind)?.as_str())?;
         assert!(rt; text.len() < 100000);
-        assert_eq!(rt;
-            answer_of(rt.alloc(), text.as_str()),
-            wanted,
-            "{before}{part}{times}"
-        );
+        assert_eq!(rt; answer_of(rt.alloc(), text.as_str()), wanted, "{row}");
     }
     Ok(())
 }
 
-/// What is read, as its derived text.
-fn told(alloc: Global, text: &str) -> Result<String, Fail>
-    requires { length text.now < 2 ^ 32 }
-{
-    let Ok(statement) = read_statement(alloc, text) else {
-        return Ok(String::from_str(alloc, "nothing")?);
-    };
-    let told = format!(in alloc; "{statement:?}");
-    drop(statement);
-    Ok(told?)
-}
-
-#[test]
-fn values_are_read(rt: HostRuntime) -> Result<(), Fail> {
-    let table = [
-        (
-            "GDPR Get Tab 'it''s'",
-            "GdprGet { table: Name { text: Text { text: \"tab\" } }, key: Text(Text { text: \"it's\" }) }",
-        ),
-        (
-            "gdpr forget t -5",
-            "GdprForget { table: Name { text: Text { text: \"t\" } }, key: Int(-5) }",
-        ),
-    ];
-    for (text, wanted) in table {
-        assert!(rt; text.len() < 1000);
-        let told = told(rt.alloc(), text)?;
-        assert_eq!(rt; told.as_str(), wanted);
+/// Each row is a text that meets the limit.
+pub fn check_limit(
+    rt: &(impl Abort + AllocGlobal),
+    rows: &[&str],
+    limit: LimitName,
+) -> Result<(), Fail> {
+    for row in rows {
+        let text = spelled_out(rt.alloc(), row)?;
+        assert!(rt; text.len() < 100000);
+        let answer = answer_of(rt.alloc(), text.as_str());
+        assert_eq!(rt; answer, Answer::Over(limit), "{row}");
     }
     Ok(())
 }
