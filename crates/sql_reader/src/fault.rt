@@ -12,9 +12,9 @@ pub enum Fault {
 /// Why no statement is read.
 #[derive(Clone, Copy, Debug, PartialEq, Eq)]
 pub enum ReadFault {
-    /// The byte at which the reading rules stop: the first of a token, or the text's length.
+    /// The first byte of the first token at which no statement continues, or the text's length.
     Syntax(u32),
-    /// The limit at which they stop.
+    /// The limit that is passed before that.
     Limit(LimitName),
     /// Memory was refused.
     Memory,

@@ -20,8 +20,9 @@ fn whole(cursor: &mut Cursor, alloc: Global) -> Result<Statement, Fault>
     Ok(found)
 }
 
-/// The statement that a text is, by the reading rules of `specs/`. No statement is read in part: a fault tells the byte
-/// at which the rules stop, or the limit at which they do. That no other statement has the text isn't proved yet.
+/// The statement that a text is. No statement is read in part: `Syntax` tells the byte at which the first token stands
+/// with which no statement goes on, or the text's length, and `Limit` the limit that is passed there. Takes memory for
+/// the text's tokens and for the statement.
 pub fn read_statement(alloc: Global, text: &str) -> Result<Statement, ReadFault>
     requires { length text.now < 2 ^ 32 }
     ensures { IsAnswer text.now result }

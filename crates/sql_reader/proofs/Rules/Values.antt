@@ -31,24 +31,45 @@ module _ (lifts : LimitName → Bool) (limits : Limits) (fair : Fair limits) whe
   int_right = or_else (mark_tests (codes "-")) (and_then (mark_right (codes "-")) (λ _. number_right true) refl) (number_right false) refl
 
   -- name {, name}
-  pub names_right : Right lifts (rules.names limits) (rules.names (lift lifts limits)) (grammar.names limits) (AName ∷ []) false (AMark (codes ",") ∷ [])
+  pub names_right :
+      Right lifts (rules.names limits) (rules.names (lift lifts limits))
+          (grammar.names limits)
+          (AName ∷ []) false (AMark (codes ",") ∷ [])
   unfolding rules.names grammar.names
-  names_right = and_then (name_right lifts limits fair) (λ first. and_then (as_often (mark_tests (codes ",")) (and_then (mark_right (codes ",")) (λ _. name_right lifts limits fair) refl) refl) (λ others. pure_right (first ∷ others)) refl) refl
+  names_right =
+      and_then (name_right lifts limits fair) (λ first.
+      and_then (as_often (mark_tests (codes ",")) (and_then (mark_right (codes ",")) (λ _. name_right lifts limits fair) refl) refl) (λ others.
+      pure_right (first ∷ others)) refl) refl
 
   -- ( name )
-  pub one_name_right : Right lifts (rules.one_name limits) (rules.one_name (lift lifts limits)) (language.bracketed (grammar.name limits)) (AMark (codes "(") ∷ []) false []
+  pub one_name_right :
+      Right lifts (rules.one_name limits) (rules.one_name (lift lifts limits))
+          (language.bracketed (grammar.name limits))
+          (AMark (codes "(") ∷ []) false []
   unfolding rules.one_name
-  one_name_right = and_then (mark_right (codes "(")) (λ _. and_then (name_right lifts limits fair) (λ found. and_then (mark_right (codes ")")) (λ _. pure_right found) refl) refl) refl
+  one_name_right =
+      and_then (mark_right (codes "(")) (λ _.
+      and_then (name_right lifts limits fair) (λ found. and_then (mark_right (codes ")")) (λ _. pure_right found) refl) refl) refl
 
   -- ( names )
-  pub bracketed_names_right : Right lifts (rules.bracketed_names limits) (rules.bracketed_names (lift lifts limits)) (language.bracketed (grammar.names limits)) (AMark (codes "(") ∷ []) false []
+  pub bracketed_names_right :
+      Right lifts (rules.bracketed_names limits) (rules.bracketed_names (lift lifts limits))
+          (language.bracketed (grammar.names limits))
+          (AMark (codes "(") ∷ []) false []
   unfolding rules.bracketed_names
-  bracketed_names_right = and_then (mark_right (codes "(")) (λ _. and_then names_right (λ found. and_then (mark_right (codes ")")) (λ _. pure_right found) refl) refl) refl
+  bracketed_names_right =
+      and_then (mark_right (codes "(")) (λ _.
+      and_then names_right (λ found. and_then (mark_right (codes ")")) (λ _. pure_right found) refl) refl) refl
 
   -- [. name], behind a name
-  pub col_behind_right : (first : List ℕ) → Right lifts (rules.col_behind limits first) (rules.col_behind (lift lifts limits) first) (grammar.col_behind limits first) (AMark (codes ".") ∷ []) true (AMark (codes ".") ∷ [])
+  pub col_behind_right : (first : List ℕ) →
+      Right lifts (rules.col_behind limits first) (rules.col_behind (lift lifts limits) first)
+          (grammar.col_behind limits first)
+          (AMark (codes ".") ∷ []) true (AMark (codes ".") ∷ [])
   unfolding rules.col_behind grammar.col_behind
-  col_behind_right first = and_then (or_nothing (mark_tests (codes ".")) (and_then (mark_right (codes ".")) (λ _. name_right lifts limits fair) refl)) (λ second. pure_right (col_of first second)) refl
+  col_behind_right first =
+      and_then (or_nothing (mark_tests (codes ".")) (and_then (mark_right (codes ".")) (λ _. name_right lifts limits fair) refl)) (λ second.
+      pure_right (col_of first second)) refl
 
   -- name [. name]
   pub col_right : Right lifts (rules.col limits) (rules.col (lift lifts limits)) (grammar.col limits) (AName ∷ []) false (AMark (codes ".") ∷ [])
@@ -56,29 +77,59 @@ module _ (lifts : LimitName → Bool) (limits : Limits) (fair : Fair limits) whe
   col_right = and_then (name_right lifts limits fair) (λ first. col_behind_right first) refl
 
   -- NULL | int | text
-  pub literal_right : Right lifts (rules.literal limits) (rules.literal (lift lifts limits)) (grammar.literal limits) (AWord (codes "NULL") ∷ AQuoted ∷ AMark (codes "-") ∷ ANumber ∷ []) false []
+  pub literal_right :
+      Right lifts (rules.literal limits) (rules.literal (lift lifts limits))
+          (grammar.literal limits)
+          (AWord (codes "NULL") ∷ AQuoted ∷ AMark (codes "-") ∷ ANumber ∷ []) false []
   unfolding rules.literal grammar.literal
-  literal_right = or_else (word_tests (codes "NULL")) (and_then (word_right (codes "NULL")) (λ _. pure_right Value.Null) refl) (or_else quoted_tests (and_then (text_right lifts limits fair) (λ found. pure_right (Value.Text found)) refl) (and_then int_right (λ found. pure_right (Value.Int found)) refl) refl) refl
+  literal_right =
+      or_else (word_tests (codes "NULL"))
+          (and_then (word_right (codes "NULL")) (λ _. pure_right Value.Null) refl)
+          (or_else quoted_tests
+               (and_then (text_right lifts limits fair) (λ found. pure_right (Value.Text found)) refl)
+               (and_then int_right (λ found. pure_right (Value.Int found)) refl) refl) refl
 
   -- literal {, literal}
-  pub values_right : Right lifts (rules.values limits) (rules.values (lift lifts limits)) (language.listed (grammar.literal limits)) (AWord (codes "NULL") ∷ AQuoted ∷ AMark (codes "-") ∷ ANumber ∷ []) false (AMark (codes ",") ∷ [])
+  pub values_right :
+      Right lifts (rules.values limits) (rules.values (lift lifts limits))
+          (language.listed (grammar.literal limits))
+          (AWord (codes "NULL") ∷ AQuoted ∷ AMark (codes "-") ∷ ANumber ∷ []) false (AMark (codes ",") ∷ [])
   unfolding rules.values
-  values_right = and_then literal_right (λ first. and_then (as_often (mark_tests (codes ",")) (and_then (mark_right (codes ",")) (λ _. literal_right) refl) refl) (λ others. pure_right (first ∷ others)) refl) refl
+  values_right =
+      and_then literal_right (λ first.
+      and_then (as_often (mark_tests (codes ",")) (and_then (mark_right (codes ",")) (λ _. literal_right) refl) refl) (λ others.
+      pure_right (first ∷ others)) refl) refl
 
   -- ( literal {, literal} )
   pub tuple_right : Right lifts (rules.tuple limits) (rules.tuple (lift lifts limits)) (grammar.tuple limits) (AMark (codes "(") ∷ []) false []
   unfolding rules.tuple grammar.tuple
-  tuple_right = and_then (mark_right (codes "(")) (λ _. and_then values_right (λ found. and_then (mark_right (codes ")")) (λ _. pure_right found) refl) refl) refl
+  tuple_right =
+      and_then (mark_right (codes "(")) (λ _.
+      and_then values_right (λ found. and_then (mark_right (codes ")")) (λ _. pure_right found) refl) refl) refl
 
   -- name | name + int | name - int, behind the name
-  pub sum_behind_right : (column : List ℕ) → Right lifts (rules.sum_behind column) (rules.sum_behind column) (sum_lang column) (AMark (codes "+") ∷ AMark (codes "-") ∷ []) true (AMark (codes "-") ∷ AMark (codes "+") ∷ [])
+  pub sum_behind_right : (column : List ℕ) →
+      Right lifts (rules.sum_behind column) (rules.sum_behind column)
+          (sum_lang column)
+          (AMark (codes "+") ∷ AMark (codes "-") ∷ []) true (AMark (codes "-") ∷ AMark (codes "+") ∷ [])
   unfolding rules.sum_behind
-  sum_behind_right column = or_else (mark_tests (codes "+")) (and_then (and_then (mark_right (codes "+")) (λ _. int_right) refl) (λ more. pure_right (Expr.Plus column more)) refl) (or_else (mark_tests (codes "-")) (and_then (and_then (mark_right (codes "-")) (λ _. int_right) refl) (λ fewer. pure_right (Expr.Minus column fewer)) refl) (pure_right (Expr.Column column)) refl) refl
+  sum_behind_right column =
+      or_else (mark_tests (codes "+"))
+          (and_then (and_then (mark_right (codes "+")) (λ _. int_right) refl) (λ more. pure_right (Expr.Plus column more)) refl)
+          (or_else (mark_tests (codes "-"))
+               (and_then (and_then (mark_right (codes "-")) (λ _. int_right) refl) (λ fewer. pure_right (Expr.Minus column fewer)) refl) (pure_right (Expr.Column column)) refl) refl
 
   -- literal | name | name + int | name - int
-  pub expr_right : Right lifts (rules.expr_rule limits) (rules.expr_rule (lift lifts limits)) (grammar.expr limits) (AName ∷ AWord (codes "NULL") ∷ AQuoted ∷ AMark (codes "-") ∷ ANumber ∷ []) false (AMark (codes "-") ∷ AMark (codes "+") ∷ [])
+  pub expr_right :
+      Right lifts (rules.expr_rule limits) (rules.expr_rule (lift lifts limits))
+          (grammar.expr limits)
+          (AName ∷ AWord (codes "NULL") ∷ AQuoted ∷ AMark (codes "-") ∷ ANumber ∷ []) false (AMark (codes "-") ∷ AMark (codes "+") ∷ [])
   unfolding rules.expr_rule grammar.expr
-  expr_right = in_words (grammar.expr limits) to from (or_else name_tests (and_then (name_right lifts limits fair) (λ column. sum_behind_right column) refl) (and_then literal_right (λ found. pure_right (Expr.Literal found)) refl) refl)
+  expr_right =
+      in_words (grammar.expr limits) to from
+          (or_else name_tests
+               (and_then (name_right lifts limits fair) (λ column. sum_behind_right column) refl)
+               (and_then literal_right (λ found. pure_right (Expr.Literal found)) refl) refl)
     where
       to : Into ((grammar.name limits >>= sum_lang) or (grammar.literal limits >>= λ found. language.pure (Expr.Literal found))) (grammar.expr limits)
       to value tokens rest (inl (column, middle, text, inl more)) = inr (inr (inl (column, middle, text, more)))

@@ -243,7 +243,10 @@ fn goes_on(
     let answer = answer_to(rt, &[before, token])?;
     if lists(place, token) {
         let early = at_end(&[before, token])?;
-        assert!(rt; answer == Answer::Read || answer == early, "{before}{token}: {answer:?}");
+        assert!(rt;
+            answer == Answer::Read || answer == early,
+            "{before}{token}: {answer:?}"
+        );
     } else {
         assert_eq!(rt; answer, at_end(&[before])?, "{before}{token}");
     }

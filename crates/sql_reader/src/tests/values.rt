@@ -295,7 +295,11 @@ fn check_pairs(
         assert_eq!(rt; answer_of(rt.alloc(), right), Answer::Read, "{right}");
         let left_told = told(rt.alloc(), left)?;
         let right_told = told(rt.alloc(), right)?;
-        assert_eq!(rt; left_told.as_str() == right_told.as_str(), same, "{left}, {right}");
+        assert_eq!(rt;
+            left_told.as_str() == right_told.as_str(),
+            same,
+            "{left}, {right}"
+        );
     }
     Ok(())
 }
