@@ -1,17 +1,18 @@
 -- The answer for a text, of what the reading rules give for its tokens.
-use Rattle.std.proofs.Common.{◌≡◌, ℕ, List, [], ◌∷◌, length, map, Result, Ok, Err, refl, sym, ap, ◌∙◌}
+use Rattle.std.proofs.Common.{◌≡◌, ◌≢◌, ℕ, List, [], ◌∷◌, length, map, Result, Ok, Err, refl, sym, ap, ◌∙◌, subst}
 use Rattle.own_model.specs.declared.limit.LimitName.{LimitName}
 use Rattle.own_model.specs.declared.statement.Statement.{Statement}
 use Rattle.sql_lex.specs.declared.token.Token as lexed
 use Rattle.sql_reader.specs.declared.fault.Fault.TheVariants as fault
 use Rattle.sql_reader.specs.declared.fault.ReadFault.{ReadFault}
-use Rattle.sql_reader.specs.declared.fault.ReadFault.TheVariants.{Syntax, Limit}
-use Rattle.sql_reader.specs.Answer.{Answers, IsRead}
+use Rattle.sql_reader.specs.declared.fault.ReadFault.TheVariants.{Syntax, Limit, Memory}
+use Rattle.sql_reader.specs.Answer.{Answers, IsRead, IsAnswer}
 use Rattle.sql_reader.specs.Cut.{Cut, AreTokens}
 use Rattle.sql_reader.specs.Limits.{store_limits}
 use Rattle.sql_reader.specs.Outcomes.{whole}
 use Rattle.sql_reader.specs.Reading.{Tokens}
 use Rattle.sql_reader.specs.Token.{token_of, place_of}
+use Rattle.sql_reader.proofs.Once.{answers_same}
 use Rattle.sql_reader.proofs.Right.{NoSlot}
 use Rattle.sql_reader.proofs.Verdicts.{store_fair, syntax_at, limit_at}
 use Rattle.sql_reader.proofs.Wholes.{whole-ends}
@@ -44,3 +45,17 @@ answers_syntax text tokens rest byte is place =
 pub answers_limit : (text : List ℕ) (tokens : List lexed.Token) (rest : Tokens) (name : LimitName) → whole (map token_of tokens) ≡ Err (fault.Limit name, rest) → Answers text (map token_of tokens) (Err (Limit name))
 unfolding whole
 answers_limit text tokens rest name is = limit_at (map token_of tokens) (no_slots tokens) name rest is
+
+-- an answer that isn't for want of memory is one for the text's tokens
+pub read_then : (text : List ℕ) (result : Result Statement ReadFault) → IsAnswer text result → result ≢ Err Memory → IsRead text result
+read_then text (Ok found) is told = is
+read_then text (Err (Syntax byte)) is told = is
+read_then text (Err (Limit name)) is told = is
+read_then text (Err Memory) is told = absurd (told refl)
+
+-- a text has one answer
+pub one_answer : (text : List ℕ) (one other : Result Statement ReadFault) → IsAnswer text one → IsAnswer text other → one ≢ Err Memory → other ≢ Err Memory → one ≡ other
+one_answer text one other is same told said =
+    let first = read_then text one is told in
+    let second = read_then text other same said in
+    answers_same text first.tokens (subst NoSlot (sym first.cut.2) (no_slots first.cut.0)) one other first.answers (subst (λ l. Answers text l other) (first.only second.tokens second.cut) second.answers) told said

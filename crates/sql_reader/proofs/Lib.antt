@@ -10,6 +10,7 @@ pub mod Leaves
 pub mod Lifts
 pub mod Listing
 pub mod Literals
+pub mod Once
 pub mod Repeats
 pub mod Right
 pub mod Rules

@@ -31,31 +31,31 @@ ok_kept lifts (Ok (value, rest)) other found same is = ap (λ o. then_read o fin
 ok_kept lifts (Err fault) other found same is = absurd (ok_err found [] fault (sym is))
 
 -- the limit of a fault, or another
-abbrev limit_of : Fault → LimitName → LimitName
+abbrev pub limit_of : Fault → LimitName → LimitName
 limit_of (Limit which) other = which
 limit_of Syntax other = other
 limit_of Memory other = other
 
-syntax_limit : (which : LimitName) → Syntax ≡ Limit which → ⊥
+pub syntax_limit : (which : LimitName) → Syntax ≡ Limit which → ⊥
 syntax_limit which same = cc
 
-memory_limit : (which : LimitName) → Memory ≡ Limit which → ⊥
+pub memory_limit : (which : LimitName) → Memory ≡ Limit which → ⊥
 memory_limit which same = cc
 
 -- where the limit is lifted, the outcome is past the fault
-fault_passed : (lifts : LimitName → Bool) (outcome other : Outcome Statement) (name : LimitName) (rest : Tokens) → Lifted lifts outcome other → lifts name ≡ true → then_read outcome finish ≡ Err (Limit name, rest) → Beyond lifts name rest other
-fault_passed lifts (Ok (value, [])) other name rest same free is = absurd (ok_err value [] (Limit name, rest) is)
-fault_passed lifts (Ok (value, token ∷ behind)) other name rest same free is = absurd (syntax_limit name (ap (λ o. (fault_of o).0) is))
-fault_passed lifts (Err (Syntax, behind)) other name rest same free is = absurd (syntax_limit name (ap (λ o. (fault_of o).0) is))
-fault_passed lifts (Err (Memory, behind)) other name rest same free is = absurd (memory_limit name (ap (λ o. (fault_of o).0) is))
-fault_passed lifts (Err (Limit which, behind)) other name rest (inr kept) free is = absurd (false≢true (sym kept.0 ∙ ap lifts (ap (λ o. limit_of (fault_of o).0 which) is) ∙ free))
-fault_passed lifts (Err (Limit which, behind)) other name rest (inl gone) free is =
-    subst (λ r. Beyond lifts name r other) (ap (λ o. (fault_of o).1) is) (subst (λ n. Beyond lifts n behind other) (ap (λ o. limit_of (fault_of o).0 which) is) gone.1)
+pub fault_passed : (lifts : LimitName → Bool) (outcome other : Outcome Statement) (name : LimitName) (rest : Tokens) → Lifted lifts outcome other → lifts name ≡ true → then_read outcome finish ≡ Err (Limit name, rest) → Beyond lifts name rest other
+fault_passed lifts (Ok (value, [])) other limited rest same free is = absurd (ok_err value [] (Limit limited, rest) is)
+fault_passed lifts (Ok (value, token ∷ behind)) other limited rest same free is = absurd (syntax_limit limited (ap (λ o. (fault_of o).0) is))
+fault_passed lifts (Err (Syntax, behind)) other limited rest same free is = absurd (syntax_limit limited (ap (λ o. (fault_of o).0) is))
+fault_passed lifts (Err (Memory, behind)) other limited rest same free is = absurd (memory_limit limited (ap (λ o. (fault_of o).0) is))
+fault_passed lifts (Err (Limit which, behind)) other limited rest (inr kept) free is = absurd (false≢true (sym kept.0 ∙ ap lifts (ap (λ o. limit_of (fault_of o).0 which) is) ∙ free))
+fault_passed lifts (Err (Limit which, behind)) other limited rest (inl gone) free is =
+    subst (λ r. Beyond lifts limited r other) (ap (λ o. (fault_of o).1) is) (subst (λ n. Beyond lifts n behind other) (ap (λ o. limit_of (fault_of o).0 which) is) gone.1)
 
 pub store_fair : Fair store_limits
 store_fair = record { name = refl; text = refl }
 
-free_fair : Fair no_limits
+pub free_fair : Fair no_limits
 free_fair = record { name = refl; text = refl }
 
 -- the limit of levels alone is lifted
@@ -70,7 +70,7 @@ more_levels limits fair extra levels tokens found is =
     ok_kept nesting_lifts (statement_rule limits levels tokens) (statement_rule limits (deeper extra levels) tokens) found ((statement_right nesting_lifts limits fair extra levels).lifted tokens (λ lifted. absurd (false≢true lifted))) is
 
 -- the number of a limit, by which two are told apart
-number_of_limit : LimitName → ℕ
+unfoldable pub number_of_limit : LimitName → ℕ
 number_of_limit limit.Statement = 0
 number_of_limit limit.Nesting = 1
 number_of_limit limit.Text = 2
@@ -85,10 +85,10 @@ number_of_limit limit.Weight = 10
 number_of_limit limit.Room = 11
 
 -- all limits but this one are lifted
-all_but : LimitName → LimitName → Bool
+unfoldable pub all_but : LimitName → LimitName → Bool
 all_but name which = not (number_of_limit name == number_of_limit which)
 
-all_but-self : (name : LimitName) → all_but name name ≡ false
+pub all_but-self : (name : LimitName) → all_but name name ≡ false
 unfolding all_but number_of_limit
 all_but-self limit.Statement = refl
 all_but-self limit.Nesting = refl
@@ -103,7 +103,7 @@ all_but-self limit.Rows = refl
 all_but-self limit.Weight = refl
 all_but-self limit.Room = refl
 
-all_but-lift : (name : LimitName) → lift (all_but name) store_limits ≡ only name
+pub all_but-lift : (name : LimitName) → lift (all_but name) store_limits ≡ only name
 unfolding all_but number_of_limit
 all_but-lift limit.Statement = refl
 all_but-lift limit.Nesting = refl
@@ -118,7 +118,7 @@ all_but-lift limit.Rows = refl
 all_but-lift limit.Weight = refl
 all_but-lift limit.Room = refl
 
-only_fair : (name : LimitName) → Fair (only name)
+pub only_fair : (name : LimitName) → Fair (only name)
 only_fair name = subst Fair (all_but-lift name) (fair-lift (all_but name) store_limits store_fair)
 
 -- where all but one are lifted and levels are not, that one is the limit of levels
@@ -138,7 +138,7 @@ nesting_alone limit.Weight kept = absurd (false≢true (sym kept))
 nesting_alone limit.Room kept = absurd (false≢true (sym kept))
 
 -- all limits are lifted
-all_lift : LimitName → Bool
+unfoldable pub all_lift : LimitName → Bool
 all_lift which = true
 
 -- the same fault leaves the same front
@@ -146,7 +146,7 @@ front-length : (front other rest : Tokens) → front ++ rest ≡ other ++ rest �
 front-length front other rest same = let lengths = sym (length-append front rest) ∙ ap length same ∙ length-append other rest in omega arith
 
 module _ (tokens : Tokens) (real : NoSlot tokens) where
-  none_is : (fault : Fault × Tokens) → whole_at store_limits 64 tokens ≡ Err fault → IsNone tokens
+  pub none_is : (fault : Fault × Tokens) → whole_at store_limits 64 tokens ≡ Err fault → IsNone tokens
   none_is fault is found text = ok_err found [] fault (sym (reads_whole store_limits store_fair 64 found tokens text) ∙ is)
 
   before : (fault : Fault × Tokens) (failed : Fails store_limits 64 tokens fault) → Continues store_limits 64 tokens (length failed.front)
@@ -159,32 +159,33 @@ module _ (tokens : Tokens) (real : NoSlot tokens) where
       }
 
   -- with other limits the same fault ends all statements, for levels that are raised alike
-  ends_there : (limits : Limits) → Fair limits → (deep levels : ℕ) (fault : Fault × Tokens) → whole_at limits deep tokens ≡ Err fault → (front : Tokens) → tokens ≡ front ++ fault.1 → ((other : Tokens) (found : Statement) → whole_at limits levels other ≡ Ok (found, []) → whole_at limits deep other ≡ Ok (found, []))
+  pub ends_there : (limits : Limits) → Fair limits → (deep levels : ℕ) (fault : Fault × Tokens) → whole_at limits deep tokens ≡ Err fault → (front : Tokens) → tokens ≡ front ++ fault.1 → ((other : Tokens) (found : Statement) → whole_at limits levels other ≡ Ok (found, []) → whole_at limits deep other ≡ Ok (found, []))
       → Continues limits levels tokens (suc (length front)) → ⊥
   ends_there limits fair deep levels fault is front stands raise going =
       let failed = fails limits fair deep tokens fault is in
       no_more limits fair deep levels tokens fault failed raise (subst (λ n. Continues limits levels tokens (suc n)) (front-length front failed.front fault.1 (sym stands ∙ failed.is)) going)
 
+  -- without limits no statement goes on through a fault that is no limit's
+  pub ends_freely : (fault : Fault × Tokens) → ((which : LimitName) → fault.0 ≡ Limit which → ⊥) → whole_at store_limits 64 tokens ≡ Err fault → (failed : Fails store_limits 64 tokens fault) (levels : ℕ) → Continues no_limits levels tokens (suc (length failed.front)) → ⊥
+  unfolding all_lift
+  ends_freely fault free is failed levels going =
+      ends_there no_limits free_fair (deeper levels 64) levels fault kept failed.front failed.is
+      (λ other found read. subst (λ n. whole_at no_limits n other ≡ Ok (found, [])) both_ways (more_levels no_limits free_fair 64 levels other found read)) going
+    where
+      kept : whole_at no_limits (deeper levels 64) tokens ≡ Err fault
+      kept = fault_kept all_lift (statement_rule store_limits 64 tokens) (statement_rule no_limits (deeper levels 64) tokens) fault ((statement_right all_lift store_limits store_fair levels 64).lifted tokens (λ lifted. real)) (λ which same. absurd (free which same)) is
+
+      both_ways : deeper 64 levels ≡ deeper levels 64
+      both_ways = let one = deeper-sum 64 levels in let two = deeper-sum levels 64 in omega arith
+
   -- a fault of syntax
   pub syntax_at : (rest : Tokens) → whole_at store_limits 64 tokens ≡ Err (Syntax, rest) → (at : ℕ) × IsSyntaxAt tokens at × (drop at tokens ≡ rest)
-  unfolding all_lift
   syntax_at rest is =
       let failed = fails store_limits store_fair 64 tokens (Syntax, rest) is in (
         length failed.front,
-        record { none = none_is (Syntax, rest) is; before = before (Syntax, rest) failed; ends = ends failed },
+        record { none = none_is (Syntax, rest) is; before = before (Syntax, rest) failed; ends = ends_freely (Syntax, rest) syntax_limit is failed },
         ap (drop (length failed.front)) failed.is ∙ drop-front failed.front rest,
       )
-    where
-      free : (extra : ℕ) → whole_at no_limits (deeper extra 64) tokens ≡ Err (Syntax, rest)
-      free extra = fault_kept all_lift (statement_rule store_limits 64 tokens) (statement_rule no_limits (deeper extra 64) tokens) (Syntax, rest) ((statement_right all_lift store_limits store_fair extra 64).lifted tokens (λ lifted. real)) (λ which same. absurd (syntax_limit which same)) is
-
-      ends : (failed : Fails store_limits 64 tokens (Syntax, rest)) (levels : ℕ) → Continues no_limits levels tokens (suc (length failed.front)) → ⊥
-      ends failed levels going =
-          ends_there no_limits free_fair (deeper levels 64) levels (Syntax, rest) (free levels) failed.front failed.is
-          (λ other found read. subst (λ n. whole_at no_limits n other ≡ Ok (found, [])) (both_ways levels) (more_levels no_limits free_fair 64 levels other found read)) going
-        where
-          both_ways : (levels : ℕ) → deeper 64 levels ≡ deeper levels 64
-          both_ways levels = let one = deeper-sum 64 levels in let two = deeper-sum levels 64 in omega arith
 
   -- with this limit alone the fault is the same
   only_this : (name : LimitName) (rest : Tokens) (extra : ℕ) → whole_at store_limits 64 tokens ≡ Err (Limit name, rest) → whole_at (only name) (raised (all_but name limit.Nesting) extra 64) tokens ≡ Err (Limit name, rest)
@@ -193,8 +194,8 @@ module _ (tokens : Tokens) (real : NoSlot tokens) where
       (fault_kept (all_but name) (statement_rule store_limits 64 tokens) (statement_rule (lift (all_but name) store_limits) (raised (all_but name limit.Nesting) extra 64) tokens) (Limit name, rest)
       ((statement_right (all_but name) store_limits store_fair extra 64).lifted tokens (λ lifted. real)) (λ which same. ap (all_but name) (sym (ap (λ f. limit_of f which) same)) ∙ all_but-self name) is)
 
-  further : (name : LimitName) (rest : Tokens) (failed : Fails store_limits 64 tokens (Limit name, rest)) (outcome : Outcome Statement) → length (stop_of outcome) < length rest → suc (length failed.front) + length (stop_of outcome) ≤ length tokens
-  further name rest failed outcome less = let lengths = ap length failed.is ∙ length-append failed.front rest in omega arith
+  pub further : (name : LimitName) (rest : Tokens) (failed : Fails store_limits 64 tokens (Limit name, rest)) (outcome : Outcome Statement) → length (stop_of outcome) < length rest → suc (length failed.front) + length (stop_of outcome) ≤ length tokens
+  further limited rest failed outcome less = let lengths = ap length failed.is ∙ length-append failed.front rest in omega arith
 
   -- without limits a statement goes on through the token
   goes_on : (name : LimitName) (rest : Tokens) → whole_at store_limits 64 tokens ≡ Err (Limit name, rest) → (failed : Fails store_limits 64 tokens (Limit name, rest)) → (levels : ℕ) × Continues no_limits levels tokens (suc (length failed.front))

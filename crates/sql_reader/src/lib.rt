@@ -6,6 +6,7 @@ mod condition;
 mod create;
 mod cursor;
 mod fault;
+pub mod laws;
 mod list;
 mod literal;
 mod read;
