@@ -1,6 +1,6 @@
 -- A text has one answer.
-use Rattle.std.proofs.Common.{◌≡◌, ◌≢◌, ◌≤◌, ◌<◌, ◌+◌, ℕ, zero, suc, Bool, true, false, List, [], ◌∷◌, ◌++◌, length, take, drop, Result, Ok, Err, refl, sym, ap, ◌∙◌, subst, inl, inr, arith}
-use Rattle.std.specs.Prelude.{◌⊎◌, ◌==◌, not, nat_le}
+use Rattle.std.proofs.Common.{◌≡◌, ◌≢◌, ◌≤◌, ◌+◌, ℕ, zero, suc, Bool, true, false, List, [], ◌∷◌, length, take, drop, Result, Ok, Err, refl, sym, ap, ◌∙◌, subst, inl, inr, arith}
+use Rattle.std.specs.Prelude.{◌==◌, not, nat_le}
 use Rattle.std.proofs.lemmas.Bool.{false≢true}
 use Rattle.std.proofs.lemmas.List.{length-append}
 use Rattle.own_model.specs.declared.limit.LimitName.{LimitName}
@@ -12,7 +12,6 @@ use Rattle.sql_reader.specs.declared.fault.ReadFault.{ReadFault}
 use Rattle.sql_reader.specs.declared.fault.ReadFault.TheVariants as read
 use Rattle.sql_reader.specs.Answer.{Answers}
 use Rattle.sql_reader.specs.Continues.{Continues, IsSyntaxAt, IsLimitAt, IsNone, only}
-use Rattle.sql_reader.specs.Grammar as grammar
 use Rattle.sql_reader.specs.Limits.{Limits, store_limits, no_limits}
 use Rattle.sql_reader.specs.Reading.{Tokens, Outcome, then_read}
 use Rattle.sql_reader.specs.Token.{place_of}
@@ -20,9 +19,9 @@ use Rattle.sql_reader.specs.Statements.{statement_rule}
 use Rattle.sql_reader.specs.Outcomes.{whole}
 use Rattle.sql_reader.proofs.Wholes.{whole-ends}
 use Rattle.sql_reader.proofs.Lifts.{lift, Fair}
-use Rattle.sql_reader.proofs.Right.{stop_of, Goes, Beyond, Lifted, NoSlot}
-use Rattle.sql_reader.proofs.Wholly.{statement_right, statement_goes, whole_at, Fails, fails, raised, finish, continues_to, means_whole, no_more, fault_of, ok_err}
-use Rattle.sql_reader.proofs.Verdicts.{store_fair, free_fair, all_but, all_but-lift, all_but-self, number_of_limit, only_fair, fault_passed, all_lift, further, ends_there, none_is, ends_freely, syntax_limit, memory_limit, limit_at}
+use Rattle.sql_reader.proofs.Right.{stop_of, Beyond, Lifted, NoSlot}
+use Rattle.sql_reader.proofs.Wholly.{statement_right, statement_goes, whole_at, Fails, fails, raised, finish, continues_to, means_whole, fault_of, ok_err}
+use Rattle.sql_reader.proofs.Verdicts.{store_fair, free_fair, all_but, all_but-lift, all_but-self, number_of_limit, only_fair, fault_passed, all_lift, ends_there, ends_freely, syntax_limit, memory_limit, limit_at}
 
 take-less : (count more : ℕ) (one other : Tokens) → count ≤ more → take more one ≡ take more other → take count one ≡ take count other
 take-less zero more one other less same = refl
@@ -109,7 +108,7 @@ module _ (tokens : Tokens) (real : NoSlot tokens) (fault : Fault × Tokens) (is 
   continues_there lifts fair count short =
       let outcome = statement_rule (lift lifts store_limits) (raised (lifts limit.Nesting) 0 64) tokens in
       continues_to (lift lifts store_limits) (raised (lifts limit.Nesting) 0 64) tokens outcome (statement_goes (lift lifts store_limits) fair (raised (lifts limit.Nesting) 0 64) tokens) count
-          (stands count (stop_of outcome) short (stops_further lifts (statement_rule store_limits 64 tokens) outcome fault ((statement_right lifts store_limits store_fair 0 64).lifted tokens (λ lifted. real)) is))
+      (stands count (stop_of outcome) short (stops_further lifts (statement_rule store_limits 64 tokens) outcome fault ((statement_right lifts store_limits store_fair 0 64).lifted tokens (λ lifted. real)) is))
 
   -- with the limits no statement goes on behind the fault
   not_past : (at : ℕ) → Continues store_limits 64 tokens at → at ≤ length failed.front
@@ -135,11 +134,12 @@ module _ (tokens : Tokens) (real : NoSlot tokens) (fault : Fault × Tokens) (is 
       levels : (free : Bool) → all_but name limit.Nesting ≡ free → name ≡ limit.Nesting → raised free 0 64 ≡ 64
       levels true free named = absurd (false≢true (sym (all_but-self limit.Nesting) ∙ ap (λ n. all_but n limit.Nesting) (sym named) ∙ free))
       levels false kept named = refl
+
       by : (answer : Bool) → nat_le (length failed.front) at ≡ answer → at ≡ length failed.front
       by true less = let short = not_past at stood.before in grind arith
       by false more =
           absurd (stood.ends (raised (all_but name limit.Nesting) 0 64) (levels (all_but name limit.Nesting) refl)
-              (subst (λ l. Continues l (raised (all_but name limit.Nesting) 0 64) tokens (suc at)) (all_but-lift name) (continues_there (all_but name) (subst Fair (sym (all_but-lift name)) (only_fair name)) (suc at) (grind arith))))
+          (subst (λ l. Continues l (raised (all_but name limit.Nesting) 0 64) tokens (suc at)) (all_but-lift name) (continues_there (all_but name) (subst Fair (sym (all_but-lift name)) (only_fair name)) (suc at) (grind arith))))
 
   -- no statement goes on through the fault, where it is no limit's
   limits_only : ((which : LimitName) → fault.0 ≡ Limit which → ⊥) → (name : LimitName) (at : ℕ) → IsLimitAt name tokens at → ⊥
@@ -151,28 +151,35 @@ module _ (tokens : Tokens) (real : NoSlot tokens) (fault : Fault × Tokens) (is 
     where
       here : at ≡ length failed.front
       here = limit_there name at stood
+
       levels : (free : Bool) → all_but name limit.Nesting ≡ free → name ≡ limit.Nesting → raised free 0 64 ≡ 64
       levels true free named = absurd (false≢true (sym (all_but-self limit.Nesting) ∙ ap (λ n. all_but n limit.Nesting) (sym named) ∙ free))
       levels false kept named = refl
+
       not_nesting : own ≡ limit.Items → own ≡ limit.Nesting → ⊥
       not_nesting items nesting = absurd (items_nesting (sym items ∙ nesting))
+
       outcome : Outcome Statement
       outcome = statement_rule (lift (all_but name) store_limits) (raised (all_but name limit.Nesting) 0 64) tokens
+
       is_limit : whole_at store_limits 64 tokens ≡ Err (Limit own, rest)
       is_limit = is ∙ ap (λ f. Err f) (sym same)
+
       fair : Fair (lift (all_but name) store_limits)
       fair = subst Fair (sym (all_but-lift name)) (only_fair name)
+
       past : Beyond (all_but name) own rest outcome → ⊥
       past (inl less) =
           stood.ends (raised (all_but name limit.Nesting) 0 64) (levels (all_but name limit.Nesting) refl)
-              (subst (λ l. Continues l (raised (all_but name limit.Nesting) 0 64) tokens (suc at)) (all_but-lift name)
-                  (continues_to (lift (all_but name) store_limits) (raised (all_but name limit.Nesting) 0 64) tokens outcome (statement_goes (lift (all_but name) store_limits) fair (raised (all_but name limit.Nesting) 0 64) tokens) (suc at)
-                      (let lengths = ap length failed.is ∙ length-append failed.front fault.1 in let rests = ap (λ f. length f.1) same in let there = here in omega arith)))
+          (subst (λ l. Continues l (raised (all_but name limit.Nesting) 0 64) tokens (suc at)) (all_but-lift name)
+          (continues_to (lift (all_but name) store_limits) (raised (all_but name limit.Nesting) 0 64) tokens outcome (statement_goes (lift (all_but name) store_limits) fair (raised (all_but name limit.Nesting) 0 64) tokens) (suc at)
+          (let lengths = ap length failed.is ∙ length-append failed.front fault.1 in let rests = ap (λ f. length f.1) same in let there = here in omega arith)))
       past (inr named) =
           let theirs = limit_at tokens real own rest is_limit in
           let other = stood.not_items (kept_alone name limit.Name named.1) in
           theirs.1.ends other.0 (λ nesting. absurd (not_nesting named.0 nesting))
-              (subst (λ n. Continues (only own) other.0 tokens (suc n)) (here ∙ sym (limit_there own theirs.0 theirs.1)) (subst (λ n. Continues (only n) other.0 tokens (suc at)) (sym named.0) other.1))
+          (subst (λ n. Continues (only own) other.0 tokens (suc n)) (here ∙ sym (limit_there own theirs.0 theirs.1)) (subst (λ n. Continues (only n) other.0 tokens (suc at)) (sym named.0) other.1))
+
       by : (answer : Bool) → all_but name own ≡ answer → name ≡ own
       by false kept = kept_alone name own kept
       by true free = absurd (past (fault_passed (all_but name) (statement_rule store_limits 64 tokens) outcome own rest ((statement_right (all_but name) store_limits store_fair 0 64).lifted tokens (λ lifted. real)) free is_limit))

@@ -22,53 +22,53 @@ module _ (lifts : LimitName → Bool) (limits : Limits) (fair : Fair limits) whe
   -- = | <> | != | < | <= | > | >=
   pub comparison_sign_right :
       Right lifts condition_rules.comparison_sign condition_rules.comparison_sign
-          grammar.cmp
-          (AMark (codes "=") ∷ AMark (codes "<>") ∷ AMark (codes "!=") ∷ AMark (codes "<") ∷ AMark (codes "<=") ∷ AMark (codes ">") ∷ AMark (codes ">=") ∷ []) false []
+      grammar.cmp
+      (AMark (codes "=") ∷ AMark (codes "<>") ∷ AMark (codes "!=") ∷ AMark (codes "<") ∷ AMark (codes "<=") ∷ AMark (codes ">") ∷ AMark (codes ">=") ∷ []) false []
   unfolding condition_rules.comparison_sign grammar.cmp
   comparison_sign_right =
       or_else (mark_tests (codes "="))
-          (and_then (mark_right (codes "=")) (λ _. pure_right Cmp.Eq) refl)
-          (or_else (mark_tests (codes "<>"))
-               (and_then (mark_right (codes "<>")) (λ _. pure_right Cmp.Ne) refl)
-               (or_else (mark_tests (codes "!="))
-                    (and_then (mark_right (codes "!=")) (λ _. pure_right Cmp.Ne) refl)
-                    (or_else (mark_tests (codes "<"))
-                         (and_then (mark_right (codes "<")) (λ _. pure_right Cmp.Lt) refl)
-                         (or_else (mark_tests (codes "<="))
-                              (and_then (mark_right (codes "<=")) (λ _. pure_right Cmp.Le) refl)
-                              (or_else (mark_tests (codes ">"))
-                                   (and_then (mark_right (codes ">")) (λ _. pure_right Cmp.Gt) refl)
-                                   (and_then (mark_right (codes ">=")) (λ _. pure_right Cmp.Ge) refl) refl) refl) refl) refl) refl) refl
+      (and_then (mark_right (codes "=")) (λ _. pure_right Cmp.Eq) refl)
+      (or_else (mark_tests (codes "<>"))
+      (and_then (mark_right (codes "<>")) (λ _. pure_right Cmp.Ne) refl)
+      (or_else (mark_tests (codes "!="))
+      (and_then (mark_right (codes "!=")) (λ _. pure_right Cmp.Ne) refl)
+      (or_else (mark_tests (codes "<"))
+      (and_then (mark_right (codes "<")) (λ _. pure_right Cmp.Lt) refl)
+      (or_else (mark_tests (codes "<="))
+      (and_then (mark_right (codes "<=")) (λ _. pure_right Cmp.Le) refl)
+      (or_else (mark_tests (codes ">"))
+      (and_then (mark_right (codes ">")) (λ _. pure_right Cmp.Gt) refl)
+      (and_then (mark_right (codes ">=")) (λ _. pure_right Cmp.Ge) refl) refl) refl) refl) refl) refl) refl
 
   -- col | literal
   pub operand_rule_right :
       Right lifts (condition_rules.operand_rule limits) (condition_rules.operand_rule (lift lifts limits))
-          (grammar.operand limits)
-          (AName ∷ AWord (codes "NULL") ∷ AQuoted ∷ AMark (codes "-") ∷ ANumber ∷ []) false (AMark (codes ".") ∷ [])
+      (grammar.operand limits)
+      (AName ∷ AWord (codes "NULL") ∷ AQuoted ∷ AMark (codes "-") ∷ ANumber ∷ []) false (AMark (codes ".") ∷ [])
   unfolding condition_rules.operand_rule grammar.operand
   operand_rule_right =
       or_else name_tests
-          (and_then (col_right lifts limits fair) (λ found. pure_right (Operand.Column found)) refl)
-          (and_then (literal_right lifts limits fair) (λ found. pure_right (Operand.Literal found)) refl) refl
+      (and_then (col_right lifts limits fair) (λ found. pure_right (Operand.Column found)) refl)
+      (and_then (literal_right lifts limits fair) (λ found. pure_right (Operand.Literal found)) refl) refl
 
   -- cmp (col | literal) | IS [NOT] NULL, behind a column
   pub compared_right : (column : ColRef) →
       Right lifts (condition_rules.compared limits column) (condition_rules.compared (lift lifts limits) column)
-          (grammar.tested column or grammar.compared limits column)
-          (AWord (codes "IS") ∷ AMark (codes "=") ∷ AMark (codes "<>") ∷ AMark (codes "!=") ∷ AMark (codes "<") ∷ AMark (codes "<=") ∷ AMark (codes ">") ∷ AMark (codes ">=") ∷ []) false (AMark (codes ".") ∷ [])
+      (grammar.tested column or grammar.compared limits column)
+      (AWord (codes "IS") ∷ AMark (codes "=") ∷ AMark (codes "<>") ∷ AMark (codes "!=") ∷ AMark (codes "<") ∷ AMark (codes "<=") ∷ AMark (codes ">") ∷ AMark (codes ">=") ∷ []) false (AMark (codes ".") ∷ [])
   unfolding condition_rules.compared
   compared_right column =
       or_else (word_tests (codes "IS"))
-          (and_then (word_right (codes "IS")) (λ _.
-           and_then (or_nothing (word_tests (codes "NOT")) (word_right (codes "NOT"))) (λ negated.
-           and_then (word_right (codes "NULL")) (λ _. pure_right (Cond.IsNull column (is_there negated))) refl) refl) refl)
-          (and_then comparison_sign_right (λ sign. and_then operand_rule_right (λ right. pure_right (Cond.Compare column sign right)) refl) refl) refl
+      (and_then (word_right (codes "IS")) (λ _.
+      and_then (or_nothing (word_tests (codes "NOT")) (word_right (codes "NOT"))) (λ negated.
+      and_then (word_right (codes "NULL")) (λ _. pure_right (Cond.IsNull column (is_there negated))) refl) refl) refl)
+      (and_then comparison_sign_right (λ sign. and_then operand_rule_right (λ right. pure_right (Cond.Compare column sign right)) refl) refl) refl
 
   -- col cmp (col | literal) | col IS [NOT] NULL
   pub comparison_right :
       Right lifts (condition_rules.comparison limits) (condition_rules.comparison (lift lifts limits))
-          (grammar.comparison limits)
-          (AName ∷ []) false (AMark (codes ".") ∷ [])
+      (grammar.comparison limits)
+      (AName ∷ []) false (AMark (codes ".") ∷ [])
   unfolding condition_rules.comparison grammar.comparison
   comparison_right = in_words (grammar.comparison limits) to from (and_then (col_right lifts limits fair) (λ column. compared_right column) refl)
     where

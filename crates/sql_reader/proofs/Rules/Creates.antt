@@ -47,27 +47,27 @@ module _ (lifts : LimitName → Bool) (limits : Limits) (fair : Fair limits) whe
   -- REFERENCES [ONLY] | OWNED_BY | OWNS | ACCESSED_BY | ACCESSES
   pub ref_kind_right :
       Right lifts create_rules.ref_kind create_rules.ref_kind
-          grammar.ref_kind
-          (AWord (codes "REFERENCES") ∷ AWord (codes "OWNED_BY") ∷ AWord (codes "OWNS") ∷ AWord (codes "ACCESSED_BY") ∷ AWord (codes "ACCESSES") ∷ []) false (AWord (codes "ONLY") ∷ [])
+      grammar.ref_kind
+      (AWord (codes "REFERENCES") ∷ AWord (codes "OWNED_BY") ∷ AWord (codes "OWNS") ∷ AWord (codes "ACCESSED_BY") ∷ AWord (codes "ACCESSES") ∷ []) false (AWord (codes "ONLY") ∷ [])
   unfolding create_rules.ref_kind grammar.ref_kind
   ref_kind_right =
       or_else (word_tests (codes "REFERENCES"))
-          (and_then (
-               and_then (word_right (codes "REFERENCES")) (λ _. or_nothing (word_tests (codes "ONLY")) (word_right (codes "ONLY"))) refl) (λ _.
-           pure_right RefKind.Plain) refl)
-          (or_else (word_tests (codes "OWNED_BY"))
-               (and_then (word_right (codes "OWNED_BY")) (λ _. pure_right RefKind.OwnedBy) refl)
-               (or_else (word_tests (codes "OWNS"))
-                    (and_then (word_right (codes "OWNS")) (λ _. pure_right RefKind.Owns) refl)
-                    (or_else (word_tests (codes "ACCESSED_BY"))
-                         (and_then (word_right (codes "ACCESSED_BY")) (λ _. pure_right RefKind.AccessedBy) refl)
-                         (and_then (word_right (codes "ACCESSES")) (λ _. pure_right RefKind.Accesses) refl) refl) refl) refl) refl
+      (and_then (
+      and_then (word_right (codes "REFERENCES")) (λ _. or_nothing (word_tests (codes "ONLY")) (word_right (codes "ONLY"))) refl) (λ _.
+      pure_right RefKind.Plain) refl)
+      (or_else (word_tests (codes "OWNED_BY"))
+      (and_then (word_right (codes "OWNED_BY")) (λ _. pure_right RefKind.OwnedBy) refl)
+      (or_else (word_tests (codes "OWNS"))
+      (and_then (word_right (codes "OWNS")) (λ _. pure_right RefKind.Owns) refl)
+      (or_else (word_tests (codes "ACCESSED_BY"))
+      (and_then (word_right (codes "ACCESSED_BY")) (λ _. pure_right RefKind.AccessedBy) refl)
+      (and_then (word_right (codes "ACCESSES")) (λ _. pure_right RefKind.Accesses) refl) refl) refl) refl) refl
 
   -- a reference
   pub refers_right :
       Right lifts (create_rules.refers limits) (create_rules.refers (lift lifts limits))
-          (grammar.refers limits)
-          (AWord (codes "REFERENCES") ∷ AWord (codes "OWNED_BY") ∷ AWord (codes "OWNS") ∷ AWord (codes "ACCESSED_BY") ∷ AWord (codes "ACCESSES") ∷ []) false []
+      (grammar.refers limits)
+      (AWord (codes "REFERENCES") ∷ AWord (codes "OWNED_BY") ∷ AWord (codes "OWNS") ∷ AWord (codes "ACCESSED_BY") ∷ AWord (codes "ACCESSES") ∷ []) false []
   unfolding create_rules.refers grammar.refers
   refers_right =
       and_then ref_kind_right (λ found.
@@ -77,42 +77,42 @@ module _ (lifts : LimitName → Bool) (limits : Limits) (fair : Fair limits) whe
   -- PRIMARY KEY | NOT NULL | UNIQUE | refers
   pub attr_rule_right :
       Right lifts (create_rules.attr_rule limits) (create_rules.attr_rule (lift lifts limits))
-          (grammar.attr limits)
-          (AWord (codes "PRIMARY") ∷ AWord (codes "NOT") ∷ AWord (codes "UNIQUE") ∷ AWord (codes "REFERENCES") ∷ AWord (codes "OWNED_BY") ∷ AWord (codes "OWNS") ∷ AWord (codes "ACCESSED_BY") ∷ AWord (codes "ACCESSES") ∷ []) false []
+      (grammar.attr limits)
+      (AWord (codes "PRIMARY") ∷ AWord (codes "NOT") ∷ AWord (codes "UNIQUE") ∷ AWord (codes "REFERENCES") ∷ AWord (codes "OWNED_BY") ∷ AWord (codes "OWNS") ∷ AWord (codes "ACCESSED_BY") ∷ AWord (codes "ACCESSES") ∷ []) false []
   unfolding create_rules.attr_rule grammar.attr
   attr_rule_right =
       or_else (word_tests (codes "PRIMARY"))
-          (and_then (and_then (word_right (codes "PRIMARY")) (λ _. word_right (codes "KEY")) refl) (λ _. pure_right Attr.Key) refl)
-          (or_else (word_tests (codes "NOT"))
-               (and_then (and_then (word_right (codes "NOT")) (λ _. word_right (codes "NULL")) refl) (λ _. pure_right Attr.NotNull) refl)
-               (or_else (word_tests (codes "UNIQUE"))
-                    (and_then (word_right (codes "UNIQUE")) (λ _. pure_right Attr.Unique) refl)
-                    (and_then refers_right (λ found. pure_right (Attr.Refers found)) refl) refl) refl) refl
+      (and_then (and_then (word_right (codes "PRIMARY")) (λ _. word_right (codes "KEY")) refl) (λ _. pure_right Attr.Key) refl)
+      (or_else (word_tests (codes "NOT"))
+      (and_then (and_then (word_right (codes "NOT")) (λ _. word_right (codes "NULL")) refl) (λ _. pure_right Attr.NotNull) refl)
+      (or_else (word_tests (codes "UNIQUE"))
+      (and_then (word_right (codes "UNIQUE")) (λ _. pure_right Attr.Unique) refl)
+      (and_then refers_right (λ found. pure_right (Attr.Refers found)) refl) refl) refl) refl
 
   -- {attr}
   pub attrs_right :
       Right lifts (create_rules.attrs limits) (create_rules.attrs (lift lifts limits))
-          (language.many (grammar.attr limits))
-          (AWord (codes "PRIMARY") ∷ AWord (codes "NOT") ∷ AWord (codes "UNIQUE") ∷ AWord (codes "REFERENCES") ∷ AWord (codes "OWNED_BY") ∷ AWord (codes "OWNS") ∷ AWord (codes "ACCESSED_BY") ∷ AWord (codes "ACCESSES") ∷ []) true (AWord (codes "PRIMARY") ∷ AWord (codes "NOT") ∷ AWord (codes "UNIQUE") ∷ AWord (codes "REFERENCES") ∷ AWord (codes "OWNED_BY") ∷ AWord (codes "OWNS") ∷ AWord (codes "ACCESSED_BY") ∷ AWord (codes "ACCESSES") ∷ [])
+      (language.many (grammar.attr limits))
+      (AWord (codes "PRIMARY") ∷ AWord (codes "NOT") ∷ AWord (codes "UNIQUE") ∷ AWord (codes "REFERENCES") ∷ AWord (codes "OWNED_BY") ∷ AWord (codes "OWNS") ∷ AWord (codes "ACCESSED_BY") ∷ AWord (codes "ACCESSES") ∷ []) true (AWord (codes "PRIMARY") ∷ AWord (codes "NOT") ∷ AWord (codes "UNIQUE") ∷ AWord (codes "REFERENCES") ∷ AWord (codes "OWNED_BY") ∷ AWord (codes "OWNS") ∷ AWord (codes "ACCESSED_BY") ∷ AWord (codes "ACCESSES") ∷ [])
   unfolding create_rules.attrs
   attrs_right = as_often attr_tests attr_rule_right refl
 
   -- INT | TEXT
   pub kind_rule_right :
       Right lifts create_rules.kind_rule create_rules.kind_rule
-          grammar.kind
-          (AWord (codes "INT") ∷ AWord (codes "TEXT") ∷ []) false []
+      grammar.kind
+      (AWord (codes "INT") ∷ AWord (codes "TEXT") ∷ []) false []
   unfolding create_rules.kind_rule grammar.kind
   kind_rule_right =
       or_else (word_tests (codes "INT"))
-          (and_then (word_right (codes "INT")) (λ _. pure_right Kind.Int) refl)
-          (and_then (word_right (codes "TEXT")) (λ _. pure_right Kind.Text) refl) refl
+      (and_then (word_right (codes "INT")) (λ _. pure_right Kind.Int) refl)
+      (and_then (word_right (codes "TEXT")) (λ _. pure_right Kind.Text) refl) refl
 
   -- name (INT | TEXT) {attr}
   pub column_part_right :
       Right lifts (create_rules.column_part limits) (create_rules.column_part (lift lifts limits))
-          (grammar.column_part limits)
-          (AName ∷ []) false (AWord (codes "PRIMARY") ∷ AWord (codes "NOT") ∷ AWord (codes "UNIQUE") ∷ AWord (codes "REFERENCES") ∷ AWord (codes "OWNED_BY") ∷ AWord (codes "OWNS") ∷ AWord (codes "ACCESSED_BY") ∷ AWord (codes "ACCESSES") ∷ [])
+      (grammar.column_part limits)
+      (AName ∷ []) false (AWord (codes "PRIMARY") ∷ AWord (codes "NOT") ∷ AWord (codes "UNIQUE") ∷ AWord (codes "REFERENCES") ∷ AWord (codes "OWNED_BY") ∷ AWord (codes "OWNS") ∷ AWord (codes "ACCESSED_BY") ∷ AWord (codes "ACCESSES") ∷ [])
   unfolding create_rules.column_part grammar.column_part
   column_part_right =
       and_then (name_right lifts limits fair) (λ column.
@@ -122,8 +122,8 @@ module _ (lifts : LimitName → Bool) (limits : Limits) (fair : Fair limits) whe
   -- FOREIGN KEY ( name ) refers
   pub foreign_part_right :
       Right lifts (create_rules.foreign_part limits) (create_rules.foreign_part (lift lifts limits))
-          (grammar.foreign_part limits)
-          (AWord (codes "FOREIGN") ∷ []) false []
+      (grammar.foreign_part limits)
+      (AWord (codes "FOREIGN") ∷ []) false []
   unfolding create_rules.foreign_part grammar.foreign_part
   foreign_part_right =
       and_then (word_right (codes "FOREIGN")) (λ _.
@@ -133,8 +133,8 @@ module _ (lifts : LimitName → Bool) (limits : Limits) (fair : Fair limits) whe
   -- GET name ANON ( names )
   pub get_part_right :
       Right lifts (create_rules.get_part limits) (create_rules.get_part (lift lifts limits))
-          (grammar.get_part limits)
-          (AWord (codes "GET") ∷ []) false []
+      (grammar.get_part limits)
+      (AWord (codes "GET") ∷ []) false []
   unfolding create_rules.get_part grammar.get_part
   get_part_right =
       and_then (word_right (codes "GET")) (λ _.
@@ -145,53 +145,53 @@ module _ (lifts : LimitName → Bool) (limits : Limits) (fair : Fair limits) whe
   -- DEL name ANON ( names ) | DEL name DELETE_ROW
   pub del_part_right :
       Right lifts (create_rules.del_part limits) (create_rules.del_part (lift lifts limits))
-          (grammar.del_part limits)
-          (AWord (codes "DEL") ∷ []) false []
+      (grammar.del_part limits)
+      (AWord (codes "DEL") ∷ []) false []
   unfolding create_rules.del_part grammar.del_part
   del_part_right =
       and_then (word_right (codes "DEL")) (λ _.
       and_then (name_right lifts limits fair) (λ column.
       or_else (word_tests (codes "ANON"))
-          (and_then (and_then (word_right (codes "ANON")) (λ _. (bracketed_names_right lifts limits fair)) refl) (λ ruled.
-           pure_right (Part.Del column ruled)) refl)
-          (and_then (word_right (codes "DELETE_ROW")) (λ _. pure_right (Part.DelRow column)) refl) refl) refl) refl
+      (and_then (and_then (word_right (codes "ANON")) (λ _. (bracketed_names_right lifts limits fair)) refl) (λ ruled.
+      pure_right (Part.Del column ruled)) refl)
+      (and_then (word_right (codes "DELETE_ROW")) (λ _. pure_right (Part.DelRow column)) refl) refl) refl) refl
 
   -- a part of a CREATE TABLE
   pub part_rule_right :
       Right lifts (create_rules.part_rule limits) (create_rules.part_rule (lift lifts limits))
-          (grammar.part limits)
-          (AName ∷ AWord (codes "PRIMARY") ∷ AWord (codes "UNIQUE") ∷ AWord (codes "FOREIGN") ∷ AWord (codes "ON") ∷ []) false (AWord (codes "PRIMARY") ∷ AWord (codes "NOT") ∷ AWord (codes "UNIQUE") ∷ AWord (codes "REFERENCES") ∷ AWord (codes "OWNED_BY") ∷ AWord (codes "OWNS") ∷ AWord (codes "ACCESSED_BY") ∷ AWord (codes "ACCESSES") ∷ [])
+      (grammar.part limits)
+      (AName ∷ AWord (codes "PRIMARY") ∷ AWord (codes "UNIQUE") ∷ AWord (codes "FOREIGN") ∷ AWord (codes "ON") ∷ []) false (AWord (codes "PRIMARY") ∷ AWord (codes "NOT") ∷ AWord (codes "UNIQUE") ∷ AWord (codes "REFERENCES") ∷ AWord (codes "OWNED_BY") ∷ AWord (codes "OWNS") ∷ AWord (codes "ACCESSED_BY") ∷ AWord (codes "ACCESSES") ∷ [])
   unfolding create_rules.part_rule grammar.part
   part_rule_right =
       or_else name_tests column_part_right
-          (or_else (word_tests (codes "PRIMARY"))
-               (and_then (
-                    and_then (and_then (word_right (codes "PRIMARY")) (λ _. word_right (codes "KEY")) refl) (λ _.
-                    (one_name_right lifts limits fair)) refl) (λ column.
-                pure_right (Part.Key column)) refl)
-               (or_else (word_tests (codes "UNIQUE"))
-                    (and_then (and_then (word_right (codes "UNIQUE")) (λ _. (one_name_right lifts limits fair)) refl) (λ column.
-                     pure_right (Part.Unique column)) refl)
-                    (or_else (word_tests (codes "FOREIGN")) foreign_part_right
-                         (and_then (word_right (codes "ON")) (λ _. or_else (word_tests (codes "GET")) get_part_right del_part_right refl) refl) refl) refl) refl) refl
+      (or_else (word_tests (codes "PRIMARY"))
+      (and_then (
+      and_then (and_then (word_right (codes "PRIMARY")) (λ _. word_right (codes "KEY")) refl) (λ _.
+      (one_name_right lifts limits fair)) refl) (λ column.
+      pure_right (Part.Key column)) refl)
+      (or_else (word_tests (codes "UNIQUE"))
+      (and_then (and_then (word_right (codes "UNIQUE")) (λ _. (one_name_right lifts limits fair)) refl) (λ column.
+      pure_right (Part.Unique column)) refl)
+      (or_else (word_tests (codes "FOREIGN")) foreign_part_right
+      (and_then (word_right (codes "ON")) (λ _. or_else (word_tests (codes "GET")) get_part_right del_part_right refl) refl) refl) refl) refl) refl
 
   -- part {, part}
   pub listed_parts_right :
       Right lifts (create_rules.listed_parts limits) (create_rules.listed_parts (lift lifts limits))
-          (language.listed (grammar.part limits))
-          (AName ∷ AWord (codes "PRIMARY") ∷ AWord (codes "UNIQUE") ∷ AWord (codes "FOREIGN") ∷ AWord (codes "ON") ∷ []) false (AMark (codes ",") ∷ AWord (codes "PRIMARY") ∷ AWord (codes "NOT") ∷ AWord (codes "UNIQUE") ∷ AWord (codes "REFERENCES") ∷ AWord (codes "OWNED_BY") ∷ AWord (codes "OWNS") ∷ AWord (codes "ACCESSED_BY") ∷ AWord (codes "ACCESSES") ∷ [])
+      (language.listed (grammar.part limits))
+      (AName ∷ AWord (codes "PRIMARY") ∷ AWord (codes "UNIQUE") ∷ AWord (codes "FOREIGN") ∷ AWord (codes "ON") ∷ []) false (AMark (codes ",") ∷ AWord (codes "PRIMARY") ∷ AWord (codes "NOT") ∷ AWord (codes "UNIQUE") ∷ AWord (codes "REFERENCES") ∷ AWord (codes "OWNED_BY") ∷ AWord (codes "OWNS") ∷ AWord (codes "ACCESSED_BY") ∷ AWord (codes "ACCESSES") ∷ [])
   unfolding create_rules.listed_parts
   listed_parts_right =
       with_more (AName ∷ AWord (codes "PRIMARY") ∷ AWord (codes "UNIQUE") ∷ AWord (codes "FOREIGN") ∷ AWord (codes "ON") ∷ []) false (AMark (codes ",") ∷ AWord (codes "PRIMARY") ∷ AWord (codes "NOT") ∷ AWord (codes "UNIQUE") ∷ AWord (codes "REFERENCES") ∷ AWord (codes "OWNED_BY") ∷ AWord (codes "OWNS") ∷ AWord (codes "ACCESSED_BY") ∷ AWord (codes "ACCESSES") ∷ [])
-          (and_then part_rule_right (λ first.
-           and_then (as_often (mark_tests (codes ",")) (and_then (mark_right (codes ",")) (λ _. part_rule_right) refl) refl) (λ others.
-           pure_right (first ∷ others)) refl) refl) refl (λ is. is) refl
+      (and_then part_rule_right (λ first.
+      and_then (as_often (mark_tests (codes ",")) (and_then (mark_right (codes ",")) (λ _. part_rule_right) refl) refl) (λ others.
+      pure_right (first ∷ others)) refl) refl) refl (λ is. is) refl
 
   -- ( part {, part} )
   pub parts_right :
       Right lifts (create_rules.parts limits) (create_rules.parts (lift lifts limits))
-          (language.bracketed (language.listed (grammar.part limits)))
-          (AMark (codes "(") ∷ []) false []
+      (language.bracketed (language.listed (grammar.part limits)))
+      (AMark (codes "(") ∷ []) false []
   unfolding create_rules.parts
   parts_right =
       and_then (mark_right (codes "(")) (λ _.
@@ -200,8 +200,8 @@ module _ (lifts : LimitName → Bool) (limits : Limits) (fair : Fair limits) whe
   -- [DATA_SUBJECT] TABLE name ( part {, part} )
   pub table_right :
       Right lifts (create_rules.table limits) (create_rules.table (lift lifts limits))
-          (table_behind limits)
-          (AWord (codes "DATA_SUBJECT") ∷ AWord (codes "TABLE") ∷ []) false []
+      (table_behind limits)
+      (AWord (codes "DATA_SUBJECT") ∷ AWord (codes "TABLE") ∷ []) false []
   unfolding create_rules.table
   table_right =
       and_then (or_nothing (word_tests (codes "DATA_SUBJECT")) (word_right (codes "DATA_SUBJECT"))) (λ subject.

@@ -58,8 +58,8 @@ module _ (lifts : LimitName → Bool) (limits : Limits) (fair : Fair limits) whe
   -- ( col ), behind SUM
   pub sum_of_behind_right :
       Right lifts (select_rules.sum_of_behind limits) (select_rules.sum_of_behind (lift lifts limits))
-          (sum_of_behind limits)
-          (AMark (codes "(") ∷ []) false []
+      (sum_of_behind limits)
+      (AMark (codes "(") ∷ []) false []
   unfolding select_rules.sum_of_behind
   sum_of_behind_right =
       and_then (mark_right (codes "(")) (λ _.
@@ -68,26 +68,26 @@ module _ (lifts : LimitName → Bool) (limits : Limits) (fair : Fair limits) whe
   -- what an item is, behind its first name
   pub what_behind_right : (first : List ℕ) →
       Right lifts (select_rules.what_behind limits first) (select_rules.what_behind (lift lifts limits) first)
-          (what_behind limits first)
-          (AMark (codes "(") ∷ AMark (codes ".") ∷ []) true (AMark (codes ".") ∷ AMark (codes "(") ∷ [])
+      (what_behind limits first)
+      (AMark (codes "(") ∷ AMark (codes ".") ∷ []) true (AMark (codes ".") ∷ AMark (codes "(") ∷ [])
   unfolding select_rules.what_behind
   what_behind_right first =
       decided (bytes_eq first (codes "count"))
-          (with_more (AMark (codes "(") ∷ AMark (codes ".") ∷ []) true (AMark (codes ".") ∷ AMark (codes "(") ∷ [])
-               (or_else (mark_tests (codes "(")) count_behind_right
-                    (and_then ((col_behind_right lifts limits fair) first) (λ column. pure_right (What.Column column)) refl) refl) refl (λ is. is) refl)
-          (decided (bytes_eq first (codes "sum"))
-               (with_more (AMark (codes "(") ∷ AMark (codes ".") ∷ []) true (AMark (codes ".") ∷ AMark (codes "(") ∷ [])
-                    (or_else (mark_tests (codes "(")) sum_of_behind_right
-                         (and_then ((col_behind_right lifts limits fair) first) (λ column. pure_right (What.Column column)) refl) refl) refl (λ is. is) refl)
-               (with_more (AMark (codes "(") ∷ AMark (codes ".") ∷ []) true (AMark (codes ".") ∷ AMark (codes "(") ∷ [])
-                    (and_then ((col_behind_right lifts limits fair) first) (λ column. pure_right (What.Column column)) refl) refl (λ is. is) refl))
+      (with_more (AMark (codes "(") ∷ AMark (codes ".") ∷ []) true (AMark (codes ".") ∷ AMark (codes "(") ∷ [])
+      (or_else (mark_tests (codes "(")) count_behind_right
+      (and_then ((col_behind_right lifts limits fair) first) (λ column. pure_right (What.Column column)) refl) refl) refl (λ is. is) refl)
+      (decided (bytes_eq first (codes "sum"))
+      (with_more (AMark (codes "(") ∷ AMark (codes ".") ∷ []) true (AMark (codes ".") ∷ AMark (codes "(") ∷ [])
+      (or_else (mark_tests (codes "(")) sum_of_behind_right
+      (and_then ((col_behind_right lifts limits fair) first) (λ column. pure_right (What.Column column)) refl) refl) refl (λ is. is) refl)
+      (with_more (AMark (codes "(") ∷ AMark (codes ".") ∷ []) true (AMark (codes ".") ∷ AMark (codes "(") ∷ [])
+      (and_then ((col_behind_right lifts limits fair) first) (λ column. pure_right (What.Column column)) refl) refl (λ is. is) refl))
 
   -- [AS name]
   pub alias_right :
       Right lifts (select_rules.alias limits) (select_rules.alias (lift lifts limits))
-          (grammar.alias limits)
-          (AWord (codes "AS") ∷ []) true (AWord (codes "AS") ∷ [])
+      (grammar.alias limits)
+      (AWord (codes "AS") ∷ []) true (AWord (codes "AS") ∷ [])
   unfolding select_rules.alias grammar.alias
   alias_right = or_nothing (word_tests (codes "AS")) (and_then (word_right (codes "AS")) (λ _. name_right lifts limits fair) refl)
 
@@ -133,14 +133,14 @@ module _ (lifts : LimitName → Bool) (limits : Limits) (fair : Fair limits) whe
   -- gitem = (col | COUNT ( * ) | SUM ( col )) [AS name]
   pub item_right :
       Right lifts (select_rules.item limits) (select_rules.item (lift lifts limits))
-          (grammar.gitem limits)
-          (AName ∷ []) false (AWord (codes "AS") ∷ AMark (codes ".") ∷ AMark (codes "(") ∷ [])
+      (grammar.gitem limits)
+      (AName ∷ []) false (AWord (codes "AS") ∷ AMark (codes ".") ∷ AMark (codes "(") ∷ [])
   unfolding select_rules.item grammar.gitem
   item_right =
       in_words (grammar.gitem limits) to from
-          (and_then (name_right lifts limits fair) (λ first.
-           and_then (what_behind_right first) (λ found.
-           and_then alias_right (λ called. pure_right (record { what = found; alias = called })) refl) refl) refl)
+      (and_then (name_right lifts limits fair) (λ first.
+      and_then (what_behind_right first) (λ found.
+      and_then alias_right (λ called. pure_right (record { what = found; alias = called })) refl) refl) refl)
     where
       to : Into (grammar.name limits >>= λ first. what_behind limits first >>= λ found. grammar.alias limits >>= λ called. language.pure (record { what = found; alias = called })) (grammar.gitem limits)
       to value tokens rest (first, middle, named, (found, end, what, called)) = (found, end, what_to first found tokens middle end named what, called)

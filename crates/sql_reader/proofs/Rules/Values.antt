@@ -33,8 +33,8 @@ module _ (lifts : LimitName → Bool) (limits : Limits) (fair : Fair limits) whe
   -- name {, name}
   pub names_right :
       Right lifts (rules.names limits) (rules.names (lift lifts limits))
-          (grammar.names limits)
-          (AName ∷ []) false (AMark (codes ",") ∷ [])
+      (grammar.names limits)
+      (AName ∷ []) false (AMark (codes ",") ∷ [])
   unfolding rules.names grammar.names
   names_right =
       and_then (name_right lifts limits fair) (λ first.
@@ -44,8 +44,8 @@ module _ (lifts : LimitName → Bool) (limits : Limits) (fair : Fair limits) whe
   -- ( name )
   pub one_name_right :
       Right lifts (rules.one_name limits) (rules.one_name (lift lifts limits))
-          (language.bracketed (grammar.name limits))
-          (AMark (codes "(") ∷ []) false []
+      (language.bracketed (grammar.name limits))
+      (AMark (codes "(") ∷ []) false []
   unfolding rules.one_name
   one_name_right =
       and_then (mark_right (codes "(")) (λ _.
@@ -54,8 +54,8 @@ module _ (lifts : LimitName → Bool) (limits : Limits) (fair : Fair limits) whe
   -- ( names )
   pub bracketed_names_right :
       Right lifts (rules.bracketed_names limits) (rules.bracketed_names (lift lifts limits))
-          (language.bracketed (grammar.names limits))
-          (AMark (codes "(") ∷ []) false []
+      (language.bracketed (grammar.names limits))
+      (AMark (codes "(") ∷ []) false []
   unfolding rules.bracketed_names
   bracketed_names_right =
       and_then (mark_right (codes "(")) (λ _.
@@ -64,8 +64,8 @@ module _ (lifts : LimitName → Bool) (limits : Limits) (fair : Fair limits) whe
   -- [. name], behind a name
   pub col_behind_right : (first : List ℕ) →
       Right lifts (rules.col_behind limits first) (rules.col_behind (lift lifts limits) first)
-          (grammar.col_behind limits first)
-          (AMark (codes ".") ∷ []) true (AMark (codes ".") ∷ [])
+      (grammar.col_behind limits first)
+      (AMark (codes ".") ∷ []) true (AMark (codes ".") ∷ [])
   unfolding rules.col_behind grammar.col_behind
   col_behind_right first =
       and_then (or_nothing (mark_tests (codes ".")) (and_then (mark_right (codes ".")) (λ _. name_right lifts limits fair) refl)) (λ second.
@@ -79,21 +79,21 @@ module _ (lifts : LimitName → Bool) (limits : Limits) (fair : Fair limits) whe
   -- NULL | int | text
   pub literal_right :
       Right lifts (rules.literal limits) (rules.literal (lift lifts limits))
-          (grammar.literal limits)
-          (AWord (codes "NULL") ∷ AQuoted ∷ AMark (codes "-") ∷ ANumber ∷ []) false []
+      (grammar.literal limits)
+      (AWord (codes "NULL") ∷ AQuoted ∷ AMark (codes "-") ∷ ANumber ∷ []) false []
   unfolding rules.literal grammar.literal
   literal_right =
       or_else (word_tests (codes "NULL"))
-          (and_then (word_right (codes "NULL")) (λ _. pure_right Value.Null) refl)
-          (or_else quoted_tests
-               (and_then (text_right lifts limits fair) (λ found. pure_right (Value.Text found)) refl)
-               (and_then int_right (λ found. pure_right (Value.Int found)) refl) refl) refl
+      (and_then (word_right (codes "NULL")) (λ _. pure_right Value.Null) refl)
+      (or_else quoted_tests
+      (and_then (text_right lifts limits fair) (λ found. pure_right (Value.Text found)) refl)
+      (and_then int_right (λ found. pure_right (Value.Int found)) refl) refl) refl
 
   -- literal {, literal}
   pub values_right :
       Right lifts (rules.values limits) (rules.values (lift lifts limits))
-          (language.listed (grammar.literal limits))
-          (AWord (codes "NULL") ∷ AQuoted ∷ AMark (codes "-") ∷ ANumber ∷ []) false (AMark (codes ",") ∷ [])
+      (language.listed (grammar.literal limits))
+      (AWord (codes "NULL") ∷ AQuoted ∷ AMark (codes "-") ∷ ANumber ∷ []) false (AMark (codes ",") ∷ [])
   unfolding rules.values
   values_right =
       and_then literal_right (λ first.
@@ -110,26 +110,26 @@ module _ (lifts : LimitName → Bool) (limits : Limits) (fair : Fair limits) whe
   -- name | name + int | name - int, behind the name
   pub sum_behind_right : (column : List ℕ) →
       Right lifts (rules.sum_behind column) (rules.sum_behind column)
-          (sum_lang column)
-          (AMark (codes "+") ∷ AMark (codes "-") ∷ []) true (AMark (codes "-") ∷ AMark (codes "+") ∷ [])
+      (sum_lang column)
+      (AMark (codes "+") ∷ AMark (codes "-") ∷ []) true (AMark (codes "-") ∷ AMark (codes "+") ∷ [])
   unfolding rules.sum_behind
   sum_behind_right column =
       or_else (mark_tests (codes "+"))
-          (and_then (and_then (mark_right (codes "+")) (λ _. int_right) refl) (λ more. pure_right (Expr.Plus column more)) refl)
-          (or_else (mark_tests (codes "-"))
-               (and_then (and_then (mark_right (codes "-")) (λ _. int_right) refl) (λ fewer. pure_right (Expr.Minus column fewer)) refl) (pure_right (Expr.Column column)) refl) refl
+      (and_then (and_then (mark_right (codes "+")) (λ _. int_right) refl) (λ more. pure_right (Expr.Plus column more)) refl)
+      (or_else (mark_tests (codes "-"))
+      (and_then (and_then (mark_right (codes "-")) (λ _. int_right) refl) (λ fewer. pure_right (Expr.Minus column fewer)) refl) (pure_right (Expr.Column column)) refl) refl
 
   -- literal | name | name + int | name - int
   pub expr_right :
       Right lifts (rules.expr_rule limits) (rules.expr_rule (lift lifts limits))
-          (grammar.expr limits)
-          (AName ∷ AWord (codes "NULL") ∷ AQuoted ∷ AMark (codes "-") ∷ ANumber ∷ []) false (AMark (codes "-") ∷ AMark (codes "+") ∷ [])
+      (grammar.expr limits)
+      (AName ∷ AWord (codes "NULL") ∷ AQuoted ∷ AMark (codes "-") ∷ ANumber ∷ []) false (AMark (codes "-") ∷ AMark (codes "+") ∷ [])
   unfolding rules.expr_rule grammar.expr
   expr_right =
       in_words (grammar.expr limits) to from
-          (or_else name_tests
-               (and_then (name_right lifts limits fair) (λ column. sum_behind_right column) refl)
-               (and_then literal_right (λ found. pure_right (Expr.Literal found)) refl) refl)
+      (or_else name_tests
+      (and_then (name_right lifts limits fair) (λ column. sum_behind_right column) refl)
+      (and_then literal_right (λ found. pure_right (Expr.Literal found)) refl) refl)
     where
       to : Into ((grammar.name limits >>= sum_lang) or (grammar.literal limits >>= λ found. language.pure (Expr.Literal found))) (grammar.expr limits)
       to value tokens rest (inl (column, middle, text, inl more)) = inr (inr (inl (column, middle, text, more)))
