@@ -50,7 +50,7 @@ answers_limit text tokens rest name is = limit_at (map token_of tokens) (no_slot
 pub read_then : (text : List ℕ) (result : Result Statement ReadFault) → IsAnswer text result → result ≢ Err Memory → IsRead text result
 read_then text (Ok found) is told = is
 read_then text (Err (Syntax byte)) is told = is
-read_then text (Err (Limit name)) is told = is
+read_then text (Err (Limit which)) is told = is
 read_then text (Err Memory) is told = absurd (told refl)
 
 -- a text has one answer

@@ -1,5 +1,5 @@
 -- The rules of CREATE TABLE.
-use Rattle.std.proofs.Common.{◌≡◌, Bool, true, false, [], ◌∷◌, refl, ap, codes}
+use Rattle.std.proofs.Common.{List, ◌≡◌, Bool, true, false, [], ◌∷◌, refl, ap, codes}
 use Rattle.std.specs.Prelude.{◌||◌}
 use Rattle.own_model.specs.declared.create.Attr.TheVariants as Attr
 use Rattle.own_model.specs.declared.create.Part.TheVariants as Part
@@ -16,7 +16,7 @@ use Rattle.sql_reader.specs.Create as create_rules
 use Rattle.sql_reader.specs.Token.{Token, is_word}
 use Rattle.sql_reader.proofs.Changes.{as_often, with_more}
 use Rattle.sql_reader.proofs.Choices.{or_else, or_nothing, word_right, mark_right, pure_right, word_tests, mark_tests, name_tests, or_none}
-use Rattle.sql_reader.proofs.Heads.{AWord, AMark, AName, among}
+use Rattle.sql_reader.proofs.Heads.{Head, AWord, AMark, AName, among}
 use Rattle.sql_reader.proofs.Joins.{and_then}
 use Rattle.sql_reader.proofs.Leaves.{name_right}
 use Rattle.sql_reader.proofs.Right.{Right}
@@ -33,13 +33,19 @@ table_behind limits = do
   all ← language.bracketed (language.listed (grammar.part limits))
   language.pure (record { name = found; subject = is_there subject; parts = all })
 
+-- the tokens at which an attribute begins
+abbrev attr_heads : List Head
+attr_heads =
+    AWord (codes "PRIMARY") ∷ AWord (codes "NOT") ∷ AWord (codes "UNIQUE")
+    ∷ AWord (codes "REFERENCES") ∷ AWord (codes "OWNED_BY") ∷ AWord (codes "OWNS") ∷ AWord (codes "ACCESSED_BY") ∷ AWord (codes "ACCESSES") ∷ []
+
 module _ (lifts : LimitName → Bool) (limits : Limits) (fair : Fair limits) where
   or_last : (a b : Bool) → (a || b) ≡ (a || (b || false))
   or_last true b = refl
   or_last false b = or_none b
 
   -- what tests the token at which an attribute begins
-  attr_tests : (token : Token) → begins_attr token ≡ among (AWord (codes "PRIMARY") ∷ AWord (codes "NOT") ∷ AWord (codes "UNIQUE") ∷ AWord (codes "REFERENCES") ∷ AWord (codes "OWNED_BY") ∷ AWord (codes "OWNS") ∷ AWord (codes "ACCESSED_BY") ∷ AWord (codes "ACCESSES") ∷ []) token
+  attr_tests : (token : Token) → begins_attr token ≡ among attr_heads token
   attr_tests token =
       ap (λ b. is_word (codes "PRIMARY") token || (is_word (codes "NOT") token || (is_word (codes "UNIQUE") token || (is_word (codes "REFERENCES") token || (is_word (codes "OWNED_BY") token || (is_word (codes "OWNS") token || b))))))
       (or_last (is_word (codes "ACCESSED_BY") token) (is_word (codes "ACCESSES") token))
@@ -78,7 +84,7 @@ module _ (lifts : LimitName → Bool) (limits : Limits) (fair : Fair limits) whe
   pub attr_rule_right :
       Right lifts (create_rules.attr_rule limits) (create_rules.attr_rule (lift lifts limits))
       (grammar.attr limits)
-      (AWord (codes "PRIMARY") ∷ AWord (codes "NOT") ∷ AWord (codes "UNIQUE") ∷ AWord (codes "REFERENCES") ∷ AWord (codes "OWNED_BY") ∷ AWord (codes "OWNS") ∷ AWord (codes "ACCESSED_BY") ∷ AWord (codes "ACCESSES") ∷ []) false []
+      attr_heads false []
   unfolding create_rules.attr_rule grammar.attr
   attr_rule_right =
       or_else (word_tests (codes "PRIMARY"))
@@ -93,7 +99,7 @@ module _ (lifts : LimitName → Bool) (limits : Limits) (fair : Fair limits) whe
   pub attrs_right :
       Right lifts (create_rules.attrs limits) (create_rules.attrs (lift lifts limits))
       (language.many (grammar.attr limits))
-      (AWord (codes "PRIMARY") ∷ AWord (codes "NOT") ∷ AWord (codes "UNIQUE") ∷ AWord (codes "REFERENCES") ∷ AWord (codes "OWNED_BY") ∷ AWord (codes "OWNS") ∷ AWord (codes "ACCESSED_BY") ∷ AWord (codes "ACCESSES") ∷ []) true (AWord (codes "PRIMARY") ∷ AWord (codes "NOT") ∷ AWord (codes "UNIQUE") ∷ AWord (codes "REFERENCES") ∷ AWord (codes "OWNED_BY") ∷ AWord (codes "OWNS") ∷ AWord (codes "ACCESSED_BY") ∷ AWord (codes "ACCESSES") ∷ [])
+      attr_heads true attr_heads
   unfolding create_rules.attrs
   attrs_right = as_often attr_tests attr_rule_right refl
 
@@ -112,7 +118,7 @@ module _ (lifts : LimitName → Bool) (limits : Limits) (fair : Fair limits) whe
   pub column_part_right :
       Right lifts (create_rules.column_part limits) (create_rules.column_part (lift lifts limits))
       (grammar.column_part limits)
-      (AName ∷ []) false (AWord (codes "PRIMARY") ∷ AWord (codes "NOT") ∷ AWord (codes "UNIQUE") ∷ AWord (codes "REFERENCES") ∷ AWord (codes "OWNED_BY") ∷ AWord (codes "OWNS") ∷ AWord (codes "ACCESSED_BY") ∷ AWord (codes "ACCESSES") ∷ [])
+      (AName ∷ []) false attr_heads
   unfolding create_rules.column_part grammar.column_part
   column_part_right =
       and_then (name_right lifts limits fair) (λ column.
@@ -160,7 +166,7 @@ module _ (lifts : LimitName → Bool) (limits : Limits) (fair : Fair limits) whe
   pub part_rule_right :
       Right lifts (create_rules.part_rule limits) (create_rules.part_rule (lift lifts limits))
       (grammar.part limits)
-      (AName ∷ AWord (codes "PRIMARY") ∷ AWord (codes "UNIQUE") ∷ AWord (codes "FOREIGN") ∷ AWord (codes "ON") ∷ []) false (AWord (codes "PRIMARY") ∷ AWord (codes "NOT") ∷ AWord (codes "UNIQUE") ∷ AWord (codes "REFERENCES") ∷ AWord (codes "OWNED_BY") ∷ AWord (codes "OWNS") ∷ AWord (codes "ACCESSED_BY") ∷ AWord (codes "ACCESSES") ∷ [])
+      (AName ∷ AWord (codes "PRIMARY") ∷ AWord (codes "UNIQUE") ∷ AWord (codes "FOREIGN") ∷ AWord (codes "ON") ∷ []) false attr_heads
   unfolding create_rules.part_rule grammar.part
   part_rule_right =
       or_else name_tests column_part_right

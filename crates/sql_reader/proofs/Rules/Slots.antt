@@ -109,22 +109,33 @@ module _ (lifts : LimitName → Bool) (limits : Limits) (fair : Fair limits) whe
   still_fits false most count is = is
 
   -- an item behind so many others
-  pub item_behind_right : (count : ℕ) → Right lifts (select_rules.item_behind limits count) (select_rules.item_behind (lift lifts limits) count) (grammar.item_behind (grammar.gitem limits) limits count) (AName ∷ ASlot ∷ []) false behind_item
+  pub item_behind_right : (count : ℕ) →
+      Right lifts (select_rules.item_behind limits count) (select_rules.item_behind (lift lifts limits) count)
+      (grammar.item_behind (grammar.gitem limits) limits count)
+      (AName ∷ ASlot ∷ []) false behind_item
   unfolding select_rules.item_behind
   item_behind_right count = by_free (lifts limit.Items) refl
     where
       an_item : Right lifts (select_rules.item limits) (select_rules.item (lift lifts limits)) (grammar.gitem limits) (AName ∷ ASlot ∷ []) false behind_item
       an_item = with_more (AName ∷ ASlot ∷ []) false behind_item (item_right lifts limits fair) refl (λ is. is) refl
 
-      by_free : (free : Bool) → lifts limit.Items ≡ free → Right lifts (if fits limits.items (count + 1) then select_rules.item limits else accept slot_of) (if fits (if free then None else limits.items) (count + 1) then select_rules.item (lift lifts limits) else accept slot_of) (whether (fits limits.items (count + 1)) (grammar.gitem limits) (one slot_of)) (AName ∷ ASlot ∷ []) false behind_item
+      by_free : (free : Bool) → lifts limit.Items ≡ free →
+          Right lifts (if fits limits.items (count + 1) then select_rules.item limits else accept slot_of)
+          (if fits (if free then None else limits.items) (count + 1) then select_rules.item (lift lifts limits) else accept slot_of)
+          (whether (fits limits.items (count + 1)) (grammar.gitem limits) (one slot_of))
+          (AName ∷ ASlot ∷ []) false behind_item
       by_free true is = by (fits limits.items (count + 1))
         where
-          by : (answer : Bool) → Right lifts (if answer then select_rules.item limits else accept slot_of) (select_rules.item (lift lifts limits)) (whether answer (grammar.gitem limits) (one slot_of)) (AName ∷ ASlot ∷ []) false behind_item
+          by : (answer : Bool) →
+              Right lifts (if answer then select_rules.item limits else accept slot_of) (select_rules.item (lift lifts limits))
+              (whether answer (grammar.gitem limits) (one slot_of)) (AName ∷ ASlot ∷ []) false behind_item
           by true = an_item
           by false = slot_freed is
       by_free false is = by (fits limits.items (count + 1))
         where
-          by : (answer : Bool) → Right lifts (if answer then select_rules.item limits else accept slot_of) (if answer then select_rules.item (lift lifts limits) else accept slot_of) (whether answer (grammar.gitem limits) (one slot_of)) (AName ∷ ASlot ∷ []) false behind_item
+          by : (answer : Bool) →
+              Right lifts (if answer then select_rules.item limits else accept slot_of) (if answer then select_rules.item (lift lifts limits) else accept slot_of)
+              (whether answer (grammar.gitem limits) (one slot_of)) (AName ∷ ASlot ∷ []) false behind_item
           by true = an_item
           by false = with_more (AName ∷ ASlot ∷ []) false behind_item (slot_kept lifts is) refl (λ is. is) refl
 
@@ -155,7 +166,10 @@ items-from limits (suc times) count tokens = by (λ middle. items-from limits ti
     by later false = refl
 
 -- {, gitem}
-pub all_items_right : (lifts : LimitName → Bool) (limits : Limits) (fair : Fair limits) → Right lifts (select_rules.all_items_behind limits 1) (select_rules.all_items_behind (lift lifts limits) 1) (many_from (λ count. language.mark (codes ",") >> grammar.item_behind (grammar.gitem limits) limits count) 1) (AMark (codes ",") ∷ []) true (AMark (codes ",") ∷ AWord (codes "AS") ∷ AMark (codes ".") ∷ AMark (codes "(") ∷ [])
+pub all_items_right : (lifts : LimitName → Bool) (limits : Limits) (fair : Fair limits) →
+    Right lifts (select_rules.all_items_behind limits 1) (select_rules.all_items_behind (lift lifts limits) 1)
+    (many_from (λ count. language.mark (codes ",") >> grammar.item_behind (grammar.gitem limits) limits count) 1)
+    (AMark (codes ",") ∷ []) true (AMark (codes ",") ∷ AWord (codes "AS") ∷ AMark (codes ".") ∷ AMark (codes "(") ∷ [])
 all_items_right lifts limits fair =
     same_readers (select_rules.all_items_behind limits 1) (select_rules.all_items_behind (lift lifts limits) 1) (λ tokens. items-from limits (length tokens) 1 tokens) (λ tokens. items-from (lift lifts limits) (length tokens) 1 tokens)
     (as_often_from (is_mark (codes ",")) (λ count. reads_both (rules.mark (codes ",")) (λ _. select_rules.item_behind limits count)) (λ count. reads_both (rules.mark (codes ",")) (λ _. select_rules.item_behind (lift lifts limits) count))
