@@ -1,4 +1,4 @@
-ghost use Rattle.std.specs.Prelude.{◌≡◌, ◌<◌, ◌≤◌, take, vec_len, Err, IfOk, OnOk, OnErr};
+ghost use Rattle.std.specs.Prelude.{◌≡◌, ◌≢◌, ◌<◌, ◌≤◌, take, vec_len, Err, IfOk, OnOk, OnErr};
 ghost use Rattle.std.specs.Io.KnownBytes.{Consumes, IsAtEnd};
 ghost use Rattle.outer_world.specs.FaultCount.{CountRose};
 ghost use Rattle.outer_world.specs.PartOfBytes.{ConsumesFewer};
@@ -34,6 +34,7 @@ pub fn read_all<R: Source>(
     // `Memory` comes only where memory was refused.
     ensures fault { result ≡ Err ReadAllFault.Failed
         → CountRose (R.faults source.old) (R.faults source.new) }
+    ensures steady { result ≢ Err ReadAllFault.Failed → R.faults source.new ≡ R.faults source.old }
     ensures part { OnErr result (ConsumesFewer (R.remaining source.old) (R.remaining source.new) most) }
 
     ensures counted { R.faults source.old ≤ R.faults source.new }

@@ -1,4 +1,4 @@
-ghost use Rattle.std.specs.Prelude.{ℕ, ◌<◌, ◌≤◌, ◌^◌, List, Option, None, length, take, IfOk, OnErr};
+ghost use Rattle.std.specs.Prelude.{◌≡◌, ℕ, ◌<◌, ◌≤◌, ◌^◌, List, Option, None, length, take, IfOk, OnOk, OnErr};
 ghost use Rattle.std.specs.Io.KnownBytes.{Appends, Keeps};
 ghost use Rattle.outer_world.specs.FaultCount.{CountRose};
 
@@ -20,6 +20,7 @@ pub trait Sink {
             Appends (written self.old) (written self.new) (take count piece.now)) }
 
         ensures fault { OnErr result (CountRose (faults self.old) (faults self.new)) }
+        ensures steady { OnOk result (faults self.new ≡ faults self.old) }
         ensures kept { OnErr result (Keeps (written self.old) (written self.new)) }
 
         ensures counted { faults self.old ≤ faults self.new }

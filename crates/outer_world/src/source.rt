@@ -1,4 +1,4 @@
-ghost use Rattle.std.specs.Prelude.{◌≡◌, ℕ, ◌<◌, ◌≤◌, ◌^◌, List, Option, None, length, take, IfOk, OnErr};
+ghost use Rattle.std.specs.Prelude.{◌≡◌, ℕ, ◌<◌, ◌≤◌, ◌^◌, List, Option, None, length, take, IfOk, OnOk, OnErr};
 ghost use Rattle.std.specs.Io.KnownBytes.{Consumes, IsAtEnd, Keeps};
 ghost use Rattle.outer_world.specs.FaultCount.{CountRose};
 
@@ -22,6 +22,7 @@ pub trait Source {
             count ≡ 0 → 0 < length into.new → IsAtEnd (remaining self.new)) }
 
         ensures fault { OnErr result (CountRose (faults self.old) (faults self.new)) }
+        ensures steady { OnOk result (faults self.new ≡ faults self.old) }
         ensures kept { OnErr result (Keeps (remaining self.old) (remaining self.new)) }
 
         ensures counted { faults self.old ≤ faults self.new }

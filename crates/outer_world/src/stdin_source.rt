@@ -1,10 +1,11 @@
-ghost use Rattle.std.specs.Prelude.{◌≡◌, ◌<◌, ◌≤◌, ◌^◌, length, IfSome};
+ghost use Rattle.std.specs.Prelude.{◌≡◌, ◌<◌, ◌≤◌, ◌^◌, length, take, IfSome, IfNone};
+ghost use Rattle.std.specs.Io.KnownBytes.{Consumes, IsAtEnd, Keeps};
 
 use crate::failed::Failed;
 use crate::source::Source;
 use std::io::{ErrorKind, Read};
 
-/// Standard input. It tells nothing of its bytes.
+/// Standard input. It tells of its bytes what the runtime's reader tells, and the system's tells nothing.
 #[derive(Drop)]
 pub struct StdinSource<R: Input> {
     reader: R::Reader,
@@ -27,6 +28,8 @@ impl<R: Input> StdinSource<R> {
 impl<R: Input> Source for StdinSource<R> {
     ghost faults = { λ source. source.faults };
 
+    ghost remaining = { λ source. R.Reader.remaining source.reader };
+
     fn read(&mut self, into: &mut [u8]) -> Result<usize, Failed> {
         match read_unless_interrupted(&mut self.reader, into) {
             Some(count) => Ok(count),
@@ -40,7 +43,12 @@ impl<R: Input> Source for StdinSource<R> {
 
 /// Reads once more where a signal interrupts the read. None tells of every other error.
 fn read_unless_interrupted<R: Read>(reader: &mut R, into: &mut [u8]) -> Option<usize>
-    ensures { IfSome result (λ count. count ≤ length into.new) }
+    ensures within { IfSome result (λ count. count ≤ length into.new) }
+    ensures given { IfSome result (λ count.
+        Consumes (R.remaining reader.old) (R.remaining reader.new) (take count into.new)) }
+    ensures end { IfSome result (λ count.
+        count ≡ 0 → 0 < length into.new → IsAtEnd (R.remaining reader.new)) }
+    ensures kept { IfNone result (Keeps (R.remaining reader.old) (R.remaining reader.new)) }
 {
     for _ in 0..u64::MAX {
         match reader.read(into) {

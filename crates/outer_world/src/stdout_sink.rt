@@ -1,4 +1,5 @@
-ghost use Rattle.std.specs.Prelude.{◌≡◌, ◌<◌, ◌≤◌, ◌^◌, length, IfSome};
+ghost use Rattle.std.specs.Prelude.{◌≡◌, ◌<◌, ◌≤◌, ◌^◌, length, take, IfSome, IfNone};
+ghost use Rattle.std.specs.Io.KnownBytes.{Appends, Keeps};
 
 use crate::failed::Failed;
 use crate::sink::Sink;
@@ -38,7 +39,10 @@ impl<R: Print> Sink for StdoutSink<'_, R> {
 
 /// Writes once more where a signal interrupts the write. None tells of every other error.
 fn write_unless_interrupted<W: Write>(writer: &mut W, piece: &[u8]) -> Option<usize>
-    ensures { IfSome result (λ count. count ≤ length piece.now) }
+    ensures within { IfSome result (λ count. count ≤ length piece.now) }
+    ensures taken { IfSome result (λ count.
+        Appends (W.contents writer.old) (W.contents writer.new) (take count piece.now)) }
+    ensures kept { IfNone result (Keeps (W.contents writer.old) (W.contents writer.new)) }
 {
     for _ in 0..u64::MAX {
         match writer.write(piece) {

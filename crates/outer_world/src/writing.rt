@@ -1,4 +1,4 @@
-ghost use Rattle.std.specs.Prelude.{◌≤◌, OnOk, OnErr};
+ghost use Rattle.std.specs.Prelude.{◌≡◌, ◌≤◌, OnOk, OnErr};
 ghost use Rattle.std.specs.Io.KnownBytes.{Appends};
 ghost use Rattle.outer_world.specs.FaultCount.{CountRose};
 ghost use Rattle.outer_world.specs.PartOfBytes.{AppendsPart};
@@ -11,6 +11,7 @@ pub fn write_all<W: Sink>(sink: &mut W, bytes: &[u8]) -> Result<(), Failed>
     ensures written { OnOk result (Appends (W.written sink.old) (W.written sink.new) bytes.now) }
 
     ensures fault { OnErr result (CountRose (W.faults sink.old) (W.faults sink.new)) }
+    ensures steady { OnOk result (W.faults sink.new ≡ W.faults sink.old) }
     ensures part { OnErr result (AppendsPart (W.written sink.old) (W.written sink.new) bytes.now) }
 
     ensures counted { W.faults sink.old ≤ W.faults sink.new }

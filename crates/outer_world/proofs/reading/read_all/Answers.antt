@@ -17,7 +17,7 @@ loop-filled-preserved g c =
       few = search rules;
       read = subst (Consumes _ _) (sym (take-filled _ _ _ _ filled c.in-Ok.count _ (length-take-le filled bytes (omega (arith, c.deref_mut.ensures.len))) turn.within (omega arith)))
           (Consumes-trans _ _ _ _ _ (subst (Consumes _ _) (sym same) before.read) turn.given);
-      counted = omega (arith, turn.counted);
+      steady = turn.steady ∙ before.steady;
     }
 
 -- a call that failed read nothing, so fewer than all were read

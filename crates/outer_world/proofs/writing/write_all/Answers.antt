@@ -1,4 +1,4 @@
-use Rattle.std.proofs.Common.{sym, subst, arith}
+use Rattle.std.proofs.Common.{sym, subst, arith, ◌∙◌}
 use Rattle.std.proofs.Math.Seq.{take-add}
 use Rattle.std.proofs.lemmas.List.{take_rest}
 use Rattle.std.specs.Io.KnownBytes.{Appends}
@@ -14,5 +14,5 @@ loop-taken-preserved g c =
       within = omega arith;
       written = subst (Appends _ _) (sym (take-add c.loop-taken.taken c.in_ok-taken.field-0 c.args.bytes.now))
           (Appends-trans _ _ _ _ _ before.written (rw take_rest at turn.taken));
-      counted = omega (arith, turn.counted);
+      steady = turn.steady ∙ before.steady;
     }
