@@ -95,6 +95,7 @@ module _ (calls done : List ScriptCall) (call : ScriptCall) (rest : List ScriptC
         run = before.runs.run;
         want = step.want;
         history_is = step.history_is;
+        spared = step.spared;
         made = rw step.history_is (has_run-more empty done history before.runs.text call step.want before.runs.run (rw number before.calls_below) (rw number before.entries_below));
         told = told;
       }

@@ -4,8 +4,9 @@ use Rattle.std.specs.Io.KnownBytes.{Appends}
 use Rattle.own_model.specs.declared.script.ScriptCall.{ScriptCall}
 use Rattle.own_model.specs.Db.{empty}
 use Rattle.own_model.specs.History.{History}
-use Rattle.own_model.specs.Made.{Want, added, entry_of}
+use Rattle.own_model.specs.Made.{Want, Unmade, added, entry_of}
 use Rattle.own_model.specs.Ran.{HasRun, text_of_call}
+use Rattle.store_top.specs.Engine.{TakesMemory}
 use Rattle.store_top.specs.declared.steps.RunFault.{RunFault}
 use Rattle.store_top.specs.declared.steps.RunFault.TheVariants.{Write, Memory}
 
@@ -27,6 +28,7 @@ TellsCall (Err Memory) old new text = ToldBefore old new [] text
 pub record Serves {T E : Type 0} (bytes_of : T → List ℕ) (call : ScriptCall) (before after : History) (result : Result T E) : Type 0 where
   pub want : Want
   pub history_is : after ≡ before ++ added (entry_of empty before call) want
+  pub spared : want ≡ Unmade → TakesMemory (entry_of empty before call).request
   pub text_is : IfOk result (λ text. bytes_of text ≡ text_of_call empty before call want)
 
 -- the call's entry is behind the history, unless memory refused it, and the sink has what the result says of the call's
@@ -34,6 +36,7 @@ pub record Serves {T E : Type 0} (bytes_of : T → List ℕ) (call : ScriptCall)
 pub record ServesTo (call : ScriptCall) (before after : History) (old new : Option (List ℕ)) (result : Result (Unit {0}) RunFault) : Type 0 where
   pub want : Want
   pub history_is : after ≡ before ++ added (entry_of empty before call) want
+  pub spared : want ≡ Unmade → TakesMemory (entry_of empty before call).request
   pub written : TellsCall result old new (text_of_call empty before call want)
 
 -- these calls were made in a run, and known bytes grew by its text
@@ -56,6 +59,7 @@ pub record StopsAtCall (calls : List ScriptCall) (history : History) (Told : Lis
   -- and with it
   pub want : Want
   pub history_is : history ≡ before ++ added (entry_of empty before last) want
+  pub spared : want ≡ Unmade → TakesMemory (entry_of empty before last).request
   pub made : HasRun empty (done ++ last ∷ []) history (text ++ text_of_call empty before last want)
   pub told : Told text (text_of_call empty before last want)
 
