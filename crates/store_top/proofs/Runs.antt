@@ -1,5 +1,5 @@
 -- From the calls of an input to a run.
-use Rattle.std.proofs.Common.{◌≡◌, ℕ, ◌+◌, ◌≤◌, length, arith, List, [], ◌∷◌, Bool, true, false, refl, sym, subst, ◌∙◌, inl, inr, ltb-false, append-nil}
+use Rattle.std.proofs.Common.{◌≡◌, ℕ, ◌+◌, ◌≤◌, length, arith, List, [], ◌∷◌, ◌++◌, append_assoc, Bool, true, false, refl, sym, subst, ◌∙◌, inl, inr, ltb-false, append-nil}
 use Rattle.std.specs.Prelude.{Option, None, Some, Result, Ok, Err, ◌⊎◌, ◌==◌, not, nat_lt, if◌then◌else◌}
 use Rattle.std.specs.Io.KnownBytes.{Consumes, IsAtEnd}
 use Rattle.std.specs.Str.Lossy.{utf8_valid_len}
@@ -11,13 +11,12 @@ use Rattle.own_model.specs.Db.{empty}
 use Rattle.own_model.specs.History.{History}
 use Rattle.own_model.specs.Script.{call_texts, numbered, requests_of, script}
 use Rattle.own_model.specs.Serial.{Serial}
-use Rattle.own_model.proofs.Printing.{has_run-none}
 use Rattle.own_model.proofs.Serials.{serial-few, serial-ran}
 use Rattle.store_top.specs.declared.served.TopFault.{TopFault}
 use Rattle.store_top.specs.declared.served.TopFault.TheVariants.{Usage, Read, Write, Disk, Damaged, Input, Memory}
-use Rattle.store_top.specs.Steps.{IsNumbered, RunsFront}
+use Rattle.store_top.specs.Steps.{IsNumbered, StopsAtCall, ToldBefore, ToldInPart}
+use Rattle.store_top.proofs.Scripts.{has_calls_text}
 use Rattle.store_top.specs.Top.{RefusesInput, RunsInPart, RunsWhole, ServesBytes, ServesCalls}
-use Rattle.store_top.proofs.Serving.{appends-nothing}
 
 -- numbered calls are numbered
 numbered-is : (number : ℕ) (requests : List Request) → IsNumbered number (numbered number requests)
@@ -41,23 +40,13 @@ script-numbered bytes calls is =
     input.TooLong (input.NotText 0) (input.TooManyCalls 0) (numbered 1 (requests_of (call_texts bytes))) calls is in
     subst (IsNumbered 1) same (numbered-is 1 (requests_of (call_texts bytes)))
 
--- no call was made, and nothing written
-pub runs-none : (calls : List ScriptCall) (old : Option (List ℕ)) → RunsFront calls [] old old
-runs-none calls old = record {
-  done = [];
-  rest = calls;
-  parts = refl;
-  text = [];
-  run = has_run-none empty;
-  written = (0, appends-nothing old);
-}
-
 -- what serving the calls of an input left
 pub bytes_by_calls : (bytes : List ℕ) (calls : List ScriptCall) (history : History) (old new : Option (List ℕ)) (rose silent : Type 0) (fault : Option TopFault)
-    → script bytes ≡ Ok calls → ServesCalls calls history old new rose fault → ServesBytes bytes history old new rose silent fault
+    → script bytes ≡ Ok calls → ServesCalls calls history old new rose silent fault → ServesBytes bytes history old new rose silent fault
 bytes_by_calls bytes calls history old new rose silent None is serves = (calls, is, serves)
 bytes_by_calls bytes calls history old new rose silent (Some Write) is serves = (calls, is, serves.0, serves.1)
-bytes_by_calls bytes calls history old new rose silent (Some Memory) is serves = inr (calls, is, serves)
+bytes_by_calls bytes calls history old new rose silent (Some Memory) is serves =
+    (has_calls_text bytes calls is, elim serves [ inl none ↦ inl none | inr stops ↦ inr (calls, is, stops) ])
 bytes_by_calls bytes calls history old new rose silent (Some Usage) is serves = serves
 bytes_by_calls bytes calls history old new rose silent (Some Read) is serves = serves
 bytes_by_calls bytes calls history old new rose silent (Some Disk) is serves = serves
@@ -86,17 +75,17 @@ module _ (remaining_old remaining_new written_old written_new : Option (List ℕ
       let by : ServesBytes bytes history written_old written_new rose silent None = rw is at serves in
       record { bytes = bytes; calls = by.0; read = read; ends = at_end by.0 by.1; script_is = by.1; runs = by.2 }
 
-  pub run_in_part : fault ≡ Some Write → RunsInPart remaining_old remaining_new written_old written_new history
+  pub run_in_part : fault ≡ Some Write → RunsInPart remaining_old remaining_new history (ToldInPart written_old written_new)
   run_in_part is =
       let by : ServesBytes bytes history written_old written_new rose silent (Some Write) = rw is at serves in
-      record { bytes = bytes; calls = by.0; read = read; ends = at_end by.0 by.1; script_is = by.1; runs = by.3 }
+      record { bytes = bytes; calls = by.0; read = read; ends = at_end by.0 by.1; script_is = by.1; stops = by.3 }
 
-  pub run_out_of_memory : fault ≡ Some Memory → silent ⊎ RunsInPart remaining_old remaining_new written_old written_new history
+  pub run_out_of_memory : fault ≡ Some Memory → silent ⊎ RunsInPart remaining_old remaining_new history (ToldBefore written_old written_new)
   run_out_of_memory is =
       let by : ServesBytes bytes history written_old written_new rose silent (Some Memory) = rw is at serves in
-      elim by [
+      elim by.1 [
         | inl none ↦ inl none
-        | inr some ↦ inr (record { bytes = bytes; calls = some.0; read = read; ends = at_end some.0 some.1; script_is = some.1; runs = some.2 })
+        | inr some ↦ inr (record { bytes = bytes; calls = some.0; read = read; ends = at_end some.0 some.1; script_is = some.1; stops = some.2 })
       ]
 
   pub refuses_input : (why : InputFault) → fault ≡ Some (Input why) → RefusesInput remaining_old remaining_new why
@@ -114,18 +103,20 @@ module _ (remaining_old remaining_new written_old written_new : Option (List ℕ
 pub serial-none : (history : History) → history ≡ [] → Serial empty history
 serial-none history is = subst (Serial empty) (sym is) (serial-few [] (omega arith) tt)
 
-serial_front : (bytes : List ℕ) (calls : List ScriptCall) (history : History) (old new : Option (List ℕ)) → script bytes ≡ Ok calls
-    → RunsFront calls history old new → Serial empty history
-serial_front bytes calls history old new is runs = serial-ran bytes calls runs.done runs.rest history runs.text is (sym runs.parts) runs.run
+serial_stopped : (bytes : List ℕ) (calls : List ScriptCall) (history : History) (Told : List ℕ → List ℕ → Type 0) → script bytes ≡ Ok calls
+    → StopsAtCall calls history Told → Serial empty history
+serial_stopped bytes calls history Told is stops =
+    serial-ran bytes calls (stops.done ++ stops.last ∷ []) stops.rest history _ is
+    (append_assoc stops.done (stops.last ∷ []) stops.rest ∙ sym stops.parts) stops.made
 
 -- the history that serving the bytes of an input made is Serial
 pub serial-bytes : (bytes : List ℕ) (history : History) (old new : Option (List ℕ)) (rose silent : Type 0) → (silent → history ≡ []) → (fault : Option TopFault)
     → ServesBytes bytes history old new rose silent fault → Serial empty history
 serial-bytes bytes history old new rose silent none None serves =
     serial-ran bytes serves.0 serves.0 [] history serves.2.text serves.1 (append-nil serves.0) serves.2.run
-serial-bytes bytes history old new rose silent none (Some Write) serves = serial_front bytes serves.0 history old new serves.1 serves.3
-serial-bytes bytes history old new rose silent none (Some Memory) (inl nothing) = serial-none history (none nothing)
-serial-bytes bytes history old new rose silent none (Some Memory) (inr some) = serial_front bytes some.0 history old new some.1 some.2
+serial-bytes bytes history old new rose silent none (Some Write) serves = serial_stopped bytes serves.0 history _ serves.1 serves.3
+serial-bytes bytes history old new rose silent none (Some Memory) (is_text, inl nothing) = serial-none history (none nothing)
+serial-bytes bytes history old new rose silent none (Some Memory) (is_text, inr some) = serial_stopped bytes some.0 history _ some.1 some.2
 serial-bytes bytes history old new rose silent none (Some (Input why)) serves = serial-none history (none serves.2)
 serial-bytes bytes history old new rose silent none (Some Usage) serves = absurd serves
 serial-bytes bytes history old new rose silent none (Some Read) serves = absurd serves

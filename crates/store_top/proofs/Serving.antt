@@ -1,15 +1,17 @@
 -- Calls served one after another.
-use Rattle.std.proofs.Common.{◌≡◌, ℕ, ◌+◌, ◌≤◌, List, [], ◌∷◌, ◌++◌, length, take, refl, ap, sym, ◌∙◌, arith, append_assoc, append-nil}
-use Rattle.std.specs.Prelude.{Option, None, Some, Result, Ok, Err, OnErr}
+use Rattle.std.proofs.Common.{◌≡◌, ℕ, ◌+◌, ◌≤◌, List, [], ◌∷◌, ◌++◌, length, take, refl, ap, sym, subst, ◌∙◌, arith, append_assoc, append-nil}
+use Rattle.std.specs.Prelude.{Option, None, Some, Result, Ok, Err}
 use Rattle.std.specs.Io.KnownBytes.{Appends}
 use Rattle.std.proofs.lemmas.List.{length-append}
-use Rattle.std.proofs.Math.Seq.{take-append-add}
 use Rattle.own_model.specs.declared.script.ScriptCall.{ScriptCall}
 use Rattle.own_model.specs.Db.{empty}
 use Rattle.own_model.specs.History.{History}
 use Rattle.own_model.specs.Made.{Want, Spared, Unshown, Unmade, added, entry_of}
+use Rattle.own_model.specs.Ran.{text_of_call}
 use Rattle.own_model.proofs.Printing.{CallsBelow, EntriesBelow, calls_below-more, entries_below-more, has_run-more, has_run-none}
-use Rattle.store_top.specs.Steps.{AppendsFront, IsNumbered, RunsFront, RunsTo, ServesTo}
+use Rattle.store_top.specs.declared.steps.RunFault.{RunFault}
+use Rattle.store_top.specs.declared.steps.RunFault.TheVariants.{Write, Memory}
+use Rattle.store_top.specs.Steps.{IsNumbered, RunsTo, ServesTo, StopsAtCall, TellsCall, ToldBefore, ToldInPart}
 
 -- bytes that were appended one after another
 pub appends-more : (old mid new : Option (List ℕ)) (first second : List ℕ) → Appends old mid first → Appends mid new second → Appends old new (first ++ second)
@@ -18,10 +20,13 @@ appends-more (Some xs) None new first second a b = absurd a
 appends-more (Some xs) (Some ys) None first second a b = absurd b
 appends-more (Some xs) (Some ys) (Some zs) first second a b = b ∙ (ap (λ ys. ys ++ second) a ∙ append_assoc xs first second)
 
--- and a front of the second
-appends-front : (old mid new : Option (List ℕ)) (first second : List ℕ) → Appends old mid first → AppendsFront mid new second → AppendsFront old new (first ++ second)
-appends-front old mid new first second a (count, b) =
-    (length first + count, rw (take-append-add first second count) (appends-more old mid new first (take count second) a b))
+-- and a part of the second
+told_in_part : (old mid new : Option (List ℕ)) (first second : List ℕ) → Appends old mid first → ToldInPart mid new [] second → ToldInPart old new first second
+told_in_part old mid new first second a told = (told.0, told.1, appends-more old mid new first (take told.0 second) a told.2)
+
+-- and nothing of the second
+told_before : (old mid new : Option (List ℕ)) (first second : List ℕ) → Appends old mid first → ToldBefore mid new [] second → ToldBefore old new first second
+told_before old mid new first second a told = rw (sym (append-nil first)) (appends-more old mid new first [] a told)
 
 -- nothing
 pub appends-nothing : (old : Option (List ℕ)) → Appends old old []
@@ -54,8 +59,8 @@ serving-none calls old numbered = record {
 }
 
 -- one more is served
-pub serving-more : {E : Type 0} (calls done : List ScriptCall) (call : ScriptCall) (rest : List ScriptCall) (history after : History) (old mid new : Option (List ℕ))
-    → Serving calls done (call ∷ rest) history old mid → (served : Unit {0}) → ServesTo {E = E} call history after mid new (Ok served)
+pub serving-more : (calls done : List ScriptCall) (call : ScriptCall) (rest : List ScriptCall) (history after : History) (old mid new : Option (List ℕ))
+    → Serving calls done (call ∷ rest) history old mid → (served : Unit {0}) → ServesTo call history after mid new (Ok served)
     → Serving calls (done ++ call ∷ []) rest after old new
 serving-more calls done call rest history after old mid new before served step =
     let number = before.numbered.0 in
@@ -74,25 +79,41 @@ serving-more calls done call rest history after old mid new before served step =
     }
 
 -- a fault comes at one more
-pub serving-stops : {E : Type 0} (calls done : List ScriptCall) (call : ScriptCall) (rest : List ScriptCall) (history after : History) (old mid new : Option (List ℕ))
-    → Serving calls done (call ∷ rest) history old mid → (fault : E) → ServesTo call history after mid new (Err fault)
-    → RunsFront calls after old new
-serving-stops calls done call rest history after old mid new before fault step =
-    let number = before.numbered.0 in
-    record {
-      done = done ++ call ∷ [];
-      rest = rest;
-      parts = sym (append_assoc done (call ∷ []) rest ∙ before.whole);
-      text = _;
-      run = rw step.history_is (has_run-more empty done history before.runs.text call step.want before.runs.run (rw number before.calls_below) (rw number before.entries_below));
-      written = appends-front old mid new _ _ before.runs.written step.written;
-    }
+module _ (calls done : List ScriptCall) (call : ScriptCall) (rest : List ScriptCall) (history after : History) (old mid new : Option (List ℕ))
+    (before : Serving calls done (call ∷ rest) history old mid) where
+  stops_at : (result : Result (Unit {0}) RunFault) (step : ServesTo call history after mid new result) (Told : List ℕ → List ℕ → Type 0)
+      → Told before.runs.text (text_of_call empty history call step.want) → StopsAtCall calls after Told
+  stops_at result step Told told =
+      let number = before.numbered.0 in
+      record {
+        done = done;
+        last = call;
+        rest = rest;
+        parts = sym before.whole;
+        before = history;
+        text = before.runs.text;
+        run = before.runs.run;
+        want = step.want;
+        history_is = step.history_is;
+        spared = step.spared;
+        made = rw step.history_is (has_run-more empty done history before.runs.text call step.want before.runs.run (rw number before.calls_below) (rw number before.entries_below));
+        told = told;
+      }
+
+  -- a write fault
+  pub serving-breaks : (result : Result (Unit {0}) RunFault) → ServesTo call history after mid new result → result ≡ Err Write
+      → StopsAtCall calls after (ToldInPart old new)
+  serving-breaks result step is =
+      stops_at result step (ToldInPart old new)
+      (told_in_part old mid new before.runs.text (text_of_call empty history call step.want) before.runs.written (subst (λ r. TellsCall r mid new (text_of_call empty history call step.want)) is step.written))
+
+  -- want of memory
+  pub serving-refused : (result : Result (Unit {0}) RunFault) → ServesTo call history after mid new result → result ≡ Err Memory
+      → StopsAtCall calls after (ToldBefore old new)
+  serving-refused result step is =
+      stops_at result step (ToldBefore old new)
+      (told_before old mid new before.runs.text (text_of_call empty history call step.want) before.runs.written (subst (λ r. TellsCall r mid new (text_of_call empty history call step.want)) is step.written))
 
 -- all are served
 pub serving-ends : (calls done : List ScriptCall) (history : History) (old new : Option (List ℕ)) → Serving calls done [] history old new → RunsTo calls history old new
 serving-ends calls done history old new before = rw (sym before.whole ∙ append-nil done) before.runs
-
--- what holds holds on an error
-pub on_err_holds : {T E P : Type 0} (r : Result T E) → P → OnErr r P
-on_err_holds (Ok value) holds = tt
-on_err_holds (Err fault) holds = holds

@@ -1,5 +1,7 @@
 -- What an engine stands for.
 use Rattle.std.specs.Prelude.{◌≡◌, ◌-◌, length, take}
+use Rattle.own_model.specs.declared.request.Request.{Request}
+use Rattle.own_model.specs.declared.request.Request.TheVariants.{Run, Syntax, Limit, End}
 use Rattle.own_model.specs.Db.{empty}
 use Rattle.own_model.specs.History.{flat}
 use Rattle.store_top.specs.declared.engine.Engine.{Engine}
@@ -12,3 +14,10 @@ Stands engine = db_of engine.flat ≡ flat empty engine.history.items
 -- its tables are the flat database before the last entry
 abbrev pub StandsBeforeLast : Engine → Type 0
 StandsBeforeLast engine = db_of engine.flat ≡ flat empty (take (length engine.history.items - 1) engine.history.items)
+
+-- a request that memory is taken for: any other is always answered
+abbrev pub TakesMemory : Request → Type 0
+TakesMemory (Run statement) = Unit {0}
+TakesMemory (Syntax byte) = ⊥
+TakesMemory (Limit passed) = ⊥
+TakesMemory End = ⊥

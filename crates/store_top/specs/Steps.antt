@@ -1,30 +1,43 @@
 -- What serving calls one after another does to a history and a sink.
-use Rattle.std.specs.Prelude.{◌≡◌, ℕ, ◌+◌, List, [], ◌∷◌, ◌++◌, Option, take, Result, MatchResult, IfOk}
+use Rattle.std.specs.Prelude.{◌≡◌, ℕ, ◌+◌, ◌<◌, List, [], ◌∷◌, ◌++◌, length, Option, take, Result, Ok, Err, IfOk}
 use Rattle.std.specs.Io.KnownBytes.{Appends}
 use Rattle.own_model.specs.declared.script.ScriptCall.{ScriptCall}
 use Rattle.own_model.specs.Db.{empty}
 use Rattle.own_model.specs.History.{History}
-use Rattle.own_model.specs.Made.{Want, added, entry_of}
+use Rattle.own_model.specs.Made.{Want, Unmade, added, entry_of}
 use Rattle.own_model.specs.Ran.{HasRun, text_of_call}
+use Rattle.store_top.specs.Engine.{TakesMemory}
+use Rattle.store_top.specs.declared.steps.RunFault.{RunFault}
+use Rattle.store_top.specs.declared.steps.RunFault.TheVariants.{Write, Memory}
 
--- known bytes grow by a front of the bytes
-abbrev pub AppendsFront : Option (List ℕ) → Option (List ℕ) → List ℕ → Type 0
-AppendsFront old new bytes = (count : ℕ) × Appends old new (take count bytes)
+-- known bytes grew by a text, and by a part of the next call's text, which isn't all of it
+abbrev pub ToldInPart : Option (List ℕ) → Option (List ℕ) → List ℕ → List ℕ → Type 0
+ToldInPart old new text next = (count : ℕ) × (count < length next) × Appends old new (text ++ take count next)
+
+-- known bytes grew by a text, and by nothing of the next call's
+abbrev pub ToldBefore : Option (List ℕ) → Option (List ℕ) → List ℕ → List ℕ → Type 0
+ToldBefore old new text next = Appends old new text
+
+-- a call's text is written; after a write fault a part of it; where memory was refused nothing
+abbrev pub TellsCall : Result (Unit {0}) RunFault → Option (List ℕ) → Option (List ℕ) → List ℕ → Type 0
+TellsCall (Ok _) old new text = Appends old new text
+TellsCall (Err Write) old new text = ToldInPart old new [] text
+TellsCall (Err Memory) old new text = ToldBefore old new [] text
 
 -- the call's entry is behind the history, unless memory refused it, and the text, where there is one, is the call's
 pub record Serves {T E : Type 0} (bytes_of : T → List ℕ) (call : ScriptCall) (before after : History) (result : Result T E) : Type 0 where
   pub want : Want
   pub history_is : after ≡ before ++ added (entry_of empty before call) want
+  pub spared : want ≡ Unmade → TakesMemory (entry_of empty before call).request
   pub text_is : IfOk result (λ text. bytes_of text ≡ text_of_call empty before call want)
 
--- the call's entry is behind the history, unless memory refused it, and the sink has the call's text, or, after a fault,
--- a front of it
-pub record ServesTo {E : Type 0} (call : ScriptCall) (before after : History) (old new : Option (List ℕ)) (result : Result (Unit {0}) E) : Type 0 where
+-- the call's entry is behind the history, unless memory refused it, and the sink has what the result says of the call's
+-- text
+pub record ServesTo (call : ScriptCall) (before after : History) (old new : Option (List ℕ)) (result : Result (Unit {0}) RunFault) : Type 0 where
   pub want : Want
   pub history_is : after ≡ before ++ added (entry_of empty before call) want
-  pub written : MatchResult result
-      (λ _. Appends old new (text_of_call empty before call want))
-      (λ _. AppendsFront old new (text_of_call empty before call want))
+  pub spared : want ≡ Unmade → TakesMemory (entry_of empty before call).request
+  pub written : TellsCall result old new (text_of_call empty before call want)
 
 -- these calls were made in a run, and known bytes grew by its text
 pub record RunsTo (calls : List ScriptCall) (history : History) (old new : Option (List ℕ)) : Type 0 where
@@ -32,14 +45,23 @@ pub record RunsTo (calls : List ScriptCall) (history : History) (old new : Optio
   pub run : HasRun empty calls history text
   pub written : Appends old new text
 
--- a front of the calls was made in a run, and known bytes grew by a front of its text
-pub record RunsFront (calls : List ScriptCall) (history : History) (old new : Option (List ℕ)) : Type 0 where
+-- A run stopped at one of the calls: those before it were made and told, no call behind it was made, and its own entry
+-- is the last, unless memory refused it. What is told is said of the text of the calls before it and of its own.
+pub record StopsAtCall (calls : List ScriptCall) (history : History) (Told : List ℕ → List ℕ → Type 0) : Type 0 where
   pub done : List ScriptCall
+  pub last : ScriptCall
   pub rest : List ScriptCall
-  pub parts : calls ≡ done ++ rest
+  pub parts : calls ≡ done ++ last ∷ rest
+  -- the run of the calls before it
+  pub before : History
   pub text : List ℕ
-  pub run : HasRun empty done history text
-  pub written : AppendsFront old new text
+  pub run : HasRun empty done before text
+  -- and with it
+  pub want : Want
+  pub history_is : history ≡ before ++ added (entry_of empty before last) want
+  pub spared : want ≡ Unmade → TakesMemory (entry_of empty before last).request
+  pub made : HasRun empty (done ++ last ∷ []) history (text ++ text_of_call empty before last want)
+  pub told : Told text (text_of_call empty before last want)
 
 -- the calls are numbered one after another, from here on
 abbrev pub IsNumbered : ℕ → List ScriptCall → Type 0

@@ -9,7 +9,8 @@ use Rattle.own_model.specs.History.{History}
 use Rattle.own_model.specs.Script.{script}
 use Rattle.store_top.specs.declared.served.TopFault.{TopFault}
 use Rattle.store_top.specs.declared.served.TopFault.TheVariants.{Usage, Read, Write, Disk, Damaged, Input, Memory}
-use Rattle.store_top.specs.Steps.{RunsFront, RunsTo}
+use Rattle.store_top.specs.Input.{IsText}
+use Rattle.store_top.specs.Steps.{RunsTo, StopsAtCall, ToldBefore, ToldInPart}
 
 -- the one word `step`
 abbrev pub is_step : List (List ℕ) → Bool
@@ -26,14 +27,14 @@ pub record RunsWhole (remaining_old remaining_new written_old written_new : Opti
   pub script_is : script bytes ≡ Ok calls
   pub runs : RunsTo calls history written_old written_new
 
--- the input was read to its end, a front of its calls was made, and a front of their text was written
-pub record RunsInPart (remaining_old remaining_new written_old written_new : Option (List ℕ)) (history : History) : Type 0 where
+-- the input was read to its end, and the run stopped at one of its calls
+pub record RunsInPart (remaining_old remaining_new : Option (List ℕ)) (history : History) (Told : List ℕ → List ℕ → Type 0) : Type 0 where
   pub bytes : List ℕ
   pub calls : List ScriptCall
   pub read : Consumes remaining_old remaining_new bytes
   pub ends : IsAtEnd remaining_new
   pub script_is : script bytes ≡ Ok calls
-  pub runs : RunsFront calls history written_old written_new
+  pub stops : StopsAtCall calls history Told
 
 -- the bytes that were read have this input fault; they were read to their end, unless they are too many
 pub record RefusesInput (remaining_old remaining_new : Option (List ℕ)) (fault : InputFault) : Type 0 where
@@ -48,22 +49,23 @@ pub record ReadsAtMost (remaining_old remaining_new : Option (List ℕ)) (most :
   pub read : Consumes remaining_old remaining_new bytes
   pub few : length bytes ≤ most
 
--- what serving calls left, by the fault; in each, what is said of the sink's count of faults
-abbrev pub ServesCalls : List ScriptCall → History → Option (List ℕ) → Option (List ℕ) → Type 0 → Option TopFault → Type 0
-ServesCalls calls history old new rose None = RunsTo calls history old new
-ServesCalls calls history old new rose (Some Write) = rose × RunsFront calls history old new
-ServesCalls calls history old new rose (Some Memory) = RunsFront calls history old new
-ServesCalls calls history old new rose (Some Usage) = ⊥
-ServesCalls calls history old new rose (Some Read) = ⊥
-ServesCalls calls history old new rose (Some Disk) = ⊥
-ServesCalls calls history old new rose (Some (Damaged area offset)) = ⊥
-ServesCalls calls history old new rose (Some (Input fault)) = ⊥
+-- what serving calls left, by the fault; `rose` is said of the sink's count of faults, and `silent` says that no call was
+-- made and nothing written
+abbrev pub ServesCalls : List ScriptCall → History → Option (List ℕ) → Option (List ℕ) → Type 0 → Type 0 → Option TopFault → Type 0
+ServesCalls calls history old new rose silent None = RunsTo calls history old new
+ServesCalls calls history old new rose silent (Some Write) = rose × StopsAtCall calls history (ToldInPart old new)
+ServesCalls calls history old new rose silent (Some Memory) = silent ⊎ StopsAtCall calls history (ToldBefore old new)
+ServesCalls calls history old new rose silent (Some Usage) = ⊥
+ServesCalls calls history old new rose silent (Some Read) = ⊥
+ServesCalls calls history old new rose silent (Some Disk) = ⊥
+ServesCalls calls history old new rose silent (Some (Damaged area offset)) = ⊥
+ServesCalls calls history old new rose silent (Some (Input fault)) = ⊥
 
--- what serving the bytes of an input left, by the fault; `silent` says that no call was made and nothing written
+-- what serving the bytes of an input left, by the fault; memory is taken only for text that isn't too long
 abbrev pub ServesBytes : List ℕ → History → Option (List ℕ) → Option (List ℕ) → Type 0 → Type 0 → Option TopFault → Type 0
 ServesBytes bytes history old new rose silent None = (calls : List ScriptCall) × (script bytes ≡ Ok calls) × RunsTo calls history old new
-ServesBytes bytes history old new rose silent (Some Write) = (calls : List ScriptCall) × (script bytes ≡ Ok calls) × rose × RunsFront calls history old new
-ServesBytes bytes history old new rose silent (Some Memory) = silent ⊎ ((calls : List ScriptCall) × (script bytes ≡ Ok calls) × RunsFront calls history old new)
+ServesBytes bytes history old new rose silent (Some Write) = (calls : List ScriptCall) × (script bytes ≡ Ok calls) × rose × StopsAtCall calls history (ToldInPart old new)
+ServesBytes bytes history old new rose silent (Some Memory) = IsText (script bytes) × (silent ⊎ ((calls : List ScriptCall) × (script bytes ≡ Ok calls) × StopsAtCall calls history (ToldBefore old new)))
 ServesBytes bytes history old new rose silent (Some (Input fault)) = (script bytes ≡ Err fault) × (fault ≢ input.Memory) × silent
 ServesBytes bytes history old new rose silent (Some Usage) = ⊥
 ServesBytes bytes history old new rose silent (Some Read) = ⊥

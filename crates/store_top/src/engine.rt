@@ -1,10 +1,10 @@
-ghost use Rattle.std.specs.Prelude.{◌≡◌, ◌+◌, ◌-◌, ◌<◌, ◌≤◌, ◌++◌, ◌∷◌, [], length, take, vec_len, IfOk, OnOk, OnErr};
+ghost use Rattle.std.specs.Prelude.{◌≡◌, ◌+◌, ◌-◌, ◌<◌, ◌≤◌, ◌++◌, ◌∷◌, [], length, take, vec_len, slice_index_or, IfOk, OnOk, OnErr};
 ghost use Rattle.std.specs.Vec.{vec_capacity};
 ghost use Rattle.own_model.specs.Db.{empty};
 ghost use Rattle.own_model.specs.History.{reply};
 ghost use Rattle.own_model.specs.Made.{entry_of};
 ghost use Rattle.own_model.specs.Printed.{Tells};
-ghost use Rattle.store_top.specs.Engine.{Stands, StandsBeforeLast};
+ghost use Rattle.store_top.specs.Engine.{Stands, StandsBeforeLast, TakesMemory};
 
 use crate::flat::Flat;
 use own_base::{List, Place};
@@ -60,6 +60,7 @@ impl Engine {
         ensures told { IfOk result (λ answered. (answered.place.0 ≡ length self.old.history.items)
             × Tells answered.reply (reply empty self.new.history.items (length self.old.history.items))) }
         ensures err { OnErr result (self.new.history.items ≡ self.old.history.items) }
+        ensures spared { OnErr result (TakesMemory (entry_of empty self.old.history.items call).request) }
         ensures room { vec_capacity self.old.history ≤ vec_capacity self.new.history }
     {
         let entry = self.entry_of(call);
@@ -94,6 +95,7 @@ impl Engine {
         ensures told { IfOk result (λ answered. (answered.place.0 + 1 ≡ vec_len self.old.history)
             × Tells answered.reply (reply empty self.old.history.items (vec_len self.old.history - 1))) }
         ensures err { OnErr result (self.new.history.items ≡ take (vec_len self.old.history - 1) self.old.history.items) }
+        ensures spared { OnErr result ((default : _) → TakesMemory (slice_index_or self.old.history.items (vec_len self.old.history - 1) default).request) }
         ensures room { vec_capacity self.old.history ≤ vec_capacity self.new.history }
     {
         let last = self.history.len() - 1;

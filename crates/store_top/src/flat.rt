@@ -9,6 +9,7 @@ ghost use Rattle.own_model.specs.Db.{as_key, empty, key_of, table_of, IsOrdered,
 ghost use Rattle.own_model.specs.History.{answer_to, left_by};
 ghost use Rattle.own_model.specs.Printed.{MayTell};
 ghost use Rattle.own_model.specs.Run.{insert, run, select, with_tuple};
+ghost use Rattle.store_top.specs.Engine.{TakesMemory};
 ghost use Rattle.store_top.specs.Flat.{after_put, db_of, definition, rows_of, seen_at};
 ghost use Rattle.store_top.specs.Gap.{IsGap};
 ghost use Rattle.store_top.specs.KeyRef.{key_seen};
@@ -147,6 +148,7 @@ impl Flat {
         ensures told { IfOk result (λ reply. MayTell reply (answer_to (db_of self.old) request.now)) }
         ensures left { OnOk result (db_of self.new ≡ left_by (db_of self.old) request.now) }
         ensures err { OnErr result (db_of self.new ≡ db_of self.old) }
+        ensures spared { OnErr result (TakesMemory request.now) }
     {
         match request {
             Request::Run(statement) => self.run(alloc, statement),

@@ -1,4 +1,4 @@
-ghost use Rattle.std.specs.Prelude.{◌≡◌, ◌<◌, ◌≤◌, ◌^◌, [], ◌∷◌, None, map, IfOk};
+ghost use Rattle.std.specs.Prelude.{◌≡◌, ◌<◌, ◌≤◌, ◌^◌, [], ◌∷◌, None, Err, map, IfOk};
 ghost use Rattle.std.specs.Char.{to_ascii_lowercase};
 ghost use Rattle.std.specs.List.{list_any};
 ghost use Rattle.std.specs.Str.{bytes_eq};
@@ -300,7 +300,8 @@ fn select(alloc: Global, text: &str) -> Result<(Statement, &str), ReadFault>
 
 /// What was read, where nothing is behind it.
 fn whole(read: Result<(Statement, &str), ReadFault>) -> Result<Statement, ReadFault>
-    ensures { WholeOf read.entry result }
+    ensures whole { WholeOf read.entry result }
+    ensures spared { result ≡ Err ReadFault.Memory → read.entry ≡ Err ReadFault.Memory }
 {
     let (statement, rest) = read?;
     if !is_end(rest) {

@@ -6,7 +6,7 @@ ghost use Rattle.own_model.specs.Db.{empty};
 ghost use Rattle.own_model.specs.Serial.{Serial};
 ghost use Rattle.store_top.specs.Engine.{Stands};
 ghost use Rattle.store_top.specs.Status.{status_of};
-ghost use Rattle.store_top.specs.Steps.{IsNumbered};
+ghost use Rattle.store_top.specs.Steps.{IsNumbered, ToldBefore, ToldInPart};
 ghost use Rattle.store_top.specs.Top.{is_step, IsBeforeCalls, IsWithoutDisk, ReadsAtMost, RefusesInput, RunsInPart, RunsWhole, ServesBytes, ServesCalls};
 
 use crate::engine::Engine;
@@ -56,7 +56,8 @@ fn is_step(words: &[String]) -> bool
 /// Serves calls over no table.
 fn serve_script<W: Sink>(alloc: Global, calls: Vec<ScriptCall>, sink: &mut W) -> Ended
     requires { IsNumbered 1 calls.items }
-    ensures { ServesCalls calls.items result.history (W.written sink.old) (W.written sink.new) (CountRose (W.faults sink.old) (W.faults sink.new)) result.fault }
+    ensures { ServesCalls calls.items result.history (W.written sink.old) (W.written sink.new) (CountRose (W.faults sink.old) (W.faults sink.new))
+        ((sink.new ≡ sink.old) × (result.history ≡ [])) result.fault }
 {
     match Engine::with_room(alloc, calls.len()) {
         Ok(engine) => serve_engine(alloc, engine, calls, sink),
@@ -78,7 +79,8 @@ fn serve_engine<W: Sink>(
     requires fresh { engine.history.items ≡ [] }
     requires room { vec_len calls ≤ vec_capacity engine.history }
     requires numbered { IsNumbered 1 calls.items }
-    ensures { ServesCalls calls.items result.history (W.written sink.old) (W.written sink.new) (CountRose (W.faults sink.old) (W.faults sink.new)) result.fault }
+    ensures { ServesCalls calls.items result.history (W.written sink.old) (W.written sink.new) (CountRose (W.faults sink.old) (W.faults sink.new))
+        ((sink.new ≡ sink.old) × (result.history ≡ [])) result.fault }
 {
     let mut engine = engine;
     let fault = match serve_calls(&mut engine, alloc, calls, sink) {
@@ -113,10 +115,10 @@ fn serve_source<R: Source, W: Sink>(alloc: Global, source: &mut R, sink: &mut W)
     ensures whole { result.fault ≡ None
         → RunsWhole (R.remaining source.old) (R.remaining source.new) (W.written sink.old) (W.written sink.new) result.history }
     ensures in_part { result.fault ≡ Some TopFault.Write
-        → RunsInPart (R.remaining source.old) (R.remaining source.new) (W.written sink.old) (W.written sink.new) result.history }
+        → RunsInPart (R.remaining source.old) (R.remaining source.new) result.history (ToldInPart (W.written sink.old) (W.written sink.new)) }
     ensures memory { result.fault ≡ Some TopFault.Memory
         → ((sink.new ≡ sink.old) × (result.history ≡ []))
-        ⊎ RunsInPart (R.remaining source.old) (R.remaining source.new) (W.written sink.old) (W.written sink.new) result.history }
+        ⊎ RunsInPart (R.remaining source.old) (R.remaining source.new) result.history (ToldBefore (W.written sink.old) (W.written sink.new)) }
     ensures silent { IsBeforeCalls result.fault → (sink.new ≡ sink.old) × (result.history ≡ []) }
     ensures possible { IsWithoutDisk result.fault }
     ensures lawful { result.fault ≢ Some TopFault.Usage }
@@ -161,12 +163,13 @@ pub fn run<Rt: Threads + Wait + Sync, R: Source, W: Sink, D: Disk + Send, G: Gat
     ensures whole { result.fault ≡ None
         → RunsWhole (R.remaining source.old) (R.remaining source.new) (W.written sink.old) (W.written sink.new) result.history }
 
-    // Where writing failed, or memory was refused, a front of the calls was made, and a front of their text is written.
+    // Where writing failed, or memory was refused, the run stopped at a call: those before it were made and told, none
+    // behind it was made. A write fault leaves a part of that call's text written, and want of memory nothing of it.
     ensures in_part { result.fault ≡ Some TopFault.Write
-        → RunsInPart (R.remaining source.old) (R.remaining source.new) (W.written sink.old) (W.written sink.new) result.history }
+        → RunsInPart (R.remaining source.old) (R.remaining source.new) result.history (ToldInPart (W.written sink.old) (W.written sink.new)) }
     ensures memory { result.fault ≡ Some TopFault.Memory
         → ((sink.new ≡ sink.old) × (result.history ≡ []))
-        ⊎ RunsInPart (R.remaining source.old) (R.remaining source.new) (W.written sink.old) (W.written sink.new) result.history }
+        ⊎ RunsInPart (R.remaining source.old) (R.remaining source.new) result.history (ToldBefore (W.written sink.old) (W.written sink.new)) }
 
     // Any other fault comes before any call, and nothing is written; none tells of a disk.
     ensures silent { IsBeforeCalls result.fault → (sink.new ≡ sink.old) × (result.history ≡ []) }

@@ -100,7 +100,7 @@ fn calls_of(alloc: Global, text: &str) -> Result<Vec<ScriptCall>, InputFault>
 /// by each `;` outside quotes, and a text that is no statement is a call that asks for Syntax.
 pub fn read_script(alloc: Global, bytes: &[u8]) -> Result<Script, InputFault>
     ensures ok { IfOk result (λ read. script bytes.now ≡ Ok read.calls) }
-    // Memory aside, every fault is the input's.
+    // Memory aside, every fault is the input's; memory is taken only for an input that isn't too long and is text.
     ensures err { IfErr result (IsFaultOf (script bytes.now)) }
 {
     if bytes.len() > INPUT_BYTES {

@@ -1,8 +1,8 @@
-ghost use Rattle.std.specs.Prelude.{◌≡◌, ◌<◌, ◌≤◌, [], vec_len, OnOk, OnErr, Err};
+ghost use Rattle.std.specs.Prelude.{◌≡◌, ◌<◌, ◌≤◌, [], vec_len, OnOk, Err};
 ghost use Rattle.std.specs.Vec.{vec_capacity};
 ghost use Rattle.outer_world.specs.FaultCount.{CountRose};
 ghost use Rattle.store_top.specs.Engine.{Stands};
-ghost use Rattle.store_top.specs.Steps.{IsNumbered, RunsFront, RunsTo, Serves, ServesTo};
+ghost use Rattle.store_top.specs.Steps.{IsNumbered, RunsTo, Serves, ServesTo, StopsAtCall, ToldBefore, ToldInPart};
 
 use crate::engine::Engine;
 use crate::print::print_reply;
@@ -89,7 +89,8 @@ pub(crate) fn serve_calls<W: Sink>(
     requires numbered { IsNumbered 1 calls.items }
 
     ensures served { OnOk result (RunsTo calls.items engine.new.history.items (W.written sink.old) (W.written sink.new)) }
-    ensures partly { OnErr result (RunsFront calls.items engine.new.history.items (W.written sink.old) (W.written sink.new)) }
+    ensures broken { result ≡ Err RunFault.Write → StopsAtCall calls.items engine.new.history.items (ToldInPart (W.written sink.old) (W.written sink.new)) }
+    ensures refused { result ≡ Err RunFault.Memory → StopsAtCall calls.items engine.new.history.items (ToldBefore (W.written sink.old) (W.written sink.new)) }
     ensures fault { result ≡ Err RunFault.Write → CountRose (W.faults sink.old) (W.faults sink.new) }
 {
     for call in calls {

@@ -1,4 +1,4 @@
-ghost use Rattle.std.specs.Prelude.{◌≡◌, ◌==◌, ◌≢◌, ◌<◌, ◌^◌, ◌∷◌, None, Some, IfOk, MatchOption, SomeIff, length, map, true, false, slice_index, string_bytes};
+ghost use Rattle.std.specs.Prelude.{◌≡◌, ◌==◌, ◌≢◌, ◌<◌, ◌^◌, ◌∷◌, None, Some, Err, IfOk, MatchOption, SomeIff, length, map, true, false, slice_index, string_bytes};
 ghost use Rattle.std.specs.List.{take_while};
 ghost use Rattle.std.specs.Char.{to_ascii_lowercase};
 ghost use Rattle.std.specs.Str.Parse.{AllDigits, digits_value};
@@ -154,6 +154,7 @@ fn mark_token(text: &str, first: u8) -> Result<(Token<'_>, &str), ReadFault>
     requires no_word { begins_word_byte first ≡ false }
     requires no_digit { is_digit_byte first ≡ false }
     requires no_quote { first ≢ 39 }
+    ensures spared { result ≢ Err ReadFault.Memory }
     ensures read { Gives (λ found. (seen found.0, tokens found.1.now)) result (front_token (tokens text.now)) }
     ensures spelled { IfOk result (λ found. IsSpelled found.0) }
 {

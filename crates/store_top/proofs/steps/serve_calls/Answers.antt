@@ -1,5 +1,6 @@
 use Rattle.std.proofs.Common.{arith}
-use Rattle.store_top.proofs.Serving.{serving-none, serving-more, serving-stops, on_err_holds}
+use Rattle.std.proofs.lemmas.Result.{err_from_is_err_and}
+use Rattle.store_top.proofs.Serving.{serving-none, serving-more, serving-breaks, serving-refused}
 use Rattle.store_top.proofs.steps.serve_calls.Goals as goal
 
 pub loop-call-init : goal.loop-call-init
@@ -25,9 +26,18 @@ loop-call-preserved g c =
           (g.W.Sink.written c.args.sink.now) (g.W.Sink.written c.loop-call.sink) (g.W.Sink.written c.serve_call.new.sink) before c.in_ok-serve_call.field-0 c.in_ok-serve_call.ensures.serves;
     }
 
-pub returns-in_err-serve_call-clause-partly : goal.returns-in_err-serve_call-clause-partly
-returns-in_err-serve_call-clause-partly g c =
+pub returns-in_err-serve_call-clause-broken : goal.returns-in_err-serve_call-clause-broken
+returns-in_err-serve_call-clause-broken g c is =
     let before = rw c.in-Some.ensures.steps.0 at c.loop-call.invariant.serving in
-    on_err_holds c.from_residual.result
-    (serving-stops c.args.calls.items c.loop-call.yielded c.in-Some.call _ c.loop-call.engine.history.items c.serve_call.new.engine.history.items
-    (g.W.Sink.written c.args.sink.now) (g.W.Sink.written c.loop-call.sink) (g.W.Sink.written c.serve_call.new.sink) before c.in_err-serve_call.field-0.0 c.in_err-serve_call.ensures.serves)
+    let failed = err_from_is_err_and c.from_residual.result c.from_residual.ensures.1 in
+    serving-breaks c.args.calls.items c.loop-call.yielded c.in-Some.call _ c.loop-call.engine.history.items c.serve_call.new.engine.history.items
+    (g.W.Sink.written c.args.sink.now) (g.W.Sink.written c.loop-call.sink) (g.W.Sink.written c.serve_call.new.sink) before _ c.in_err-serve_call.ensures.serves
+    (cc (is, failed.1, failed.2))
+
+pub returns-in_err-serve_call-clause-refused : goal.returns-in_err-serve_call-clause-refused
+returns-in_err-serve_call-clause-refused g c is =
+    let before = rw c.in-Some.ensures.steps.0 at c.loop-call.invariant.serving in
+    let failed = err_from_is_err_and c.from_residual.result c.from_residual.ensures.1 in
+    serving-refused c.args.calls.items c.loop-call.yielded c.in-Some.call _ c.loop-call.engine.history.items c.serve_call.new.engine.history.items
+    (g.W.Sink.written c.args.sink.now) (g.W.Sink.written c.loop-call.sink) (g.W.Sink.written c.serve_call.new.sink) before _ c.in_err-serve_call.ensures.serves
+    (cc (is, failed.1, failed.2))
