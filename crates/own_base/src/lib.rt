@@ -4,13 +4,12 @@
 
 mod boxed;
 mod change;
+mod held_values;
 mod list;
 mod make_copy;
 mod number;
 mod row;
 mod row_name;
-#[cfg(test)]
-mod tests;
 mod text;
 mod value;
 
@@ -19,7 +18,7 @@ pub use change::Change;
 pub use list::List;
 pub use make_copy::MakeCopy;
 pub use number::{Area, ColNo, ColumnSet, EdgeNo, Place, SessionNo, TableNo, ViewNo};
-pub use row::Row;
+pub use row::{ROW_SIZE, Row};
 pub use row_name::{RowName, Subject};
-pub use text::{Name, Text};
-pub use value::{Key, Value};
+pub use text::{NAME_BYTES, Name, Text};
+pub use value::{Key, VALUE_SIZE, Value};

@@ -67,3 +67,14 @@ impl<T> List<T> {
         }
     }
 }
+
+impl<T: Drop> List<T> {
+    /// Puts the item last. Where memory is refused, the item is given up.
+    pub fn add(&mut self, item: T) -> Result<(), AllocError>
+        ensures added { OnOk result (self.new ≡ self.old ++ item ∷ []) }
+        ensures unchanged { OnErr result (self.new ≡ self.old) }
+    {
+        self.items.push(item)?;
+        Ok(())
+    }
+}

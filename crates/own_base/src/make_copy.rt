@@ -14,7 +14,7 @@ impl<T: MakeCopy + Drop> MakeCopy for List<T> {
     fn copy(&self, alloc: Global) -> Result<List<T>, AllocError> {
         let mut copied = List::new(alloc);
         for item in self.items() {
-            copied.push(item.copy(alloc)?).map_err(|refused| refused.0)?;
+            copied.add(item.copy(alloc)?)?;
         }
         Ok(copied)
     }

@@ -1,7 +1,8 @@
-ghost use Rattle.std.specs.Prelude.{◌≡◌, ◌<◌, ◌≤◌, ◌^◌, slice_get};
+ghost use Rattle.std.specs.Prelude.{◌≡◌, ◌<◌, ◌≤◌, ◌^◌, slice_get, IfOk};
 ghost use Rattle.std.specs.Option.{option_copied};
 ghost use Rattle.own_base.specs.Row.{row_size};
 
+use crate::held_values::HeldValues;
 use crate::list::List;
 use crate::make_copy::MakeCopy;
 use crate::number::ColNo;
@@ -9,43 +10,58 @@ use crate::value::Value;
 use std::alloc::{AllocError, Global};
 use std::marker::Model;
 
-/// A row, which contracts see as the list of its values, by column number.
+/// A row, which contracts see as the list of its values, by column number. Whether it holds them alone or shares them
+/// with its copies, no contract sees.
 #[derive(Debug, Drop)]
 pub struct Row {
-    values: List<Value>,
+    held: HeldValues,
 }
 
 impl Model for Row {
     ghost use Rattle.std.specs.Prelude.{List};
     ghost use Rattle.own_base.specs.declared.value.Value.{Value as Held};
+    ghost use Rattle.own_base.specs.HeldValues.{values_of};
 
     ghost Value = { List Held };
 
-    ghost view = { λ row. row.values };
-
-    ghost inverse = { λ values. record { values = values } };
+    ghost view = { λ row. values_of row.held };
 }
 
+/// The size of a row without columns, in the unit of the weight limit.
+pub const ROW_SIZE: u64 = 64;
+
 impl Row {
-    /// The row of these values. Takes no memory.
+    /// The row of these values, which it holds alone. Takes no memory.
     pub fn from_values(values: List<Value>) -> Row
         ensures { result ≡ values }
     {
-        Row { values }
+        Row {
+            held: HeldValues::Alone(values),
+        }
+    }
+
+    /// The same row, whose copies share its values from now on: a copy then takes no memory. Where memory is refused,
+    /// the row is given up.
+    pub fn into_shared(self, alloc: Global) -> Result<Row, AllocError>
+        ensures { IfOk result (λ row. row ≡ self) }
+    {
+        let Row { held } = self;
+        let held = held.into_shared(alloc)?;
+        Ok(Row { held })
     }
 
     /// Lends the values, by column number. Takes no memory.
     pub fn values(&self) -> &[Value]
         ensures { result.now ≡ self.now }
     {
-        self.values.items()
+        self.held.values()
     }
 
     /// The value in a column. Takes no memory.
     pub fn get(&self, column: ColNo) -> Option<&Value>
         ensures { option_copied result ≡ slice_get self.now column.0 }
     {
-        self.values.items().get(column.0 as usize)
+        self.values().get(column.0 as usize)
     }
 
     /// The size, in the unit of the weight limit: 64, and for each value 32 and a text's bytes. Takes no memory.
@@ -53,7 +69,7 @@ impl Row {
         requires { row_size self.now < 2 ^ 64 }
         ensures { result ≡ row_size self.now }
     {
-        let mut size = 64;
+        let mut size = ROW_SIZE;
         for value in self.values() {
             size += value.size();
         }
@@ -62,8 +78,10 @@ impl Row {
 }
 
 impl MakeCopy for Row {
+    /// A row that equals this one. A copy of a shared row is a count more on what it shares; `AllocError` comes there
+    /// only where that count is full.
     fn copy(&self, alloc: Global) -> Result<Row, AllocError> {
-        let values = self.values.copy(alloc)?;
-        Ok(Row { values })
+        let held = self.held.copy(alloc)?;
+        Ok(Row { held })
     }
 }

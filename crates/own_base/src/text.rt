@@ -1,4 +1,4 @@
-ghost use Rattle.std.specs.Prelude.{◌≡◌, IfOk, string_bytes};
+ghost use Rattle.std.specs.Prelude.{◌≡◌, IfOk, IsUtf8, string_bytes};
 ghost use Rattle.own_base.specs.Name.{IsName};
 
 use crate::make_copy::MakeCopy;
@@ -38,9 +38,10 @@ impl Text {
 
     /// Lends the bytes. Takes no memory.
     pub fn bytes(&self) -> &[u8]
-        ensures { result.now ≡ self.now }
+        ensures same { result.now ≡ self.now }
+        ensures utf8 { IsUtf8 self.now }
     {
-        self.text.as_bytes()
+        self.text.as_str().as_bytes()
     }
 
     /// Lends the text. Takes no memory.
@@ -114,6 +115,9 @@ impl PartialOrd for Text {
     }
 }
 
+/// The most bytes of a name.
+pub const NAME_BYTES: usize = 64;
+
 /// The name of a table, a view or a column, which contracts see as its bytes: a letter or `_`, then letters, digits
 /// or `_`, in lower case and at most 64 of them.
 #[derive(Debug, Drop, PartialEq, Eq, PartialOrd, Ord)]
@@ -127,6 +131,10 @@ impl Model for Name {
     ghost Value = { List ℕ };
 
     ghost view = { λ name. name.text };
+
+    ghost use Rattle.own_base.specs.Name.{IsName};
+
+    ghost invariant = { λ name. IsName name.text };
 
     ghost inverse = { λ bytes. record { text = bytes } };
 }
@@ -143,7 +151,8 @@ impl Name {
 
     /// Lends the bytes. Takes no memory.
     pub fn bytes(&self) -> &[u8]
-        ensures { result.now ≡ self.now }
+        ensures same { result.now ≡ self.now }
+        ensures name { IsName self.now }
     {
         self.text.bytes()
     }

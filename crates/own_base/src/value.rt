@@ -23,14 +23,17 @@ pub enum Key {
     Text(Text),
 }
 
+/// The size of a value that is no text, in the unit of the weight limit.
+pub const VALUE_SIZE: u64 = 32;
+
 impl Value {
     /// The size, in the unit of the weight limit: 32, and a text's bytes besides. Takes no memory.
     pub fn size(&self) -> u64
         ensures { result ≡ value_size self.now }
     {
         match self {
-            Value::Text(text) => 32 + text.bytes().len() as u64,
-            Value::Null | Value::Int(_) | Value::Sum(_) => 32,
+            Value::Text(text) => VALUE_SIZE + text.bytes().len() as u64,
+            Value::Null | Value::Int(_) | Value::Sum(_) => VALUE_SIZE,
         }
     }
 }

@@ -17,15 +17,18 @@ mod schema;
 mod script;
 mod select;
 mod statement;
-#[cfg(test)]
-mod tests;
 
 pub use bound::{Bound, BoundCond, BoundExpr, BoundItem, BoundOperand, BoundSelect, Source1};
 pub use condition::{Cmp, Cond, Operand};
 pub use create::{Attr, ColumnDef, CreateTable, CreateView, Part, RefDef};
 pub use expression::Expr;
 pub use history::{Entry, Verdict};
-pub use limit::LimitName;
+pub use limit::{
+    INPUT_BYTES, INPUT_CALLS, JOURNAL_ROOM, LimitName, NESTING_LEVELS, PAYLOAD_BYTES, REPLY_ROWS,
+    SELECT_ITEMS, SESSIONS, STATEMENT_BYTES, STORE_ROWS, STORE_WEIGHT, TABLE_COLUMNS, TABLES,
+    TEXT_BYTES, VIEWS,
+};
+pub use own_base::NAME_BYTES;
 pub use refusal::Refusal;
 pub use reply::{Cell, GotRow, Reply, SessionReplies};
 pub use request::Request;

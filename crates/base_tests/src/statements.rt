@@ -1,7 +1,7 @@
 ghost use Rattle.own_base.specs.Name.{IsName};
 
-use super::*;
 use own_base::{List, MakeCopy, Name};
+use own_model::{Attr, ColumnDef, CreateTable, InputFault, Kind, Part, RefDef, RefKind};
 use std::alloc::{AllocError, Global};
 use std::test::Fail;
 

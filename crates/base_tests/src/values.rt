@@ -1,7 +1,9 @@
 ghost use Rattle.std.specs.Prelude.{◌≡◌, ◌+◌, IfOk, length};
 ghost use Rattle.own_base.specs.Row.{value_size, row_size};
 
-use super::*;
+use own_base::{
+    Boxed, Change, ColNo, Key, List, MakeCopy, Name, Row, RowName, Subject, TableNo, Text, Value,
+};
 use std::alloc::{AllocError, Global};
 use std::test::Fail;
 
@@ -20,10 +22,8 @@ fn ann(alloc: Global) -> Result<Row, AllocError>
     ensures { IfOk result (λ row. row_size row ≡ 131) }
 {
     let mut values = List::new(alloc);
-    values.push(Value::Int(5)).map_err(|refused| refused.0)?;
-    values
-        .push(text_value(alloc, "Ann")?)
-        .map_err(|refused| refused.0)?;
+    values.add(Value::Int(5))?;
+    values.push(text_value(alloc, "Ann")?)?;
     Ok(Row::from_values(values))
 }
 
@@ -35,9 +35,10 @@ fn lists_keep_their_order(rt: HostRuntime) -> Result<(), Fail> {
         assert!(rt; list.push(item).is_ok());
     }
     assert_eq!(rt; list.items(), [7, 7, -1].as_slice());
+    list.add(7)?;
     let items = list.into_vec();
-    assert_eq!(rt; items.as_slice(), [7, 7, -1].as_slice());
-    assert_eq!(rt; List::from_vec(items).items(), [7, 7, -1].as_slice());
+    assert_eq!(rt; items.as_slice(), [7, 7, -1, 7].as_slice());
+    assert_eq!(rt; List::from_vec(items).items(), [7, 7, -1, 7].as_slice());
     Ok(())
 }
 
@@ -168,6 +169,19 @@ fn rows_give_values_by_column(rt: HostRuntime) -> Result<(), Fail> {
         assert_eq!(rt; row.get(ColNo(column)), value, "column {column}");
     }
     assert_eq!(rt; row.copy(alloc)?.values(), row.values());
+    Ok(())
+}
+
+#[test]
+fn shared_rows_and_their_copies_have_the_same_values(rt: HostRuntime) -> Result<(), Fail> {
+    let alloc = rt.alloc();
+    let row = ann(alloc)?;
+    let shared = ann(alloc)?.into_shared(alloc)?;
+    let copy = shared.copy(alloc)?;
+    assert_eq!(rt; shared.values(), row.values());
+    assert_eq!(rt; copy.values(), row.values());
+    std::mem::drop(shared);
+    assert_eq!(rt; copy.into_shared(alloc)?.values(), row.values());
     Ok(())
 }
 
