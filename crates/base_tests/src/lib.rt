@@ -1,7 +1,7 @@
-//! Tests of the values and of the plain types: each public call once with ample memory, and what no contract says.
+//! Tests of the values and of the plain types: each public call once with ample memory.
 #![tactic(auto)]
 
 #[cfg(test)]
-mod statements;
+mod faults;
 #[cfg(test)]
 mod values;
