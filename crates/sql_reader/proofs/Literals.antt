@@ -7,7 +7,8 @@ use Rattle.std.proofs.lemmas.Bool.Decides.{eqb_tells}
 use Rattle.std.proofs.lemmas.List.Folds.{list_all-map}
 use Rattle.own_base.specs.Name.{is_spelled, begins_name, continues_name}
 use Rattle.sql_lex.specs.Bytes.{first_passes}
-use Rattle.sql_reader.specs.Token.{digits_behind, undoubled}
+use Rattle.grammar_model.specs.Values.{digits_after}
+use Rattle.sql_reader.specs.reading.Judges.{unquoted}
 
 -- a name's first byte, and the others
 pub is_spelled-some : (name : List ℕ) → 0 < length name → is_spelled name ≡ (begins_name (get_or name 0 0) && list_all continues_name (drop 1 name))
@@ -20,9 +21,9 @@ is_spelled-lowered [] some = absurd (omega arith)
 is_spelled-lowered (byte ∷ name) some = ap (λ rest. begins_name (to_ascii_lowercase byte) && rest) (list_all-map continues_name to_ascii_lowercase name)
 
 -- more digits make no less
-pub digits_behind-grows : (number : ℕ) (digits : List ℕ) → number ≤ digits_behind number digits
-digits_behind-grows number [] = omega arith
-digits_behind-grows number (digit ∷ digits) = omega (arith, digits_behind-grows (10 * number + (digit - 48)) digits)
+pub digits_after-grows : (number : ℕ) (digits : List ℕ) → number ≤ digits_after number digits
+digits_after-grows number [] = omega arith
+digits_after-grows number (digit ∷ digits) = omega (arith, digits_after-grows (10 * number + (digit - 48)) digits)
 
 -- bytes that are no quotes stand for themselves
 pub undoubled-front : (front back : List ℕ) → All (λ byte. byte ≢ 39) front → undoubled false (front ++ back) ≡ front ++ undoubled false back

@@ -3,9 +3,11 @@ ghost use Rattle.std.specs.Char.{to_ascii_lowercase};
 ghost use Rattle.std.specs.List.{list_all};
 ghost use Rattle.own_base.specs.Name.{is_spelled, begins_name, continues_name};
 ghost use Rattle.sql_lex.specs.Bytes.{first_passes};
-ghost use Rattle.sql_reader.specs.Limits.{no_limits, store_limits};
-ghost use Rattle.sql_reader.specs.Reading.{Judges};
-ghost use Rattle.sql_reader.specs.Token.{token_of, name_of, number_of, text_of, digits_behind, undoubled, folded, ranged, short_text, value_of};
+ghost use Rattle.grammar_model.specs.Limits.{no_limits, store_limits};
+ghost use Rattle.sql_reader.specs.reading.Reader.{Judges};
+ghost use Rattle.grammar_model.specs.Terminal.{terminal_of};
+ghost use Rattle.sql_reader.specs.reading.Judges.{name_of, number_of, text_of, unquoted, folded, ranged, short_text, value_of};
+ghost use Rattle.grammar_model.specs.Values.{digits_after};
 
 use crate::fault::Fault;
 use own_base::{Name, Text};
@@ -73,21 +75,21 @@ pub fn can_be_name(token: &Token) -> bool
 }
 
 /// A name in lower case.
-fn folded(alloc: Global, name: &str) -> Result<Name, Fault>
+fn folded(alloc: Global, name: &str) -> Result<Name, RuleFault>
     ensures { Judges (folded store_limits name.now) result }
 {
     if !is_spelled(name.as_bytes()) {
-        return Err(Fault::Syntax);
+        return Err(RuleFault::Syntax);
     }
     if name.len() > 64 {
-        return Err(Fault::Limit(LimitName::Name));
+        return Err(RuleFault::Limit(LimitName::Name));
     }
     let name = Name::from_str(alloc, name)?;
     Ok(name)
 }
 
 /// The name that a token is.
-pub fn name_of(alloc: Global, token: &Token) -> Result<Name, Fault>
+pub fn name_of(alloc: Global, token: &Token) -> Result<Name, RuleFault>
     ensures { Judges (name_of store_limits (token_of token.now)) result }
 {
     match token.kind {
@@ -95,14 +97,14 @@ pub fn name_of(alloc: Global, token: &Token) -> Result<Name, Fault>
             let lower = token.text.to_ascii_lowercase(alloc)?;
             folded(alloc, lower.as_str())
         }
-        _ => Err(Fault::Syntax),
+        _ => Err(RuleFault::Syntax),
     }
 }
 
 /// The number that the digits write, where it is at most 2^63.
 fn magnitude(digits: &[u8]) -> Option<u128>
-    ensures { MatchOption result (2 ^ 63 < digits_behind 0 digits.now)
-        (λ number. (number ≡ digits_behind 0 digits.now) × (number ≤ 2 ^ 63)) }
+    ensures { MatchOption result (2 ^ 63 < digits_after 0 digits.now)
+        (λ number. (number ≡ digits_after 0 digits.now) × (number ≤ 2 ^ 63)) }
 {
     let mut number: u128 = 0;
     for digit in digits {
@@ -115,23 +117,23 @@ fn magnitude(digits: &[u8]) -> Option<u128>
 }
 
 /// The number with its sign, where i64 has it.
-fn ranged(negative: bool, digits: &[u8]) -> Result<i64, Fault>
-    ensures { Judges (ranged negative (digits_behind 0 digits.now)) result }
+fn ranged(negative: bool, digits: &[u8]) -> Result<i64, RuleFault>
+    ensures { Judges (ranged negative (digits_after 0 digits.now)) result }
 {
     match magnitude(digits) {
         Some(number) if negative => Ok(-(number as i128) as i64),
         Some(number) if number < 1 << 63 => Ok(number as i64),
-        _ => Err(Fault::Syntax),
+        _ => Err(RuleFault::Syntax),
     }
 }
 
 /// The number that a token is.
-pub fn number_of(negative: bool, token: &Token) -> Result<i64, Fault>
+pub fn number_of(negative: bool, token: &Token) -> Result<i64, RuleFault>
     ensures { Judges (number_of negative (token_of token.now)) result }
 {
     match token.kind {
         TokenKind::Number => ranged(negative, token.text.as_bytes()),
-        _ => Err(Fault::Syntax),
+        _ => Err(RuleFault::Syntax),
     }
 }
 
@@ -144,7 +146,7 @@ fn quote_at(bytes: &[u8]) -> Option<usize>
     bytes.iter().position(|byte| *byte == QUOTE)
 }
 
-/// What comes before and behind the first quote, if there is one.
+/// What comes before and after the first quote, if there is one.
 fn split_at_quote(text: &str) -> Option<(&str, &str)>
     ensures found { IfSome result (λ parts. (text.now ≡ parts.0.now ++ 39 ∷ parts.1.now) × All (λ byte. byte ≢ 39) parts.0.now) }
     ensures texts { IfSome result (λ parts. IsUtf8 parts.0.now × IsUtf8 parts.1.now) }
@@ -156,8 +158,8 @@ fn split_at_quote(text: &str) -> Option<(&str, &str)>
     }
 }
 
-/// What comes behind a quote at the front.
-fn behind_quote(text: &str) -> Option<&str>
+/// What comes after a quote at the front.
+fn after_quote(text: &str) -> Option<&str>
     ensures found { IfSome result (λ behind. text.now ≡ 39 ∷ behind.now) }
     ensures texts { IfSome result (λ behind. IsUtf8 behind.now) }
     ensures none { IfNone result (first_passes (λ byte. byte == 39) text.now ≡ false) }
@@ -169,7 +171,7 @@ fn behind_quote(text: &str) -> Option<&str>
     Some(&text[1..])
 }
 
-/// The value of a text, of which the bytes behind its first quote are given.
+/// The value of a text, of which the bytes after its first quote are given.
 fn undoubled(alloc: Global, inside: &str) -> Result<String, AllocError>
     ensures { IfOk result (λ value. string_bytes value ≡ undoubled false inside.now) }
 {
@@ -177,7 +179,7 @@ fn undoubled(alloc: Global, inside: &str) -> Result<String, AllocError>
     let mut rest = inside;
     while let Some((front, back)) = split_at_quote(rest) {
         value.push_str(front)?;
-        rest = match behind_quote(back) {
+        rest = match after_quote(back) {
             Some(behind) => {
                 value.push_str("'")?;
                 behind
@@ -190,34 +192,34 @@ fn undoubled(alloc: Global, inside: &str) -> Result<String, AllocError>
 }
 
 /// A text of at most 4,096 bytes.
-fn short_text(value: String) -> Result<Text, Fault>
+fn short_text(value: String) -> Result<Text, RuleFault>
     ensures { Judges (short_text store_limits (string_bytes value)) result }
 {
     if value.len() > 4096 {
-        return Err(Fault::Limit(LimitName::Text));
+        return Err(RuleFault::Limit(LimitName::Text));
     }
     Ok(Text::from_string(value))
 }
 
 /// The value of a text in quotes.
-fn value_of(alloc: Global, text: &str) -> Result<Text, Fault>
+fn value_of(alloc: Global, text: &str) -> Result<Text, RuleFault>
     ensures { Judges (value_of store_limits text.now) result }
 {
-    match behind_quote(text) {
+    match after_quote(text) {
         Some(inside) => {
             let value = undoubled(alloc, inside)?;
             short_text(value)
         }
-        None => Err(Fault::Syntax),
+        None => Err(RuleFault::Syntax),
     }
 }
 
 /// The text that a token is.
-pub fn text_of(alloc: Global, token: &Token) -> Result<Text, Fault>
+pub fn text_of(alloc: Global, token: &Token) -> Result<Text, RuleFault>
     ensures { Judges (text_of store_limits (token_of token.now)) result }
 {
     match token.kind {
         TokenKind::Quoted => value_of(alloc, token.text),
-        _ => Err(Fault::Syntax),
+        _ => Err(RuleFault::Syntax),
     }
 }

@@ -1,7 +1,7 @@
 ghost use Rattle.std.specs.Prelude.{◌≡◌, ◌<◌, ◌^◌, length, map, IfOk};
-ghost use Rattle.sql_reader.specs.Cut.{Cut, AreTokens};
-ghost use Rattle.sql_reader.specs.Reading.{Tokens};
-ghost use Rattle.sql_reader.specs.Token.{token_of};
+ghost use Rattle.grammar_model.specs.Terminals.{Cut, AreTerminals};
+ghost use Rattle.grammar_model.specs.Terminal.{Terminals};
+ghost use Rattle.grammar_model.specs.Terminal.{terminal_of};
 
 use sql_lex::{Lexer, SyntaxAt, Token, TokenKind};
 use std::alloc::{AllocError, Global};
