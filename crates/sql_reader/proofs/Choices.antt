@@ -16,6 +16,7 @@ use Rattle.grammar_model.specs.Terminal.{Terminal, Written, is_word, is_mark}
 use Rattle.sql_reader.specs.reading.Judges.{is_name, is_quoted}
 use Rattle.grammar_model.specs.Language.{Language, one, ◌or◌, ◌>>=◌}
 use Rattle.grammar_model.specs.Language as grammar
+use Rattle.sql_reader.proofs.Exactly.{SaysExactly}
 use Rattle.sql_reader.proofs.Heads.{Head, AWord, AMark, AName, AQuoted, among, apart, NoneNext, OneNext, none-append, one-append-left, one-append-right, one-none}
 use Rattle.sql_reader.proofs.ReaderRight.{next_of, stop_of, Means, Goes, Lifted, Begins, Right, Real}
 use Rattle.sql_reader.proofs.Joins.{and_then, joined, next-append}
@@ -37,8 +38,8 @@ some-same : {A : Type 0} (one other : A) → Some one ≡ Some other → one ≡
 some-same one other same = cc
 
 -- the outcome where nothing is read
-nothing_there : {A : Type 0} (judge : Terminal → Result A RuleFault) (value : A) (terminal : Terminal) → judge terminal ≡ Ok value → Goes (accept judge) (one judge) [] (Err (Syntax, []))
-nothing_there judge value terminal fits =
+nothing_there : {A : Type 0} (means : A → Terminal → Type 0) (judge : Terminal → Result A RuleFault) (value : A) (terminal : Terminal) → means value terminal → Goes (accept judge) (one means) [] (Err (Syntax, []))
+nothing_there means judge value terminal fits =
     record {
       front = [];
       is = refl;
@@ -50,15 +51,15 @@ nothing_there judge value terminal fits =
     at_end [] same = refl
     at_end (next ∷ terminals) same = absurd (none-some next same)
 
-judged_there : {A : Type 0} (judge : Terminal → Result A RuleFault) (value : A) (fitting : Terminal) → judge fitting ≡ Ok value → (terminal : Terminal) (rest : Terminals) (answer : Result A RuleFault) → judge terminal ≡ answer → Goes (accept judge) (one judge) (terminal ∷ rest) (judged answer terminal rest)
-judged_there judge value fitting fits terminal rest (Ok found) is =
+judged_there : {A : Type 0} (means : A → Terminal → Type 0) (judge : Terminal → Result A RuleFault) → SaysExactly means judge → (value : A) (fitting : Terminal) → means value fitting → (terminal : Terminal) (rest : Terminals) (answer : Result A RuleFault) → judge terminal ≡ answer → Goes (accept judge) (one means) (terminal ∷ rest) (judged answer terminal rest)
+judged_there means judge exact value fitting fits terminal rest (Ok found) is =
     record {
       front = terminal ∷ [];
       is = refl;
       local = λ other same. ap (λ a. judged a terminal other) is;
-      means = λ ending. (terminal, refl, is);
+      means = λ ending. (terminal, refl, exact.right terminal found is);
     }
-judged_there judge value fitting fits terminal rest (Err fault) is =
+judged_there means judge exact value fitting fits terminal rest (Err fault) is =
     record {
       front = [];
       is = refl;
@@ -82,22 +83,22 @@ judged-within (Ok value) terminal rest = omega arith
 judged-within (Err fault) terminal rest = omega arith
 
 -- one terminal
-pub one_terminal : {A : Type 0} {lifts : LimitName → Bool} (judge other : Terminal → Result A RuleFault) (heads : List Head) (value : A) (fitting : Terminal) → judge fitting ≡ Ok value
+pub one_terminal : {A : Type 0} {lifts : LimitName → Bool} (means : A → Terminal → Type 0) (judge other : Terminal → Result A RuleFault) → SaysExactly means judge → (heads : List Head) (value : A) (fitting : Terminal) → judge fitting ≡ Ok value
     → ((terminal : Terminal) (value : A) → judge terminal ≡ Ok value → among heads terminal ≡ true) → ((terminal : Terminal) → LiftedJudge lifts (judge terminal) (other terminal))
-    → Right lifts (accept judge) (accept other) (one judge) heads false []
-one_terminal {A = A} {lifts = lifts} judge other heads value fitting fits begins lifted =
+    → Right lifts (accept judge) (accept other) (one means) heads false []
+one_terminal {A = A} {lifts = lifts} means judge other exact heads value fitting fits begins lifted =
     record {
       goes = goes;
-      reads = λ found terminals rest word none. ap (accept judge) word.1 ∙ ap (λ a. judged a word.0 rest) word.2;
-      begins = λ found terminals rest word. inr (subst (OneNext heads) (sym word.1) (begins word.0 found word.2), subst (λ l. length rest < length l) (sym word.1) (omega arith));
-      some = (value, fitting ∷ [], λ ending. (fitting, refl, fits));
+      reads = λ found terminals rest word none. ap (accept judge) word.1 ∙ ap (λ a. judged a word.0 rest) (exact.whole word.0 found word.2);
+      begins = λ found terminals rest word. inr (subst (OneNext heads) (sym word.1) (begins word.0 found (exact.whole word.0 found word.2)), subst (λ l. length rest < length l) (sym word.1) (omega arith));
+      some = (value, fitting ∷ [], λ ending. (fitting, refl, exact.right fitting value fits));
       lifted = λ terminals real. lifts_one terminals;
       within = within;
     }
   where
-    goes : (terminals : Terminals) → Goes (accept judge) (one judge) terminals (accept judge terminals)
-    goes [] = nothing_there judge value fitting fits
-    goes (terminal ∷ rest) = judged_there judge value fitting fits terminal rest (judge terminal) refl
+    goes : (terminals : Terminals) → Goes (accept judge) (one means) terminals (accept judge terminals)
+    goes [] = nothing_there means judge value fitting (exact.right fitting value fits)
+    goes (terminal ∷ rest) = judged_there means judge exact value fitting (exact.right fitting value fits) terminal rest (judge terminal) refl
 
     lifts_one : (terminals : Terminals) → Lifted lifts (accept judge terminals) (accept other terminals)
     lifts_one [] = refl
@@ -114,10 +115,22 @@ passes-ok test terminal false is value passed = absurd (wrong (sym (ap (λ b. if
     wrong : Err Syntax ≡ Ok value → ⊥
     wrong same = cc
 
+-- a terminal that passes
+abbrev Passes : (Terminal → Bool) → Unit {0} → Terminal → Type 0
+Passes test value terminal = test terminal ≡ true
+
+-- a test judges by what passes it
+passes_exactly : (test : Terminal → Bool) → SaysExactly (Passes test) (passes test)
+passes_exactly test =
+    record {
+      right = λ terminal value passed. passes-ok test terminal (test terminal) refl value passed;
+      whole = λ terminal value is. ap (λ b. if b then Ok tt else Err Syntax) is;
+    }
+
 -- a terminal that passes a test that is one head's
-passing : {lifts : LimitName → Bool} (test : Terminal → Bool) (heads : List Head) (fitting : Terminal) → test fitting ≡ true → ((terminal : Terminal) → test terminal ≡ true → among heads terminal ≡ true) → Right lifts (accept (passes test)) (accept (passes test)) (one (passes test)) heads false []
+passing : {lifts : LimitName → Bool} (test : Terminal → Bool) (heads : List Head) (fitting : Terminal) → test fitting ≡ true → ((terminal : Terminal) → test terminal ≡ true → among heads terminal ≡ true) → Right lifts (accept (passes test)) (accept (passes test)) (one (Passes test)) heads false []
 passing {lifts = lifts} test heads fitting fits begins =
-    one_terminal (passes test) (passes test) heads tt fitting (ap (λ b. if b then Ok tt else Err Syntax) fits) (λ terminal value passed. begins terminal (passes-ok test terminal (test terminal) refl value passed)) same
+    one_terminal (Passes test) (passes test) (passes test) (passes_exactly test) heads tt fitting (ap (λ b. if b then Ok tt else Err Syntax) fits) (λ terminal value passed. begins terminal (passes-ok test terminal (test terminal) refl value passed)) same
   where
     by : (answer : Bool) → LiftedJudge {A = Unit {0}} lifts (if answer then Ok tt else Err Syntax) (if answer then Ok tt else Err Syntax)
     by true = refl

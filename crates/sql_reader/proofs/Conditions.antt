@@ -4,6 +4,7 @@ use Rattle.std.specs.Prelude.{if◌then◌else◌, nat_le}
 use Rattle.sql_reader.specs.declared.fault.RuleFault.{RuleFault}
 use Rattle.sql_reader.specs.declared.fault.RuleFault.TheVariants.{Syntax, Limit, Memory}
 use Rattle.own_model.specs.declared.condition.Cond.TheVariants as cond
+use Rattle.own_model.specs.declared.limit.TheConstants.{SELECT_ITEMS}
 use Rattle.sql_reader.specs.reading.Condition.{neg, comparison, too_deep, cond_over}
 use Rattle.grammar_model.specs.Limits.{Limits, store_limits}
 use Rattle.grammar_model.specs.Terminal.{Terminals}
@@ -41,9 +42,9 @@ Does-fault reader before Syntax after same = same
 Does-fault reader before (Limit limit) after same = same
 
 -- above the limit no item is read
-pub item_after-full : (count : ℕ) (terminals : Terminals) → 64 ≤ count → item_after store_limits count terminals ≡ accept slot_of terminals
+pub item_after-full : (count : ℕ) (terminals : Terminals) → SELECT_ITEMS ≤ count → item_after store_limits count terminals ≡ accept slot_of terminals
 unfolding item_after
 item_after-full count terminals above = ap (λ b. (if b then item store_limits else accept slot_of) terminals) (full count above)
   where
-    full : (count : ℕ) → 64 ≤ count → nat_le (count + 1) 64 ≡ false
+    full : (count : ℕ) → SELECT_ITEMS ≤ count → nat_le (count + 1) SELECT_ITEMS ≡ false
     full count above = grind arith

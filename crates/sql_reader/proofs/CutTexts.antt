@@ -5,7 +5,7 @@ use Rattle.std.proofs.lemmas.List.{append-nil, map-append}
 use Rattle.sql_lex.specs.declared.token.SyntaxAt.{SyntaxAt}
 use Rattle.sql_lex.specs.declared.token.Token as lexed
 use Rattle.sql_lex.specs.Lexing.{Lexing, IsNext, IsAtEnd, IsNextAnswer, SameAnswer, IsSameToken}
-use Rattle.grammar_model.specs.Terminals.{Cut, IsLost, AreTerminals}
+use Rattle.grammar_model.specs.Terminals.{IsCutInto, IsLost, AreTerminals}
 use Rattle.grammar_model.specs.Terminal.{Terminal, Written, terminal_of}
 
 -- the answer is right, and any other that is says the same
@@ -24,12 +24,12 @@ Chain-push from [] to token same next = (subst (λ l. IsTheAnswer l (Ok (Some to
 Chain-push from (first ∷ tokens) to token chain next = (chain.0, Chain-push (record from { at = first.end }) tokens to token chain.1 next)
 
 -- the end comes after them
-pub Chain-end : (from : Lexing) (tokens : List lexed.Token) (to : Lexing) → Chain from tokens to → IsAtEnd to → Cut from tokens
+pub Chain-end : (from : Lexing) (tokens : List lexed.Token) (to : Lexing) → Chain from tokens to → IsAtEnd to → IsCutInto from tokens
 Chain-end from [] to same ends = subst IsAtEnd (sym same) ends
 Chain-end from (first ∷ tokens) to chain ends = inl (chain.0.right, Chain-end (record from { at = first.end }) tokens to chain.1 ends)
 
 -- no token begins after them
-pub Chain-lost : (from : Lexing) (tokens : List lexed.Token) (to : Lexing) (token : lexed.Token) → Chain from tokens to → IsLost to token → Cut from (tokens ++ token ∷ [])
+pub Chain-lost : (from : Lexing) (tokens : List lexed.Token) (to : Lexing) (token : lexed.Token) → Chain from tokens to → IsLost to token → IsCutInto from (tokens ++ token ∷ [])
 Chain-lost from [] to token same lost = inr (subst (λ l. IsLost l token) (sym same) lost, refl)
 Chain-lost from (first ∷ tokens) to token chain lost = inl (chain.0.right, Chain-lost (record from { at = first.end }) tokens to token chain.1 lost)
 
@@ -47,24 +47,24 @@ terminal_of-lost lexing one other first second same =
     (λ i. Written (kind i) (text i) (same i))
 
 -- where a token comes next, each cut begins with it
-Cut-next : (lexing : Lexing) (token : lexed.Token) (others : List lexed.Token) → IsTheAnswer lexing (Ok (Some token)) → Cut lexing others → (rest : List lexed.Token) × (map terminal_of others ≡ terminal_of token ∷ map terminal_of rest) × Cut (record lexing { at = token.end }) rest
+Cut-next : (lexing : Lexing) (token : lexed.Token) (others : List lexed.Token) → IsTheAnswer lexing (Ok (Some token)) → IsCutInto lexing others → (rest : List lexed.Token) × (map terminal_of others ≡ terminal_of token ∷ map terminal_of rest) × IsCutInto (record lexing { at = token.end }) rest
 Cut-next lexing token [] next cut = absurd (next.only (Ok None) cut)
 Cut-next lexing token (other ∷ others) next (inl found) =
     let same : IsSameToken token other = next.only (Ok (Some other)) found.0 in (
       others,
       ap (λ t. t ∷ map terminal_of others) (sym (terminal_of-same lexing token other next.right found.0 same)),
-      subst (λ n. Cut (record lexing { at = n }) others) (sym same.end) found.1,
+      subst (λ n. IsCutInto (record lexing { at = n }) others) (sym same.end) found.1,
     )
 Cut-next lexing token (other ∷ others) next (inr lost) = absurd (next.only (Err (record { 0 = other.start })) lost.0.fault)
 
 -- where the end comes next, no cut has a token
-Cut-end : (lexing : Lexing) (others : List lexed.Token) → IsTheAnswer lexing (Ok None) → Cut lexing others → map terminal_of others ≡ []
+Cut-end : (lexing : Lexing) (others : List lexed.Token) → IsTheAnswer lexing (Ok None) → IsCutInto lexing others → map terminal_of others ≡ []
 Cut-end lexing [] ends cut = refl
 Cut-end lexing (other ∷ others) ends (inl found) = absurd (ends.only (Ok (Some other)) found.0)
 Cut-end lexing (other ∷ others) ends (inr lost) = absurd (ends.only (Err (record { 0 = other.start })) lost.0.fault)
 
 -- where no token begins, each cut is the lost token
-Cut-lost : (lexing : Lexing) (token : lexed.Token) (others : List lexed.Token) → IsLost lexing token → IsTheAnswer lexing (Err (record { 0 = token.start })) → Cut lexing others → map terminal_of others ≡ terminal_of token ∷ []
+Cut-lost : (lexing : Lexing) (token : lexed.Token) (others : List lexed.Token) → IsLost lexing token → IsTheAnswer lexing (Err (record { 0 = token.start })) → IsCutInto lexing others → map terminal_of others ≡ terminal_of token ∷ []
 Cut-lost lexing token [] lost fault cut = absurd (fault.only (Ok None) cut)
 Cut-lost lexing token (other ∷ others) lost fault (inl found) = absurd (fault.only (Ok (Some other)) found.0)
 Cut-lost lexing token (other ∷ others) lost fault (inr loses) =
@@ -72,8 +72,8 @@ Cut-lost lexing token (other ∷ others) lost fault (inr loses) =
     (λ i. sym (terminal_of-lost lexing token other lost loses.0 same) i ∷ map terminal_of (loses.1 i))
 
 -- each cut is these tokens, and then a cut of what comes after them
-Cut-behind : (from : Lexing) (tokens : List lexed.Token) (to : Lexing) (others : List lexed.Token) → Chain from tokens to → Cut from others → (rest : List lexed.Token) × (map terminal_of others ≡ map terminal_of tokens ++ map terminal_of rest) × Cut to rest
-Cut-behind from [] to others same cut = (others, refl, subst (λ l. Cut l others) same cut)
+Cut-behind : (from : Lexing) (tokens : List lexed.Token) (to : Lexing) (others : List lexed.Token) → Chain from tokens to → IsCutInto from others → (rest : List lexed.Token) × (map terminal_of others ≡ map terminal_of tokens ++ map terminal_of rest) × IsCutInto to rest
+Cut-behind from [] to others same cut = (others, refl, subst (λ l. IsCutInto l others) same cut)
 Cut-behind from (token ∷ tokens) to others chain cut =
     let next = Cut-next from token others chain.0 cut in
     let behind = Cut-behind (record from { at = token.end }) tokens to next.0 chain.1 next.2 in

@@ -5,6 +5,7 @@ use Rattle.std.proofs.lemmas.Bool.{false≢true}
 use Rattle.std.proofs.lemmas.List.{length-append}
 use Rattle.own_model.specs.declared.limit.LimitName.{LimitName}
 use Rattle.own_model.specs.declared.limit.LimitName.TheVariants as limit
+use Rattle.own_model.specs.declared.limit.TheConstants.{NESTING_LEVELS}
 use Rattle.own_model.specs.declared.statement.Statement.{Statement}
 use Rattle.sql_reader.specs.declared.fault.RuleFault.{RuleFault}
 use Rattle.sql_reader.specs.declared.fault.RuleFault.TheVariants.{Syntax, Limit, Memory}
@@ -147,10 +148,10 @@ front-length : (front other rest : Terminals) → front ++ rest ≡ other ++ res
 front-length front other rest same = let lengths = sym (length-append front rest) ∙ ap length same ∙ length-append other rest in omega arith
 
 module _ (terminals : Terminals) (real : NoSlot terminals) where
-  pub none_is : (fault : RuleFault × Terminals) → whole_at store_limits 64 terminals ≡ Err fault → IsNone terminals
-  none_is fault is found text = ok_err found [] fault (sym (reads_whole store_limits store_fair 64 found terminals text) ∙ is)
+  pub none_is : (fault : RuleFault × Terminals) → whole_at store_limits NESTING_LEVELS terminals ≡ Err fault → IsNone terminals
+  none_is fault is found text = ok_err found [] fault (sym (reads_whole store_limits store_fair NESTING_LEVELS found terminals text) ∙ is)
 
-  before : (fault : RuleFault × Terminals) (failed : Fails store_limits 64 terminals fault) → Continues store_limits 64 terminals (length failed.front)
+  before : (fault : RuleFault × Terminals) (failed : Fails store_limits NESTING_LEVELS terminals fault) → Continues store_limits NESTING_LEVELS terminals (length failed.front)
   before fault failed =
       record {
         found = failed.begins.0;
@@ -167,74 +168,74 @@ module _ (terminals : Terminals) (real : NoSlot terminals) where
       no_more limits fair deep levels terminals fault failed raise (subst (λ n. Continues limits levels terminals (suc n)) (front-length front failed.front fault.1 (sym stands ∙ failed.is)) going)
 
   -- without limits no statement goes on through a fault that is no limit's
-  pub ends_freely : (fault : RuleFault × Terminals) → ((which : LimitName) → fault.0 ≡ Limit which → ⊥) → whole_at store_limits 64 terminals ≡ Err fault → (failed : Fails store_limits 64 terminals fault) (levels : ℕ) → Continues no_limits levels terminals (suc (length failed.front)) → ⊥
+  pub ends_freely : (fault : RuleFault × Terminals) → ((which : LimitName) → fault.0 ≡ Limit which → ⊥) → whole_at store_limits NESTING_LEVELS terminals ≡ Err fault → (failed : Fails store_limits NESTING_LEVELS terminals fault) (levels : ℕ) → Continues no_limits levels terminals (suc (length failed.front)) → ⊥
   unfolding all_lift
   ends_freely fault free is failed levels going =
-      ends_there no_limits free_fair (deeper levels 64) levels fault kept failed.front failed.is
-      (λ other found read. subst (λ n. whole_at no_limits n other ≡ Ok (found, [])) both_ways (more_levels no_limits free_fair 64 levels other found read)) going
+      ends_there no_limits free_fair (deeper levels NESTING_LEVELS) levels fault kept failed.front failed.is
+      (λ other found read. subst (λ n. whole_at no_limits n other ≡ Ok (found, [])) both_ways (more_levels no_limits free_fair NESTING_LEVELS levels other found read)) going
     where
-      kept : whole_at no_limits (deeper levels 64) terminals ≡ Err fault
-      kept = fault_kept all_lift (statement_rule store_limits 64 terminals) (statement_rule no_limits (deeper levels 64) terminals) fault ((statement_right all_lift store_limits store_fair levels 64).lifted terminals (λ lifted. real)) (λ which same. absurd (free which same)) is
+      kept : whole_at no_limits (deeper levels NESTING_LEVELS) terminals ≡ Err fault
+      kept = fault_kept all_lift (statement_rule store_limits NESTING_LEVELS terminals) (statement_rule no_limits (deeper levels NESTING_LEVELS) terminals) fault ((statement_right all_lift store_limits store_fair levels NESTING_LEVELS).lifted terminals (λ lifted. real)) (λ which same. absurd (free which same)) is
 
-      both_ways : deeper 64 levels ≡ deeper levels 64
-      both_ways = let one = deeper-sum 64 levels in let two = deeper-sum levels 64 in omega arith
+      both_ways : deeper NESTING_LEVELS levels ≡ deeper levels NESTING_LEVELS
+      both_ways = let one = deeper-sum NESTING_LEVELS levels in let two = deeper-sum levels NESTING_LEVELS in omega arith
 
   -- a fault of syntax
-  pub syntax_at : (rest : Terminals) → whole_at store_limits 64 terminals ≡ Err (Syntax, rest) → (at : ℕ) × IsSyntaxAt terminals at × (drop at terminals ≡ rest)
+  pub syntax_at : (rest : Terminals) → whole_at store_limits NESTING_LEVELS terminals ≡ Err (Syntax, rest) → (at : ℕ) × IsSyntaxAt terminals at × (drop at terminals ≡ rest)
   syntax_at rest is =
-      let failed = fails store_limits store_fair 64 terminals (Syntax, rest) is in (
+      let failed = fails store_limits store_fair NESTING_LEVELS terminals (Syntax, rest) is in (
         length failed.front,
         record { none = none_is (Syntax, rest) is; before = before (Syntax, rest) failed; ends = ends_freely (Syntax, rest) syntax_limit is failed },
         ap (drop (length failed.front)) failed.is ∙ drop-front failed.front rest,
       )
 
   -- with this limit alone the fault is the same
-  only_this : (name : LimitName) (rest : Terminals) (extra : ℕ) → whole_at store_limits 64 terminals ≡ Err (Limit name, rest) → whole_at (only name) (raised (all_but name limit.Nesting) extra 64) terminals ≡ Err (Limit name, rest)
+  only_this : (name : LimitName) (rest : Terminals) (extra : ℕ) → whole_at store_limits NESTING_LEVELS terminals ≡ Err (Limit name, rest) → whole_at (only name) (raised (all_but name limit.Nesting) extra NESTING_LEVELS) terminals ≡ Err (Limit name, rest)
   only_this name rest extra is =
-      subst (λ l. whole_at l (raised (all_but name limit.Nesting) extra 64) terminals ≡ Err (Limit name, rest)) (all_but-lift name)
-      (fault_kept (all_but name) (statement_rule store_limits 64 terminals) (statement_rule (lift (all_but name) store_limits) (raised (all_but name limit.Nesting) extra 64) terminals) (Limit name, rest)
-      ((statement_right (all_but name) store_limits store_fair extra 64).lifted terminals (λ lifted. real)) (λ which same. ap (all_but name) (sym (ap (λ f. limit_of f which) same)) ∙ all_but-self name) is)
+      subst (λ l. whole_at l (raised (all_but name limit.Nesting) extra NESTING_LEVELS) terminals ≡ Err (Limit name, rest)) (all_but-lift name)
+      (fault_kept (all_but name) (statement_rule store_limits NESTING_LEVELS terminals) (statement_rule (lift (all_but name) store_limits) (raised (all_but name limit.Nesting) extra NESTING_LEVELS) terminals) (Limit name, rest)
+      ((statement_right (all_but name) store_limits store_fair extra NESTING_LEVELS).lifted terminals (λ lifted. real)) (λ which same. ap (all_but name) (sym (ap (λ f. limit_of f which) same)) ∙ all_but-self name) is)
 
-  pub further : (name : LimitName) (rest : Terminals) (failed : Fails store_limits 64 terminals (Limit name, rest)) (outcome : Reading Statement) → length (stop_of outcome) < length rest → suc (length failed.front) + length (stop_of outcome) ≤ length terminals
+  pub further : (name : LimitName) (rest : Terminals) (failed : Fails store_limits NESTING_LEVELS terminals (Limit name, rest)) (outcome : Reading Statement) → length (stop_of outcome) < length rest → suc (length failed.front) + length (stop_of outcome) ≤ length terminals
   further limited rest failed outcome less = let lengths = ap length failed.is ∙ length-append failed.front rest in omega arith
 
   -- without limits a statement goes on through the terminal
-  goes_on : (name : LimitName) (rest : Terminals) → whole_at store_limits 64 terminals ≡ Err (Limit name, rest) → (failed : Fails store_limits 64 terminals (Limit name, rest)) → (levels : ℕ) × Continues no_limits levels terminals (suc (length failed.front))
+  goes_on : (name : LimitName) (rest : Terminals) → whole_at store_limits NESTING_LEVELS terminals ≡ Err (Limit name, rest) → (failed : Fails store_limits NESTING_LEVELS terminals (Limit name, rest)) → (levels : ℕ) × Continues no_limits levels terminals (suc (length failed.front))
   unfolding all_lift
-  goes_on name rest is failed = (65, by (fault_passed all_lift (statement_rule store_limits 64 terminals) (statement_rule no_limits 65 terminals) name rest ((statement_right all_lift store_limits store_fair 0 64).lifted terminals (λ lifted. real)) refl is))
+  goes_on name rest is failed = (suc NESTING_LEVELS, by (fault_passed all_lift (statement_rule store_limits NESTING_LEVELS terminals) (statement_rule no_limits (suc NESTING_LEVELS) terminals) name rest ((statement_right all_lift store_limits store_fair 0 NESTING_LEVELS).lifted terminals (λ lifted. real)) refl is))
     where
-      by : Beyond all_lift name rest (statement_rule no_limits 65 terminals) → Continues no_limits 65 terminals (suc (length failed.front))
-      by (inl less) = continues_to no_limits 65 terminals (statement_rule no_limits 65 terminals) (statement_goes no_limits free_fair 65 terminals) (suc (length failed.front)) (further name rest failed (statement_rule no_limits 65 terminals) less)
+      by : Beyond all_lift name rest (statement_rule no_limits (suc NESTING_LEVELS) terminals) → Continues no_limits (suc NESTING_LEVELS) terminals (suc (length failed.front))
+      by (inl less) = continues_to no_limits (suc NESTING_LEVELS) terminals (statement_rule no_limits (suc NESTING_LEVELS) terminals) (statement_goes no_limits free_fair (suc NESTING_LEVELS) terminals) (suc (length failed.front)) (further name rest failed (statement_rule no_limits (suc NESTING_LEVELS) terminals) less)
       by (inr named) = absurd (false≢true (sym named.1))
 
   -- nor is a name's limit told where items are too many
-  not_items : (name : LimitName) (rest : Terminals) → whole_at store_limits 64 terminals ≡ Err (Limit name, rest) → (failed : Fails store_limits 64 terminals (Limit name, rest)) → name ≡ limit.Name → (levels : ℕ) × Continues (only limit.Items) levels terminals (suc (length failed.front))
+  not_items : (name : LimitName) (rest : Terminals) → whole_at store_limits NESTING_LEVELS terminals ≡ Err (Limit name, rest) → (failed : Fails store_limits NESTING_LEVELS terminals (Limit name, rest)) → name ≡ limit.Name → (levels : ℕ) × Continues (only limit.Items) levels terminals (suc (length failed.front))
   unfolding all_but number_of_limit
   not_items name rest is failed named =
-      (65, by (fault_passed (all_but limit.Items) (statement_rule store_limits 64 terminals) (statement_rule (only limit.Items) 65 terminals) name rest ((statement_right (all_but limit.Items) store_limits store_fair 0 64).lifted terminals (λ lifted. real)) (ap (all_but limit.Items) named) is))
+      (suc NESTING_LEVELS, by (fault_passed (all_but limit.Items) (statement_rule store_limits NESTING_LEVELS terminals) (statement_rule (only limit.Items) (suc NESTING_LEVELS) terminals) name rest ((statement_right (all_but limit.Items) store_limits store_fair 0 NESTING_LEVELS).lifted terminals (λ lifted. real)) (ap (all_but limit.Items) named) is))
     where
-      by : Beyond (all_but limit.Items) name rest (statement_rule (only limit.Items) 65 terminals) → Continues (only limit.Items) 65 terminals (suc (length failed.front))
-      by (inl less) = continues_to (only limit.Items) 65 terminals (statement_rule (only limit.Items) 65 terminals) (statement_goes (only limit.Items) (only_fair limit.Items) 65 terminals) (suc (length failed.front)) (further name rest failed (statement_rule (only limit.Items) 65 terminals) less)
+      by : Beyond (all_but limit.Items) name rest (statement_rule (only limit.Items) (suc NESTING_LEVELS) terminals) → Continues (only limit.Items) (suc NESTING_LEVELS) terminals (suc (length failed.front))
+      by (inl less) = continues_to (only limit.Items) (suc NESTING_LEVELS) terminals (statement_rule (only limit.Items) (suc NESTING_LEVELS) terminals) (statement_goes (only limit.Items) (only_fair limit.Items) (suc NESTING_LEVELS) terminals) (suc (length failed.front)) (further name rest failed (statement_rule (only limit.Items) (suc NESTING_LEVELS) terminals) less)
       by (inr items) = absurd (false≢true (ap (all_but limit.Items) (sym items.0 ∙ named)))
 
   -- a fault of a limit
-  pub limit_at : (name : LimitName) (rest : Terminals) → whole_at store_limits 64 terminals ≡ Err (Limit name, rest) → (at : ℕ) × IsLimitAt name terminals at
+  pub limit_at : (name : LimitName) (rest : Terminals) → whole_at store_limits NESTING_LEVELS terminals ≡ Err (Limit name, rest) → (at : ℕ) × IsLimitAt name terminals at
   limit_at name rest is =
-      let failed = fails store_limits store_fair 64 terminals (Limit name, rest) is in (
+      let failed = fails store_limits store_fair NESTING_LEVELS terminals (Limit name, rest) is in (
         length failed.front,
         record { none = none_is (Limit name, rest) is; before = before (Limit name, rest) failed; ends = ends failed; goes_on = goes_on name rest is failed; not_items = not_items name rest is failed },
       )
     where
-      ends : (failed : Fails store_limits 64 terminals (Limit name, rest)) (levels : ℕ) → (name ≡ limit.Nesting → levels ≡ 64) → Continues (only name) levels terminals (suc (length failed.front)) → ⊥
+      ends : (failed : Fails store_limits NESTING_LEVELS terminals (Limit name, rest)) (levels : ℕ) → (name ≡ limit.Nesting → levels ≡ NESTING_LEVELS) → Continues (only name) levels terminals (suc (length failed.front)) → ⊥
       ends failed levels fixed going = by (all_but name limit.Nesting) refl
         where
-          both_ways : deeper 64 levels ≡ deeper levels 64
-          both_ways = let one = deeper-sum 64 levels in let two = deeper-sum levels 64 in omega arith
+          both_ways : deeper NESTING_LEVELS levels ≡ deeper levels NESTING_LEVELS
+          both_ways = let one = deeper-sum NESTING_LEVELS levels in let two = deeper-sum levels NESTING_LEVELS in omega arith
 
           by : (freed : Bool) → all_but name limit.Nesting ≡ freed → ⊥
           by true free =
-              ends_there (only name) (only_fair name) (deeper levels 64) levels (Limit name, rest) (subst (λ b. whole_at (only name) (raised b levels 64) terminals ≡ Err (Limit name, rest)) free (only_this name rest levels is)) failed.front failed.is
-              (λ other found read. subst (λ n. whole_at (only name) n other ≡ Ok (found, [])) both_ways (more_levels (only name) (only_fair name) 64 levels other found read)) going
+              ends_there (only name) (only_fair name) (deeper levels NESTING_LEVELS) levels (Limit name, rest) (subst (λ b. whole_at (only name) (raised b levels NESTING_LEVELS) terminals ≡ Err (Limit name, rest)) free (only_this name rest levels is)) failed.front failed.is
+              (λ other found read. subst (λ n. whole_at (only name) n other ≡ Ok (found, [])) both_ways (more_levels (only name) (only_fair name) NESTING_LEVELS levels other found read)) going
           by false kept =
-              ends_there (only name) (only_fair name) 64 levels (Limit name, rest) (subst (λ b. whole_at (only name) (raised b levels 64) terminals ≡ Err (Limit name, rest)) kept (only_this name rest levels is)) failed.front failed.is
+              ends_there (only name) (only_fair name) NESTING_LEVELS levels (Limit name, rest) (subst (λ b. whole_at (only name) (raised b levels NESTING_LEVELS) terminals ≡ Err (Limit name, rest)) kept (only_this name rest levels is)) failed.front failed.is
               (λ other found read. subst (λ n. whole_at (only name) n other ≡ Ok (found, [])) (fixed (nesting_alone name kept)) read) going

@@ -10,6 +10,14 @@ use Rattle.sql_reader.specs.reading.Reader.{next_is}
 use Rattle.grammar_model.specs.Terminal.{Terminal, Written, Slot, is_word, is_mark}
 use Rattle.sql_reader.specs.reading.Judges.{is_name, is_quoted}
 
+abbrev pub is_number : Terminal → Bool
+is_number (Written Number bytes start) = true
+is_number _ = false
+
+abbrev pub is_slot : Terminal → Bool
+is_slot Slot = true
+is_slot _ = false
+
 pub data Head : Type 0 where
   AWord : List ℕ → Head
   AMark : List ℕ → Head

@@ -3,6 +3,7 @@ pub mod Changes
 pub mod Choices
 pub mod Conditions
 pub mod CutTexts
+pub mod Exactly
 pub mod FaultPlaces
 pub mod Heads
 pub mod Itemizing

@@ -5,12 +5,11 @@ use Rattle.std.proofs.lemmas.Bool.{false≢true}
 use Rattle.std.proofs.lemmas.List.{length-append}
 use Rattle.own_model.specs.declared.limit.LimitName.{LimitName}
 use Rattle.own_model.specs.declared.limit.LimitName.TheVariants as limit
+use Rattle.own_model.specs.declared.limit.TheConstants.{NESTING_LEVELS}
 use Rattle.own_model.specs.declared.statement.Statement.{Statement}
 use Rattle.sql_reader.specs.declared.fault.RuleFault.{RuleFault}
 use Rattle.sql_reader.specs.declared.fault.RuleFault.TheVariants.{Syntax, Limit, Memory}
-use Rattle.sql_reader.specs.declared.fault.ReadFault.{ReadFault}
-use Rattle.sql_reader.specs.declared.fault.ReadFault.TheVariants as read
-use Rattle.grammar_model.specs.Answer.{IsAnswerFor}
+use Rattle.grammar_model.specs.Answer.{Answer, GivesStatement, StopsAt, PassesLimit, IsAnswerFor}
 use Rattle.grammar_model.specs.Continues.{Continues, IsSyntaxAt, IsLimitAt, IsNone, only}
 use Rattle.grammar_model.specs.Limits.{Limits, store_limits, no_limits}
 use Rattle.grammar_model.specs.Terminal.{Terminals}
@@ -97,27 +96,27 @@ stops_further lifts (Err (Limit which, rest)) other fault (inr kept) is = let st
 stops_further lifts (Err (Limit which, rest)) other fault (inl (free, inl less)) is = let end = ap (λ o. length (fault_of o).1) is in omega arith
 stops_further lifts (Err (Limit which, rest)) other fault (inl (free, inr named)) is = let stop = ap (λ o. length (stop_of o)) named.2 in let end = ap (λ o. length (fault_of o).1) is in omega arith
 
-module _ (terminals : Terminals) (real : NoSlot terminals) (fault : RuleFault × Terminals) (is : whole_at store_limits 64 terminals ≡ Err fault) where
-  failed : Fails store_limits 64 terminals fault
-  failed = fails store_limits store_fair 64 terminals fault is
+module _ (terminals : Terminals) (real : NoSlot terminals) (fault : RuleFault × Terminals) (is : whole_at store_limits NESTING_LEVELS terminals ≡ Err fault) where
+  failed : Fails store_limits NESTING_LEVELS terminals fault
+  failed = fails store_limits store_fair NESTING_LEVELS terminals fault is
 
   stands : (count : ℕ) (stop : Terminals) → count ≤ length failed.front → length stop ≤ length fault.1 → count + length stop ≤ length terminals
   stands count stop short less = let lengths = ap length failed.is ∙ length-append failed.front fault.1 in omega arith
 
   -- up to the fault a statement continues, whatever limits are lifted
-  continues_there : (lifts : LimitName → Bool) → Fair (lift lifts store_limits) → (count : ℕ) → count ≤ length failed.front → Continues (lift lifts store_limits) (raised (lifts limit.Nesting) 0 64) terminals count
+  continues_there : (lifts : LimitName → Bool) → Fair (lift lifts store_limits) → (count : ℕ) → count ≤ length failed.front → Continues (lift lifts store_limits) (raised (lifts limit.Nesting) 0 NESTING_LEVELS) terminals count
   continues_there lifts fair count short =
-      let outcome = statement_rule (lift lifts store_limits) (raised (lifts limit.Nesting) 0 64) terminals in
-      continues_to (lift lifts store_limits) (raised (lifts limit.Nesting) 0 64) terminals outcome (statement_goes (lift lifts store_limits) fair (raised (lifts limit.Nesting) 0 64) terminals) count
-      (stands count (stop_of outcome) short (stops_further lifts (statement_rule store_limits 64 terminals) outcome fault ((statement_right lifts store_limits store_fair 0 64).lifted terminals (λ lifted. real)) is))
+      let outcome = statement_rule (lift lifts store_limits) (raised (lifts limit.Nesting) 0 NESTING_LEVELS) terminals in
+      continues_to (lift lifts store_limits) (raised (lifts limit.Nesting) 0 NESTING_LEVELS) terminals outcome (statement_goes (lift lifts store_limits) fair (raised (lifts limit.Nesting) 0 NESTING_LEVELS) terminals) count
+      (stands count (stop_of outcome) short (stops_further lifts (statement_rule store_limits NESTING_LEVELS terminals) outcome fault ((statement_right lifts store_limits store_fair 0 NESTING_LEVELS).lifted terminals (λ lifted. real)) is))
 
   -- with the limits no statement goes on after the fault
-  not_past : (at : ℕ) → Continues store_limits 64 terminals at → at ≤ length failed.front
+  not_past : (at : ℕ) → Continues store_limits NESTING_LEVELS terminals at → at ≤ length failed.front
   not_past at going = by (nat_le at (length failed.front)) refl
     where
       by : (answer : Bool) → nat_le at (length failed.front) ≡ answer → at ≤ length failed.front
       by true less = grind arith
-      by false more = absurd (ends_there terminals real store_limits store_fair 64 64 fault is failed.front failed.is (λ other found read. read) (continues-less store_limits 64 (suc (length failed.front)) at terminals (grind arith) going))
+      by false more = absurd (ends_there terminals real store_limits store_fair NESTING_LEVELS NESTING_LEVELS fault is failed.front failed.is (λ other found read. read) (continues-less store_limits NESTING_LEVELS (suc (length failed.front)) at terminals (grind arith) going))
 
   -- a fault of syntax stands there
   syntax_there : (at : ℕ) → IsSyntaxAt terminals at → at ≡ length failed.front
@@ -126,21 +125,21 @@ module _ (terminals : Terminals) (real : NoSlot terminals) (fault : RuleFault ×
     where
       by : (answer : Bool) → nat_le (length failed.front) at ≡ answer → at ≡ length failed.front
       by true less = let short = not_past at stood.before in grind arith
-      by false more = absurd (stood.ends 65 (continues_there all_lift free_fair (suc at) (grind arith)))
+      by false more = absurd (stood.ends (suc NESTING_LEVELS) (continues_there all_lift free_fair (suc at) (grind arith)))
 
   -- so does a limit
   limit_there : (name : LimitName) (at : ℕ) → IsLimitAt name terminals at → at ≡ length failed.front
   limit_there name at stood = by (nat_le (length failed.front) at) refl
     where
-      levels : (free : Bool) → all_but name limit.Nesting ≡ free → name ≡ limit.Nesting → raised free 0 64 ≡ 64
+      levels : (free : Bool) → all_but name limit.Nesting ≡ free → name ≡ limit.Nesting → raised free 0 NESTING_LEVELS ≡ NESTING_LEVELS
       levels true free named = absurd (false≢true (sym (all_but-self limit.Nesting) ∙ ap (λ n. all_but n limit.Nesting) (sym named) ∙ free))
       levels false kept named = refl
 
       by : (answer : Bool) → nat_le (length failed.front) at ≡ answer → at ≡ length failed.front
       by true less = let short = not_past at stood.before in grind arith
       by false more =
-          absurd (stood.ends (raised (all_but name limit.Nesting) 0 64) (levels (all_but name limit.Nesting) refl)
-          (subst (λ l. Continues l (raised (all_but name limit.Nesting) 0 64) terminals (suc at)) (all_but-lift name) (continues_there (all_but name) (subst Fair (sym (all_but-lift name)) (only_fair name)) (suc at) (grind arith))))
+          absurd (stood.ends (raised (all_but name limit.Nesting) 0 NESTING_LEVELS) (levels (all_but name limit.Nesting) refl)
+          (subst (λ l. Continues l (raised (all_but name limit.Nesting) 0 NESTING_LEVELS) terminals (suc at)) (all_but-lift name) (continues_there (all_but name) (subst Fair (sym (all_but-lift name)) (only_fair name)) (suc at) (grind arith))))
 
   -- no statement goes on through the fault, where it is no limit's
   limits_only : ((which : LimitName) → fault.0 ≡ Limit which → ⊥) → (name : LimitName) (at : ℕ) → IsLimitAt name terminals at → ⊥
@@ -153,7 +152,7 @@ module _ (terminals : Terminals) (real : NoSlot terminals) (fault : RuleFault ×
       here : at ≡ length failed.front
       here = limit_there name at stood
 
-      levels : (free : Bool) → all_but name limit.Nesting ≡ free → name ≡ limit.Nesting → raised free 0 64 ≡ 64
+      levels : (free : Bool) → all_but name limit.Nesting ≡ free → name ≡ limit.Nesting → raised free 0 NESTING_LEVELS ≡ NESTING_LEVELS
       levels true free named = absurd (false≢true (sym (all_but-self limit.Nesting) ∙ ap (λ n. all_but n limit.Nesting) (sym named) ∙ free))
       levels false kept named = refl
 
@@ -161,9 +160,9 @@ module _ (terminals : Terminals) (real : NoSlot terminals) (fault : RuleFault ×
       not_nesting items nesting = absurd (items_nesting (sym items ∙ nesting))
 
       outcome : Reading Statement
-      outcome = statement_rule (lift (all_but name) store_limits) (raised (all_but name limit.Nesting) 0 64) terminals
+      outcome = statement_rule (lift (all_but name) store_limits) (raised (all_but name limit.Nesting) 0 NESTING_LEVELS) terminals
 
-      is_limit : whole_at store_limits 64 terminals ≡ Err (Limit own, rest)
+      is_limit : whole_at store_limits NESTING_LEVELS terminals ≡ Err (Limit own, rest)
       is_limit = is ∙ ap (λ f. Err f) (sym same)
 
       fair : Fair (lift (all_but name) store_limits)
@@ -171,9 +170,9 @@ module _ (terminals : Terminals) (real : NoSlot terminals) (fault : RuleFault ×
 
       past : Beyond (all_but name) own rest outcome → ⊥
       past (inl less) =
-          stood.ends (raised (all_but name limit.Nesting) 0 64) (levels (all_but name limit.Nesting) refl)
-          (subst (λ l. Continues l (raised (all_but name limit.Nesting) 0 64) terminals (suc at)) (all_but-lift name)
-          (continues_to (lift (all_but name) store_limits) (raised (all_but name limit.Nesting) 0 64) terminals outcome (statement_goes (lift (all_but name) store_limits) fair (raised (all_but name limit.Nesting) 0 64) terminals) (suc at)
+          stood.ends (raised (all_but name limit.Nesting) 0 NESTING_LEVELS) (levels (all_but name limit.Nesting) refl)
+          (subst (λ l. Continues l (raised (all_but name limit.Nesting) 0 NESTING_LEVELS) terminals (suc at)) (all_but-lift name)
+          (continues_to (lift (all_but name) store_limits) (raised (all_but name limit.Nesting) 0 NESTING_LEVELS) terminals outcome (statement_goes (lift (all_but name) store_limits) fair (raised (all_but name limit.Nesting) 0 NESTING_LEVELS) terminals) (suc at)
           (let lengths = ap length failed.is ∙ length-append failed.front fault.1 in let rests = ap (λ f. length f.1) same in let there = here in omega arith)))
       past (inr named) =
           let theirs = limit_at terminals real own rest is_limit in
@@ -183,7 +182,7 @@ module _ (terminals : Terminals) (real : NoSlot terminals) (fault : RuleFault ×
 
       by : (answer : Bool) → all_but name own ≡ answer → name ≡ own
       by false kept = kept_alone name own kept
-      by true free = absurd (past (fault_passed (all_but name) (statement_rule store_limits 64 terminals) outcome own rest ((statement_right (all_but name) store_limits store_fair 0 64).lifted terminals (λ lifted. real)) free is_limit))
+      by true free = absurd (past (fault_passed (all_but name) (statement_rule store_limits NESTING_LEVELS terminals) outcome own rest ((statement_right (all_but name) store_limits store_fair 0 NESTING_LEVELS).lifted terminals (λ lifted. real)) free is_limit))
 
   -- two limits that are met are one
   limits_same : (one other : LimitName) (at place : ℕ) → IsLimitAt one terminals at → IsLimitAt other terminals place → one ≡ other
@@ -195,37 +194,33 @@ module _ (terminals : Terminals) (real : NoSlot terminals) (fault : RuleFault ×
       by (Limit own, rest) same = limit_named own rest same one at stood ∙ sym (limit_named own rest same other place stands)
 
 -- after what is read nothing stands
-ended_there : (terminals : Terminals) (found : Statement) (rest : Terminals) → whole_at store_limits 64 terminals ≡ Ok (found, rest) → rest ≡ []
+ended_there : (terminals : Terminals) (found : Statement) (rest : Terminals) → whole_at store_limits NESTING_LEVELS terminals ≡ Ok (found, rest) → rest ≡ []
 unfolding whole
 ended_there terminals found rest is = whole-ends terminals found rest is
 
 -- where no statement has the terminals, reading meets a fault
-read_fault : {A : Type 0} (terminals : Terminals) → NoSlot terminals → IsNone terminals → ((fault : RuleFault × Terminals) → whole_at store_limits 64 terminals ≡ Err fault → A) → A
-read_fault {A = A} terminals real none then_so = by (whole_at store_limits 64 terminals) refl
+read_fault : {A : Type 0} (terminals : Terminals) → NoSlot terminals → IsNone terminals → ((fault : RuleFault × Terminals) → whole_at store_limits NESTING_LEVELS terminals ≡ Err fault → A) → A
+read_fault {A = A} terminals real none then_so = by (whole_at store_limits NESTING_LEVELS terminals) refl
   where
-    by : (outcome : Reading Statement) → whole_at store_limits 64 terminals ≡ outcome → A
+    by : (outcome : Reading Statement) → whole_at store_limits NESTING_LEVELS terminals ≡ outcome → A
     by (Err fault) is = then_so fault is
-    by (Ok (found, rest)) is = absurd (none found (means_whole store_limits store_fair 64 found terminals (is ∙ ap (λ l. Ok (found, l)) (ended_there terminals found rest is))))
+    by (Ok (found, rest)) is = absurd (none found (means_whole store_limits store_fair NESTING_LEVELS found terminals (is ∙ ap (λ l. Ok (found, l)) (ended_there terminals found rest is))))
 
--- two answers for the same terminals are one, but for a lack of memory
-pub answers_same : (text : List ℕ) (terminals : Terminals) → NoSlot terminals → (one other : Result Statement ReadFault) → Answers text terminals one → Answers text terminals other → one ≢ Err read.Memory → other ≢ Err read.Memory → one ≡ other
-answers_same text terminals real (Ok found) (Ok other) is same no_want no_other = ap Ok (same.1 found is.0)
-answers_same text terminals real (Ok found) (Err (read.Syntax byte)) is same no_want no_other = absurd (same.1.none found is.0)
-answers_same text terminals real (Ok found) (Err (read.Limit which)) is same no_want no_other = absurd (same.1.none found is.0)
-answers_same text terminals real (Ok found) (Err read.Memory) is same no_want no_other = absurd (no_other refl)
-answers_same text terminals real (Err (read.Syntax byte)) (Ok found) is same no_want no_other = absurd (is.1.none found same.0)
-answers_same text terminals real (Err (read.Syntax byte)) (Err (read.Syntax place)) is same no_want no_other =
+-- two answers for the same terminals are one
+pub answers_same : (text : List ℕ) (terminals : Terminals) → NoSlot terminals → (one other : Answer) → IsAnswerFor text terminals one → IsAnswerFor text terminals other → one ≡ other
+answers_same text terminals real (GivesStatement found) (GivesStatement other) is same = ap GivesStatement (same.1 found is.0)
+answers_same text terminals real (GivesStatement found) (StopsAt byte) is same = absurd (same.1.none found is.0)
+answers_same text terminals real (GivesStatement found) (PassesLimit which) is same = absurd (same.1.none found is.0)
+answers_same text terminals real (StopsAt byte) (GivesStatement found) is same = absurd (is.1.none found same.0)
+answers_same text terminals real (StopsAt byte) (StopsAt place) is same =
     let at = read_fault terminals real is.1.none (λ fault failing. syntax_there terminals real fault failing is.0 is.1 ∙ sym (syntax_there terminals real fault failing same.0 same.1)) in
-    ap (λ n. Err (read.Syntax n)) (is.2 ∙ ap (λ n. place_of (length text) (drop n terminals)) at ∙ sym same.2)
-answers_same text terminals real (Err (read.Syntax byte)) (Err (read.Limit which)) is same no_want no_other =
+    ap StopsAt (is.2 ∙ ap (λ n. place_of (length text) (drop n terminals)) at ∙ sym same.2)
+answers_same text terminals real (StopsAt byte) (PassesLimit which) is same =
     let at = read_fault terminals real is.1.none (λ fault failing. syntax_there terminals real fault failing is.0 is.1 ∙ sym (limit_there terminals real fault failing which same.0 same.1)) in
     absurd (is.1.ends same.1.goes_on.0 (subst (λ n. Continues no_limits same.1.goes_on.0 terminals (suc n)) (sym at) same.1.goes_on.1))
-answers_same text terminals real (Err (read.Syntax byte)) (Err read.Memory) is same no_want no_other = absurd (no_other refl)
-answers_same text terminals real (Err (read.Limit which)) (Ok found) is same no_want no_other = absurd (is.1.none found same.0)
-answers_same text terminals real (Err (read.Limit which)) (Err (read.Syntax byte)) is same no_want no_other =
+answers_same text terminals real (PassesLimit which) (GivesStatement found) is same = absurd (is.1.none found same.0)
+answers_same text terminals real (PassesLimit which) (StopsAt byte) is same =
     let at = read_fault terminals real is.1.none (λ fault failing. syntax_there terminals real fault failing same.0 same.1 ∙ sym (limit_there terminals real fault failing which is.0 is.1)) in
     absurd (same.1.ends is.1.goes_on.0 (subst (λ n. Continues no_limits is.1.goes_on.0 terminals (suc n)) (sym at) is.1.goes_on.1))
-answers_same text terminals real (Err (read.Limit which)) (Err (read.Limit other)) is same no_want no_other =
-    ap (λ l. Err (read.Limit l)) (read_fault terminals real is.1.none (λ fault failing. limits_same terminals real fault failing which other is.0 same.0 is.1 same.1))
-answers_same text terminals real (Err (read.Limit which)) (Err read.Memory) is same no_want no_other = absurd (no_other refl)
-answers_same text terminals real (Err read.Memory) other is same no_want no_other = absurd (no_want refl)
+answers_same text terminals real (PassesLimit which) (PassesLimit other) is same =
+    ap PassesLimit (read_fault terminals real is.1.none (λ fault failing. limits_same terminals real fault failing which other is.0 same.0 is.1 same.1))

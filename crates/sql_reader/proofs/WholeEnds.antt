@@ -1,5 +1,6 @@
 -- Nothing is left after a whole statement.
 use Rattle.std.proofs.Common.{◌≡◌, [], ◌∷◌, Ok, Err, sym, ap}
+use Rattle.own_model.specs.declared.limit.TheConstants.{NESTING_LEVELS}
 use Rattle.own_model.specs.declared.statement.Statement.{Statement}
 use Rattle.grammar_model.specs.Limits.{store_limits}
 use Rattle.sql_reader.specs.reading.Whole.{ended, whole}
@@ -19,4 +20,4 @@ ends (Err fault) found rest same = cc
 
 pub whole-ends : (terminals : Terminals) (found : Statement) (rest : Terminals) → whole terminals ≡ Ok (found, rest) → rest ≡ []
 unfolding whole
-whole-ends terminals found rest same = ends (statement_rule store_limits 64 terminals) found rest same
+whole-ends terminals found rest same = ends (statement_rule store_limits NESTING_LEVELS terminals) found rest same

@@ -1,15 +1,16 @@
 ghost use Rattle.std.specs.Prelude.{◌≡◌};
+ghost use Rattle.own_model.specs.declared.limit.TheConstants.{NESTING_LEVELS};
 ghost use Rattle.grammar_model.specs.Parts.{list_of};
 ghost use Rattle.grammar_model.specs.Limits.{store_limits};
 ghost use Rattle.sql_reader.specs.reading.Reader.{Does};
 ghost use Rattle.sql_reader.specs.reading.Condition as rules;
 
 use crate::cursor::Cursor;
-use crate::fault::Fault;
+use crate::fault::RuleFault;
 use crate::list::{add, list_of_one};
 use crate::rule::{col, literal};
 use own_base::{Boxed, List};
-use own_model::{Cmp, ColRef, Cond, LimitName, Operand};
+use own_model::{Cmp, ColRef, Cond, LimitName, NESTING_LEVELS, Operand};
 use std::alloc::Global;
 
 /// The sign of a comparison.
@@ -194,11 +195,11 @@ fn neg(cursor: &mut Cursor, alloc: Global, levels: u32) -> Result<Cond, RuleFaul
 /// The condition of a WHERE, if one stands there.
 #[tactic(auto, unfolding(crate::specs::reading::Condition::condition, crate::specs::reading::Condition::cond_rule))]
 pub fn condition(cursor: &mut Cursor, alloc: Global) -> Result<Option<Cond>, RuleFault>
-    ensures { Does (rules.condition store_limits 64) cursor.old result cursor.new }
+    ensures { Does (rules.condition store_limits NESTING_LEVELS) cursor.old result cursor.new }
 {
     if cursor.next_is_word(b"WHERE") {
         cursor.word(b"WHERE")?;
-        let found = cond(cursor, alloc, 64)?;
+        let found = cond(cursor, alloc, NESTING_LEVELS as u32)?;
         return Ok(Some(found));
     }
     Ok(None)

@@ -1,11 +1,12 @@
 ghost use Rattle.std.specs.Prelude.{◌≡◌, ◌<◌, length, OnOk};
+ghost use Rattle.own_model.specs.declared.limit.TheConstants.{NESTING_LEVELS};
 ghost use Rattle.grammar_model.specs.Limits.{store_limits};
 ghost use Rattle.sql_reader.specs.reading.Reader.{Does};
 ghost use Rattle.sql_reader.specs.reading.Create as rules;
 ghost use Rattle.sql_reader.specs.reading.Reader.{next_is};
 
 use crate::cursor::Cursor;
-use crate::fault::Fault;
+use crate::fault::RuleFault;
 use crate::list::{add, list_of_one};
 use crate::rule::{bracketed_names, one_name};
 use crate::select::query;
@@ -260,7 +261,7 @@ fn table(cursor: &mut Cursor, alloc: Global) -> Result<CreateTable, RuleFault>
 /// A view, after CREATE.
 #[tactic(auto, unfolding(crate::specs::reading::Create::view))]
 fn view(cursor: &mut Cursor, alloc: Global) -> Result<CreateView, RuleFault>
-    ensures { Does (rules.view store_limits 64) cursor.old result cursor.new }
+    ensures { Does (rules.view store_limits NESTING_LEVELS) cursor.old result cursor.new }
 {
     cursor.word(b"VIEW")?;
     let name = cursor.name(alloc)?;
@@ -272,7 +273,7 @@ fn view(cursor: &mut Cursor, alloc: Global) -> Result<CreateView, RuleFault>
 /// A CREATE.
 #[tactic(auto, unfolding(crate::specs::reading::Create::create))]
 pub fn create(cursor: &mut Cursor, alloc: Global) -> Result<Statement, RuleFault>
-    ensures { Does (rules.create store_limits 64) cursor.old result cursor.new }
+    ensures { Does (rules.create store_limits NESTING_LEVELS) cursor.old result cursor.new }
 {
     cursor.word(b"CREATE")?;
     if cursor.next_is_word(b"VIEW") {

@@ -3,10 +3,10 @@ ghost use Rattle.grammar_model.specs.Limits.{store_limits};
 ghost use Rattle.sql_reader.specs.reading.Whole.{ended};
 ghost use Rattle.sql_reader.specs.reading.Reader.{Does, accept, next_is};
 ghost use Rattle.sql_reader.specs.reading.Rules as rules;
-ghost use Rattle.sql_reader.specs.reading.Judges.{slot_of};
+ghost use Rattle.sql_reader.specs.reading.Judges.{is_name, is_quoted, slot_of};
 ghost use Rattle.grammar_model.specs.Terminal as spec;
 
-use crate::fault::Fault;
+use crate::fault::RuleFault;
 use crate::literal::{can_be_name, name_of, number_of, text_of};
 use own_base::{Name, Text};
 use own_model::LimitName;
@@ -24,13 +24,13 @@ impl<'a> Model for Cursor<'a> {
     ghost use Rattle.std.specs.Prelude.{List, map};
     ghost use Rattle.grammar_model.specs.Terminal.{Terminal, terminal_of};
 
-    ghost Value = { List Token };
+    ghost Value = { List Terminal };
 
-    ghost view = { λ cursor. map token_of cursor.tokens.now };
+    ghost view = { λ cursor. map terminal_of cursor.tokens.now };
 }
 
 fn is_word(token: &Token, word: &[u8]) -> bool
-    ensures { result ≡ spec.is_word word.now (spec.token_of token.now) }
+    ensures { result ≡ spec.is_word word.now (spec.terminal_of token.now) }
 {
     match token.kind {
         TokenKind::Keyword => token.text.as_bytes().eq_ignore_ascii_case(word),
@@ -39,7 +39,7 @@ fn is_word(token: &Token, word: &[u8]) -> bool
 }
 
 fn is_mark(token: &Token, mark: &[u8]) -> bool
-    ensures { result ≡ spec.is_mark mark.now (spec.token_of token.now) }
+    ensures { result ≡ spec.is_mark mark.now (spec.terminal_of token.now) }
 {
     match token.kind {
         TokenKind::Mark => token.text.as_bytes() == mark,
@@ -50,7 +50,7 @@ fn is_mark(token: &Token, mark: &[u8]) -> bool
 impl<'a> Cursor<'a> {
     /// At the first of the tokens.
     pub fn new(tokens: &'a [Token<'a>]) -> Cursor<'a>
-        ensures { result ≡ map spec.token_of tokens.now }
+        ensures { result ≡ map spec.terminal_of tokens.now }
     {
         Cursor { tokens }
     }
@@ -77,7 +77,7 @@ impl<'a> Cursor<'a> {
 
     /// Whether a name comes next.
     pub fn next_is_name(&self) -> bool
-        ensures { result ≡ next_is spec.is_name self.now }
+        ensures { result ≡ next_is is_name self.now }
     {
         match self.tokens.first() {
             Some(token) => matches!(token.kind, TokenKind::Name),
@@ -87,7 +87,7 @@ impl<'a> Cursor<'a> {
 
     /// Whether a text in quotes comes next.
     pub fn next_is_quoted(&self) -> bool
-        ensures { result ≡ next_is spec.is_quoted self.now }
+        ensures { result ≡ next_is is_quoted self.now }
     {
         match self.tokens.first() {
             Some(token) => matches!(token.kind, TokenKind::Quoted),

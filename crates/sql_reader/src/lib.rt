@@ -18,5 +18,3 @@ mod tokens;
 pub use fault::ReadFault;
 pub use read::read_statement;
 
-#[cfg(test)]
-mod tests;

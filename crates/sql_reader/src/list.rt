@@ -1,7 +1,7 @@
 ghost use Rattle.std.specs.Prelude.{◌≡◌, [], ◌∷◌, ◌++◌, OnOk, IfOk, IfErr};
 ghost use Rattle.sql_reader.specs.declared.fault.RuleFault.TheVariants.{Memory};
 
-use crate::fault::Fault;
+use crate::fault::RuleFault;
 use own_base::List;
 use std::alloc::Global;
 

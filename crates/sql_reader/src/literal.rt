@@ -1,17 +1,18 @@
-ghost use Rattle.std.specs.Prelude.{◌≡◌, ◌≢◌, ◌<◌, ◌≤◌, ◌^◌, ◌==◌, ◌∷◌, ◌++◌, ℕ, length, map, slice_index, All, is_ok, IfOk, IfSome, IfNone, MatchOption, string_bytes, IsUtf8, false};
+ghost use Rattle.std.specs.Prelude.{◌≡◌, ◌≢◌, ◌<◌, ◌≤◌, ◌^◌, ◌==◌, ◌∷◌, ◌++◌, ℕ, List, None, Some, length, map, slice_index, All, is_ok, IfOk, IfSome, IfNone, MatchOption, string_bytes, IsUtf8, false};
 ghost use Rattle.std.specs.Char.{to_ascii_lowercase};
 ghost use Rattle.std.specs.List.{list_all};
 ghost use Rattle.own_base.specs.Name.{is_spelled, begins_name, continues_name};
 ghost use Rattle.sql_lex.specs.Bytes.{first_passes};
+ghost use Rattle.sql_lex.specs.Tokens.{quoted};
 ghost use Rattle.grammar_model.specs.Limits.{no_limits, store_limits};
 ghost use Rattle.sql_reader.specs.reading.Reader.{Judges};
 ghost use Rattle.grammar_model.specs.Terminal.{terminal_of};
-ghost use Rattle.sql_reader.specs.reading.Judges.{name_of, number_of, text_of, unquoted, folded, ranged, short_text, value_of};
+ghost use Rattle.sql_reader.specs.reading.Judges.{name_of, number_of, text_of, inside, unquoted, folded, ranged, short_text};
 ghost use Rattle.grammar_model.specs.Values.{digits_after};
 
-use crate::fault::Fault;
-use own_base::{Name, Text};
-use own_model::LimitName;
+use crate::fault::RuleFault;
+use own_base::{NAME_BYTES, Name, Text};
+use own_model::{LimitName, TEXT_BYTES};
 use sql_lex::{Token, TokenKind};
 use std::alloc::{AllocError, Global};
 
@@ -66,7 +67,7 @@ fn is_spelled_lowered(name: &[u8]) -> bool
 
 /// Whether the token is a name, whatever its length. Takes no memory.
 pub fn can_be_name(token: &Token) -> bool
-    ensures { result ≡ is_ok (name_of no_limits (token_of token.now)) }
+    ensures { result ≡ is_ok (name_of no_limits (terminal_of token.now)) }
 {
     match token.kind {
         TokenKind::Name => is_spelled_lowered(token.text.as_bytes()),
@@ -81,7 +82,7 @@ fn folded(alloc: Global, name: &str) -> Result<Name, RuleFault>
     if !is_spelled(name.as_bytes()) {
         return Err(RuleFault::Syntax);
     }
-    if name.len() > 64 {
+    if name.len() > NAME_BYTES {
         return Err(RuleFault::Limit(LimitName::Name));
     }
     let name = Name::from_str(alloc, name)?;
@@ -90,7 +91,7 @@ fn folded(alloc: Global, name: &str) -> Result<Name, RuleFault>
 
 /// The name that a token is.
 pub fn name_of(alloc: Global, token: &Token) -> Result<Name, RuleFault>
-    ensures { Judges (name_of store_limits (token_of token.now)) result }
+    ensures { Judges (name_of store_limits (terminal_of token.now)) result }
 {
     match token.kind {
         TokenKind::Name => {
@@ -129,7 +130,7 @@ fn ranged(negative: bool, digits: &[u8]) -> Result<i64, RuleFault>
 
 /// The number that a token is.
 pub fn number_of(negative: bool, token: &Token) -> Result<i64, RuleFault>
-    ensures { Judges (number_of negative (token_of token.now)) result }
+    ensures { Judges (number_of negative (terminal_of token.now)) result }
 {
     match token.kind {
         TokenKind::Number => ranged(negative, token.text.as_bytes()),
@@ -171,31 +172,41 @@ fn after_quote(text: &str) -> Option<&str>
     Some(&text[1..])
 }
 
-/// The value of a text, of which the bytes after its first quote are given.
-fn undoubled(alloc: Global, inside: &str) -> Result<String, AllocError>
-    ensures { IfOk result (λ value. string_bytes value ≡ undoubled false inside.now) }
+/// The value of a text in quotes, of which the bytes after the first quote are given: the last of them closes it.
+fn closed(alloc: Global, text: &str) -> Result<Option<String>, AllocError>
+    ensures { IfOk result (λ found. MatchOption found (inside false text.now ≡ None) (λ value. inside false text.now ≡ Some (string_bytes value))) }
 {
     let mut value = String::new(alloc);
-    let mut rest = inside;
+    let mut rest = text;
     while let Some((front, back)) = split_at_quote(rest) {
         value.push_str(front)?;
-        rest = match after_quote(back) {
-            Some(behind) => {
-                value.push_str("'")?;
-                behind
+        let Some(after) = after_quote(back) else {
+            if back.is_empty() {
+                return Ok(Some(value));
             }
-            None => back,
+            return Ok(None);
         };
+        value.push_str("'")?;
+        rest = after;
     }
-    value.push_str(rest)?;
-    Ok(value)
+    Ok(None)
 }
 
-/// A text of at most 4,096 bytes.
-fn short_text(value: String) -> Result<Text, RuleFault>
-    ensures { Judges (short_text store_limits (string_bytes value)) result }
+/// What stands between the quotes, where this is a text in quotes.
+fn unquoted(alloc: Global, text: &str) -> Result<Option<String>, AllocError>
+    ensures { IfOk result (λ found. MatchOption found ((value : List ℕ) → text.now ≡ quoted value → ⊥) (λ value. text.now ≡ quoted (string_bytes value))) }
 {
-    if value.len() > 4096 {
+    match after_quote(text) {
+        Some(inside) => closed(alloc, inside),
+        None => Ok(None),
+    }
+}
+
+/// A text of at most `TEXT_BYTES` bytes.
+fn short_text(value: String) -> Result<Text, RuleFault>
+    ensures { Judges (short_text store_limits (Some (string_bytes value))) result }
+{
+    if value.len() > TEXT_BYTES {
         return Err(RuleFault::Limit(LimitName::Text));
     }
     Ok(Text::from_string(value))
@@ -203,20 +214,17 @@ fn short_text(value: String) -> Result<Text, RuleFault>
 
 /// The value of a text in quotes.
 fn value_of(alloc: Global, text: &str) -> Result<Text, RuleFault>
-    ensures { Judges (value_of store_limits text.now) result }
+    ensures { Judges (short_text store_limits (unquoted text.now)) result }
 {
-    match after_quote(text) {
-        Some(inside) => {
-            let value = undoubled(alloc, inside)?;
-            short_text(value)
-        }
+    match unquoted(alloc, text)? {
+        Some(value) => short_text(value),
         None => Err(RuleFault::Syntax),
     }
 }
 
 /// The text that a token is.
 pub fn text_of(alloc: Global, token: &Token) -> Result<Text, RuleFault>
-    ensures { Judges (text_of store_limits (token_of token.now)) result }
+    ensures { Judges (text_of store_limits (terminal_of token.now)) result }
 {
     match token.kind {
         TokenKind::Quoted => value_of(alloc, token.text),

@@ -1,10 +1,11 @@
-ghost use Rattle.std.specs.Prelude.{◌≡◌, ◌<◌, ◌^◌, length};
+ghost use Rattle.std.specs.Prelude.{◌<◌, ◌^◌, length, IfSome};
 ghost use Rattle.grammar_model.specs.Answer.{IsAnswer};
+ghost use Rattle.sql_reader.specs.AnswerOf.{answer_of};
 ghost use Rattle.sql_reader.specs.reading.Whole.{whole};
 ghost use Rattle.sql_reader.specs.reading.Reader.{Does};
 
 use crate::cursor::Cursor;
-use crate::fault::{Fault, ReadFault};
+use crate::fault::{ReadFault, RuleFault};
 use crate::statement::statement;
 use crate::tokens::tokens;
 use own_model::Statement;
@@ -25,7 +26,8 @@ fn whole(cursor: &mut Cursor, alloc: Global) -> Result<Statement, RuleFault>
 /// the text's tokens and for the statement.
 pub fn read_statement(alloc: Global, text: &str) -> Result<Statement, ReadFault>
     requires { length text.now < 2 ^ 32 }
-    ensures { IsAnswer text.now result }
+    // Only memory, refused, keeps the answer from coming.
+    ensures { IfSome (answer_of result) (λ answer. IsAnswer text.now answer) }
 {
     let Ok(found) = tokens(alloc, text) else {
         return Err(ReadFault::Memory);

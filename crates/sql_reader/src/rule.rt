@@ -3,7 +3,7 @@ ghost use Rattle.sql_reader.specs.reading.Reader.{Does};
 ghost use Rattle.sql_reader.specs.reading.Rules as rules;
 
 use crate::cursor::Cursor;
-use crate::fault::Fault;
+use crate::fault::RuleFault;
 use crate::list::{add, list_of_one};
 use own_base::{List, Name, Value};
 use own_model::{ColRef, Expr};

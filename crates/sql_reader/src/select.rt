@@ -1,16 +1,17 @@
 ghost use Rattle.std.specs.Prelude.{◌≡◌};
 ghost use Rattle.std.specs.List.{list_all};
+ghost use Rattle.own_model.specs.declared.limit.TheConstants.{NESTING_LEVELS};
 ghost use Rattle.grammar_model.specs.Limits.{store_limits};
 ghost use Rattle.sql_reader.specs.reading.Reader.{Does};
 ghost use Rattle.sql_reader.specs.reading.Select as rules;
 
 use crate::condition::condition;
 use crate::cursor::Cursor;
-use crate::fault::Fault;
+use crate::fault::RuleFault;
 use crate::list::{add, list_of_one};
 use crate::rule::{col, col_after};
 use own_base::{List, Name};
-use own_model::{ColRef, Item, Items, Join, Order, Select, What};
+use own_model::{ColRef, Item, Items, Join, Order, SELECT_ITEMS, Select, What};
 use std::alloc::Global;
 
 /// What stands after COUNT, where a bracket comes.
@@ -81,7 +82,7 @@ fn item(cursor: &mut Cursor, alloc: Global) -> Result<Item, RuleFault>
 fn item_after(cursor: &mut Cursor, alloc: Global, count: usize) -> Result<Item, RuleFault>
     ensures { Does (rules.item_after store_limits count) cursor.old result cursor.new }
 {
-    if count < 64 {
+    if count < SELECT_ITEMS {
         return item(cursor, alloc);
     }
     Err(cursor.no_item())
@@ -235,7 +236,7 @@ fn order(cursor: &mut Cursor, alloc: Global) -> Result<Order, RuleFault>
 /// A select without its order.
 #[tactic(auto, unfolding(crate::specs::reading::Select::query))]
 pub fn query(cursor: &mut Cursor, alloc: Global) -> Result<Select, RuleFault>
-    ensures { Does (rules.query store_limits 64) cursor.old result cursor.new }
+    ensures { Does (rules.query store_limits NESTING_LEVELS) cursor.old result cursor.new }
 {
     cursor.word(b"SELECT")?;
     let items = items(cursor, alloc)?;
@@ -269,7 +270,7 @@ fn ordered(cursor: &mut Cursor, alloc: Global) -> Result<Option<Order>, RuleFaul
 /// A select.
 #[tactic(auto, unfolding(crate::specs::reading::Select::select))]
 pub fn select(cursor: &mut Cursor, alloc: Global) -> Result<Select, RuleFault>
-    ensures { Does (rules.select store_limits 64) cursor.old result cursor.new }
+    ensures { Does (rules.select store_limits NESTING_LEVELS) cursor.old result cursor.new }
 {
     let Select {
         items,

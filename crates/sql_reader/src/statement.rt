@@ -1,4 +1,5 @@
 ghost use Rattle.std.specs.Prelude.{◌≡◌};
+ghost use Rattle.own_model.specs.declared.limit.TheConstants.{NESTING_LEVELS};
 ghost use Rattle.grammar_model.specs.Limits.{store_limits};
 ghost use Rattle.sql_reader.specs.reading.Reader.{Does};
 ghost use Rattle.sql_reader.specs.reading.Statements as rules;
@@ -6,7 +7,7 @@ ghost use Rattle.sql_reader.specs.reading.Statements as rules;
 use crate::condition::condition;
 use crate::create::create;
 use crate::cursor::Cursor;
-use crate::fault::Fault;
+use crate::fault::RuleFault;
 use crate::list::{add, list_of_one};
 use crate::rule::{bracketed_names, expr, int, tuple};
 use crate::select::select;
@@ -88,7 +89,7 @@ fn sets(cursor: &mut Cursor, alloc: Global) -> Result<List<(Name, Expr)>, RuleFa
 /// An UPDATE.
 #[tactic(auto, unfolding(crate::specs::reading::Statements::update))]
 fn update(cursor: &mut Cursor, alloc: Global) -> Result<Statement, RuleFault>
-    ensures { Does (rules.update store_limits 64) cursor.old result cursor.new }
+    ensures { Does (rules.update store_limits NESTING_LEVELS) cursor.old result cursor.new }
 {
     cursor.word(b"UPDATE")?;
     let table = cursor.name(alloc)?;
@@ -101,7 +102,7 @@ fn update(cursor: &mut Cursor, alloc: Global) -> Result<Statement, RuleFault>
 /// A DELETE.
 #[tactic(auto, unfolding(crate::specs::reading::Statements::delete))]
 fn delete(cursor: &mut Cursor, alloc: Global) -> Result<Statement, RuleFault>
-    ensures { Does (rules.delete store_limits 64) cursor.old result cursor.new }
+    ensures { Does (rules.delete store_limits NESTING_LEVELS) cursor.old result cursor.new }
 {
     cursor.word(b"DELETE")?;
     cursor.word(b"FROM")?;
@@ -202,7 +203,7 @@ fn gdpr(cursor: &mut Cursor, alloc: Global) -> Result<Statement, RuleFault>
 /// A statement.
 #[tactic(auto, unfolding(crate::specs::reading::Statements::statement_rule))]
 pub fn statement(cursor: &mut Cursor, alloc: Global) -> Result<Statement, RuleFault>
-    ensures { Does (rules.statement_rule store_limits 64) cursor.old result cursor.new }
+    ensures { Does (rules.statement_rule store_limits NESTING_LEVELS) cursor.old result cursor.new }
 {
     if cursor.next_is_word(b"CREATE") {
         return create(cursor, alloc);

@@ -10,19 +10,16 @@ use Rattle.own_model.specs.declared.select.Item.{Item}
 use Rattle.own_model.specs.declared.select.Items.{Items}
 use Rattle.own_model.specs.declared.select.Join.{Join}
 use Rattle.own_model.specs.declared.select.Select.{Select}
-use Rattle.sql_reader.specs.declared.fault.RuleFault.{RuleFault}
-use Rattle.sql_reader.specs.declared.fault.RuleFault.TheVariants.{Syntax, Limit}
 use Rattle.grammar_model.specs.Grammar.{name, col, citem, gitem, item_after, items, join, condition, plain, grouped}
 use Rattle.grammar_model.specs.Language.{Language, one, ◌>>=◌, ◌>>◌, ◌or◌, pure, optional, many_from, word, mark, whether}
 use Rattle.grammar_model.specs.Limits.{Limits, fits, no_limits}
 use Rattle.grammar_model.specs.Terminal.{Terminals}
 use Rattle.sql_reader.specs.reading.Select.{is_plain, is_listed, is_column}
 use Rattle.grammar_model.specs.Terminal.{Terminal, Written, Slot}
-use Rattle.sql_reader.specs.reading.Judges.{name_of}
 use Rattle.sql_reader.proofs.Changes.{Into}
 use Rattle.sql_reader.proofs.Heads.{both}
 use Rattle.grammar_model.specs.Parts.{is_there}
-use Rattle.sql_reader.specs.reading.Judges.{slot_of, barred}
+use Rattle.grammar_model.specs.Values.{SlotIs}
 
 -- * | gitem {, gitem}
 abbrev pub items_or_all : Limits → Language Items
@@ -133,24 +130,6 @@ grouped_from limits levels found value terminals rest (_, a, word_from, (from, b
     unjoined true = inr (refl, refl)
     unjoined false = (refl, refl)
 
-slot-column : (terminal : Terminal) (value : Item) → slot_of terminal ≡ Ok value → is_column value ≡ true
-slot-column Slot value is = ap slot_column (sym is)
-  where
-    slot_column : Result Item RuleFault → Bool
-    slot_column (Ok item) = is_column item
-    slot_column (Err fault) = true
-slot-column (Written kind text start) value is = by (name_of no_limits (Written kind text start)) is
-  where
-    by : (answer : Result (List ℕ) RuleFault) → barred answer ≡ Ok value → is_column value ≡ true
-    by (Ok found) is = absurd (wrong is)
-      where
-        wrong : ◌≡◌ {A = Result Item RuleFault} (Err (Limit limit.Items)) (Ok value) → ⊥
-        wrong same = cc
-    by (Err fault) is = absurd (wrong is)
-      where
-        wrong : ◌≡◌ {A = Result Item RuleFault} (Err Syntax) (Ok value) → ⊥
-        wrong same = cc
-
 -- an item of a plain select is a column
 citem_to : (limits : Limits) (value : Item) (terminals rest : Terminals) → citem limits value terminals rest → gitem limits value terminals rest × is_column value ≡ true
 unfolding citem gitem
@@ -168,14 +147,14 @@ citem_from limits value terminals rest column_is (found, a, inr (inr (_, b, w1, 
 after_to : (limits : Limits) (count : ℕ) (value : Item) (terminals rest : Terminals) → item_after (citem limits) limits count value terminals rest → item_after (gitem limits) limits count value terminals rest × is_column value ≡ true
 after_to limits count value terminals rest text = by (fits limits.items (count + 1)) text
   where
-    by : (answer : Bool) → whether answer (citem limits) (one slot_of) value terminals rest → whether answer (gitem limits) (one slot_of) value terminals rest × is_column value ≡ true
+    by : (answer : Bool) → whether answer (citem limits) (one SlotIs) value terminals rest → whether answer (gitem limits) (one SlotIs) value terminals rest × is_column value ≡ true
     by true text = citem_to limits value terminals rest text
-    by false (terminal, same, is) = ((terminal, same, is), slot-column terminal value is)
+    by false (terminal, same, is) = ((terminal, same, is), ap is_column is.value)
 
 after_from : (limits : Limits) (count : ℕ) (value : Item) (terminals rest : Terminals) → is_column value ≡ true → item_after (gitem limits) limits count value terminals rest → item_after (citem limits) limits count value terminals rest
 after_from limits count value terminals rest column_is text = by (fits limits.items (count + 1)) text
   where
-    by : (answer : Bool) → whether answer (gitem limits) (one slot_of) value terminals rest → whether answer (citem limits) (one slot_of) value terminals rest
+    by : (answer : Bool) → whether answer (gitem limits) (one SlotIs) value terminals rest → whether answer (citem limits) (one SlotIs) value terminals rest
     by true text = citem_from limits value terminals rest column_is text
     by false text = text
 

@@ -20,6 +20,8 @@ use Rattle.sql_reader.specs.reading.Rules as rules
 use Rattle.sql_reader.specs.reading.Select as select_rules
 use Rattle.grammar_model.specs.Terminal.{Terminal, Written, Slot, is_mark}
 use Rattle.sql_reader.specs.reading.Judges.{name_of}
+use Rattle.grammar_model.specs.Values.{SlotIs}
+use Rattle.sql_reader.proofs.Exactly.{slot_exactly}
 use Rattle.sql_reader.proofs.Changes.{with_more, same_readers}
 use Rattle.sql_reader.proofs.Choices.{LiftedJudge, one_terminal, mark_right, mark_tests, pure_right}
 use Rattle.sql_reader.proofs.Heads.{Head, AWord, AMark, AName, ASlot, among}
@@ -58,8 +60,8 @@ slots-kept lifts kept (Written kind text start) = by (name_of no_limits (Written
     by (Err fault) = refl
 
 -- where the limit is kept
-slot_kept : (lifts : LimitName → Bool) → lifts limit.Items ≡ false → Right lifts (accept slot_of) (accept slot_of) (one slot_of) (ASlot ∷ []) false []
-slot_kept lifts kept = one_terminal slot_of slot_of (ASlot ∷ []) slot_item Slot refl slots-begin (slots-kept lifts kept)
+slot_kept : (lifts : LimitName → Bool) → lifts limit.Items ≡ false → Right lifts (accept slot_of) (accept slot_of) (one SlotIs) (ASlot ∷ []) false []
+slot_kept lifts kept = one_terminal SlotIs slot_of slot_of slot_exactly (ASlot ∷ []) slot_item Slot refl slots-begin (slots-kept lifts kept)
 
 module _ (lifts : LimitName → Bool) (limits : Limits) (fair : Fair limits) where
   -- what comes after the first name of an item
@@ -95,7 +97,7 @@ module _ (lifts : LimitName → Bool) (limits : Limits) (fair : Fair limits) whe
   slots-lifted free (Written Mark text start ∷ rest) real = refl
 
   -- where the limit is lifted
-  slot_freed : lifts limit.Items ≡ true → Right lifts (accept slot_of) (select_rules.item (lift lifts limits)) (one slot_of) (AName ∷ ASlot ∷ []) false after_item
+  slot_freed : lifts limit.Items ≡ true → Right lifts (accept slot_of) (select_rules.item (lift lifts limits)) (one SlotIs) (AName ∷ ASlot ∷ []) false after_item
   slot_freed free =
       let kept = with_more (AName ∷ ASlot ∷ []) false after_item (slot_kept (λ _. false) refl) refl (λ is. is) refl in
       record {
@@ -125,20 +127,20 @@ module _ (lifts : LimitName → Bool) (limits : Limits) (fair : Fair limits) whe
       by_free : (free : Bool) → lifts limit.Items ≡ free →
           Right lifts (if fits limits.items (count + 1) then select_rules.item limits else accept slot_of)
           (if fits (if free then None else limits.items) (count + 1) then select_rules.item (lift lifts limits) else accept slot_of)
-          (whether (fits limits.items (count + 1)) (grammar.gitem limits) (one slot_of))
+          (whether (fits limits.items (count + 1)) (grammar.gitem limits) (one SlotIs))
           (AName ∷ ASlot ∷ []) false after_item
       by_free true is = by (fits limits.items (count + 1))
         where
           by : (answer : Bool) →
               Right lifts (if answer then select_rules.item limits else accept slot_of) (select_rules.item (lift lifts limits))
-              (whether answer (grammar.gitem limits) (one slot_of)) (AName ∷ ASlot ∷ []) false after_item
+              (whether answer (grammar.gitem limits) (one SlotIs)) (AName ∷ ASlot ∷ []) false after_item
           by true = an_item
           by false = slot_freed is
       by_free false is = by (fits limits.items (count + 1))
         where
           by : (answer : Bool) →
               Right lifts (if answer then select_rules.item limits else accept slot_of) (if answer then select_rules.item (lift lifts limits) else accept slot_of)
-              (whether answer (grammar.gitem limits) (one slot_of)) (AName ∷ ASlot ∷ []) false after_item
+              (whether answer (grammar.gitem limits) (one SlotIs)) (AName ∷ ASlot ∷ []) false after_item
           by true = an_item
           by false = with_more (AName ∷ ASlot ∷ []) false after_item (slot_kept lifts is) refl (λ is. is) refl
 

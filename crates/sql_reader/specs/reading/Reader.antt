@@ -3,11 +3,9 @@
 use Rattle.std.specs.Prelude.{◌≡◌, ◌≤◌, ℕ, zero, suc, Bool, false, List, [], ◌∷◌, ◌++◌, length, Option, None, Some, Result, Ok, Err, if◌then◌else◌}
 use Rattle.sql_reader.specs.declared.fault.RuleFault.{RuleFault}
 use Rattle.sql_reader.specs.declared.fault.RuleFault.TheVariants.{Syntax, Limit, Memory}
-use Rattle.grammar_model.specs.Terminal.{Terminal}
+use Rattle.grammar_model.specs.Terminal.{Terminal, Terminals}
 
-abbrev pub Terminals : Type 0
-Terminals = List Terminal
-
+-- what came of it
 abbrev pub Reading : Type 0 → Type 0
 Reading A = Result (A × Terminals) (RuleFault × Terminals)
 

@@ -1,5 +1,6 @@
 -- What the reading rules give for all terminals of a text.
 use Rattle.std.specs.Prelude.{[], ◌∷◌, Ok, Err}
+use Rattle.own_model.specs.declared.limit.TheConstants.{NESTING_LEVELS}
 use Rattle.own_model.specs.declared.statement.Statement.{Statement}
 use Rattle.sql_reader.specs.declared.fault.RuleFault.TheVariants as fault
 use Rattle.grammar_model.specs.Limits.{store_limits}
@@ -14,6 +15,6 @@ ended (terminal ∷ rest) = Err (fault.Syntax, terminal ∷ rest)
 -- a statement, and nothing after it
 unfoldable pub whole : Reader Statement
 whole = do
-  found ← statement_rule store_limits 64
+  found ← statement_rule store_limits NESTING_LEVELS
   ended
   pure found

@@ -8,5 +8,5 @@ use Rattle.sql_reader.proofs.select.item_after.Goals as goal
 
 pub returns : goal.returns
 returns c =
-    Does-same (item_after store_limits c.args.count) (accept slot_of) c.args.cursor.now (Err c.no_item.result) c.args.cursor.now (item_after-full c.args.count c.args.cursor.now c.if-count-lt64.false)
+    Does-same (item_after store_limits c.args.count) (accept slot_of) c.args.cursor.now (Err c.no_item.result) c.args.cursor.now (item_after-full c.args.count c.args.cursor.now c.if-count-lt-SELECT_ITEMS.false)
     (Does-fault (accept slot_of) c.args.cursor.now c.no_item.result c.args.cursor.now c.no_item.ensures)
