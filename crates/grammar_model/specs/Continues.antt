@@ -9,7 +9,8 @@ use Rattle.grammar_model.specs.Grammar.{statement}
 use Rattle.grammar_model.specs.Limits.{Limits, store_limits, no_limits}
 use Rattle.grammar_model.specs.Terminal.{Terminals}
 
--- some statement is written with the same first terminals, that many of them; past the last terminal: with these and no more
+-- some statement is written with the same first terminals, that many of them; past the last terminal: with these and
+-- no more
 pub record Continues (limits : Limits) (levels : ℕ) (terminals : Terminals) (count : ℕ) : Type 0 where
   pub found : Statement
   pub spelling : Terminals

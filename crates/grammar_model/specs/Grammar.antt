@@ -1,5 +1,5 @@
--- The grammar of statements, from the smallest rule up: what each rule says of a text's terminals. After the dashes stands
--- the rule as a grammar is written: {x} is any number of x, [x] is one or none.
+-- The grammar of statements, from the smallest rule up: what each rule says of a text's terminals. After the dashes
+-- stands the rule as a grammar is written: {x} is any number of x, [x] is one or none.
 use Rattle.std.specs.Prelude.{ℕ, zero, suc, ◌+◌, Bool, true, false, ℤ, List, ◌∷◌, Option, None, codes}
 use Rattle.own_base.specs.declared.value.Key.{Key}
 use Rattle.own_base.specs.declared.value.Value.{Value}

@@ -32,7 +32,7 @@ abbrev pub ◌or◌ : {A : Type 0} → Language A → Language A → Language A
 abbrev pub optional : {A : Type 0} → Language A → Language (Option A)
 optional language = (language >>= λ found. pure (Some found)) or pure None
 
--- {x}, where what may stand at a place may hang on how many stand before it
+-- {x}, where what may stand at a place may depend on how many stand before it
 abbrev pub many_from : {A : Type 0} → (ℕ → Language A) → ℕ → Language (List A)
 many_from languages count [] terminals rest = terminals ≡ rest
 many_from languages count (value ∷ values) terminals rest = (middle : Terminals) × languages count value terminals middle × many_from languages (count + 1) values middle rest

@@ -54,7 +54,7 @@ fills_once (filler ∷ fillers) (other ∷ others) bytes after behind one two en
     let same = filler_once filler other one.0 two.0 (sym one.1 ∙ two.1) one.2 two.2 in
     fills_once fillers others one.0 after behind one.3 (subst (λ l. Fills others l behind) (sym same) two.3) ends stops
 
--- behind white space and comments one thing follows
+-- after white space and comments one thing follows
 pub Skips-once : (bytes after behind : List ℕ) → Skips bytes after → Skips bytes behind → after ≡ behind
 Skips-once bytes after behind one two = fills_once one.fillers two.fillers bytes after behind one.fills two.fills one.no_more two.no_more
 

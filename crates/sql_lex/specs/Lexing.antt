@@ -11,7 +11,7 @@ pub record Lexing : Type 0 where
   pub text : List ℕ
   pub at : ℕ
 
--- behind white space and comments the next token, or the end, stands at this byte
+-- after white space and comments the next token, or the end, stands at this byte
 pub record NextStandsAt (lexing : Lexing) (place : ℕ) : Type 0 where
   pub onward : lexing.at ≤ place
   pub within : place ≤ length lexing.text

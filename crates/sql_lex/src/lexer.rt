@@ -66,7 +66,7 @@ impl<'a> Lexer<'a> {
         Lexer { text, at: 0 }
     }
 
-    /// The next token, behind white space and comments, or `None` at the end. The error is the byte at which no
+    /// The next token, after white space and comments, or `None` at the end. The error is the byte at which no
     /// token begins, or the quote of a text that isn't closed. Takes no memory.
     pub fn next(&mut self) -> Result<Option<Token<'a>>, SyntaxAt>
         ensures answer { IsNextAnswer self.old result }

@@ -7,7 +7,7 @@ ghost use Rattle.sql_reader.specs.reading.Condition as rules;
 
 use crate::cursor::Cursor;
 use crate::fault::RuleFault;
-use crate::list::{add, list_of_one};
+use crate::list::list_of_one;
 use crate::rule::{col, literal};
 use own_base::{Boxed, List};
 use own_model::{Cmp, ColRef, Cond, LimitName, NESTING_LEVELS, Operand};
@@ -124,7 +124,7 @@ fn conj_parts(cursor: &mut Cursor, alloc: Global, levels: u32) -> Result<List<Co
     while cursor.next_is_word(b"AND") {
         cursor.word(b"AND")?;
         let part = neg(cursor, alloc, levels)?;
-        add(&mut parts, part)?;
+        parts.add(part)?;
     }
     Ok(parts)
 }
@@ -150,7 +150,7 @@ fn cond_parts(cursor: &mut Cursor, alloc: Global, levels: u32) -> Result<List<Co
     while cursor.next_is_word(b"OR") {
         cursor.word(b"OR")?;
         let part = conj(cursor, alloc, levels)?;
-        add(&mut parts, part)?;
+        parts.add(part)?;
     }
     Ok(parts)
 }

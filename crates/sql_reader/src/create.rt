@@ -7,7 +7,7 @@ ghost use Rattle.sql_reader.specs.reading.Reader.{next_is};
 
 use crate::cursor::Cursor;
 use crate::fault::RuleFault;
-use crate::list::{add, list_of_one};
+use crate::list::list_of_one;
 use crate::rule::{bracketed_names, one_name};
 use crate::select::query;
 use own_base::{List, Name};
@@ -115,7 +115,7 @@ fn attrs(cursor: &mut Cursor, alloc: Global) -> Result<List<Attr>, RuleFault>
             Ok(attr) => attr,
             Err(fault) => return Err(fault),
         };
-        add(&mut attrs, attr)?;
+        attrs.add(attr)?;
     }
     Ok(attrs)
 }
@@ -223,7 +223,7 @@ fn listed_parts(cursor: &mut Cursor, alloc: Global) -> Result<List<Part>, RuleFa
     while cursor.next_is_mark(b",") {
         cursor.mark(b",")?;
         let next = part(cursor, alloc)?;
-        add(&mut parts, next)?;
+        parts.add(next)?;
     }
     Ok(parts)
 }

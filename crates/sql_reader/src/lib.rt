@@ -17,4 +17,3 @@ mod tokens;
 
 pub use fault::ReadFault;
 pub use read::read_statement;
-

@@ -161,8 +161,8 @@ fn split_at_quote(text: &str) -> Option<(&str, &str)>
 
 /// What comes after a quote at the front.
 fn after_quote(text: &str) -> Option<&str>
-    ensures found { IfSome result (λ behind. text.now ≡ 39 ∷ behind.now) }
-    ensures texts { IfSome result (λ behind. IsUtf8 behind.now) }
+    ensures found { IfSome result (λ after. text.now ≡ 39 ∷ after.now) }
+    ensures texts { IfSome result (λ after. IsUtf8 after.now) }
     ensures none { IfNone result (first_passes (λ byte. byte == 39) text.now ≡ false) }
 {
     let bytes = text.as_bytes();

@@ -4,7 +4,7 @@ ghost use Rattle.sql_reader.specs.reading.Rules as rules;
 
 use crate::cursor::Cursor;
 use crate::fault::RuleFault;
-use crate::list::{add, list_of_one};
+use crate::list::list_of_one;
 use own_base::{List, Name, Value};
 use own_model::{ColRef, Expr};
 use std::alloc::Global;
@@ -31,7 +31,7 @@ pub fn names(cursor: &mut Cursor, alloc: Global) -> Result<List<Name>, RuleFault
     while cursor.next_is_mark(b",") {
         cursor.mark(b",")?;
         let name = cursor.name(alloc)?;
-        add(&mut names, name)?;
+        names.add(name)?;
     }
     Ok(names)
 }
@@ -124,7 +124,7 @@ pub fn values(cursor: &mut Cursor, alloc: Global) -> Result<List<Value>, RuleFau
     while cursor.next_is_mark(b",") {
         cursor.mark(b",")?;
         let value = literal(cursor, alloc)?;
-        add(&mut values, value)?;
+        values.add(value)?;
     }
     Ok(values)
 }

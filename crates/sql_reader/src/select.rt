@@ -8,7 +8,7 @@ ghost use Rattle.sql_reader.specs.reading.Select as rules;
 use crate::condition::condition;
 use crate::cursor::Cursor;
 use crate::fault::RuleFault;
-use crate::list::{add, list_of_one};
+use crate::list::list_of_one;
 use crate::rule::{col, col_after};
 use own_base::{List, Name};
 use own_model::{ColRef, Item, Items, Join, Order, SELECT_ITEMS, Select, What};
@@ -102,7 +102,7 @@ fn listed(cursor: &mut Cursor, alloc: Global) -> Result<List<Item>, RuleFault>
             Ok(next) => next,
             Err(fault) => return Err(fault),
         };
-        add(&mut items, next)?;
+        items.add(next)?;
     }
     Ok(items)
 }

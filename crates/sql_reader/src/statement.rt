@@ -8,7 +8,7 @@ use crate::condition::condition;
 use crate::create::create;
 use crate::cursor::Cursor;
 use crate::fault::RuleFault;
-use crate::list::{add, list_of_one};
+use crate::list::list_of_one;
 use crate::rule::{bracketed_names, expr, int, tuple};
 use crate::select::select;
 use own_base::{Key, List, Name, Value};
@@ -25,7 +25,7 @@ fn tuples(cursor: &mut Cursor, alloc: Global) -> Result<List<List<Value>>, RuleF
     while cursor.next_is_mark(b",") {
         cursor.mark(b",")?;
         let row = tuple(cursor, alloc)?;
-        add(&mut rows, row)?;
+        rows.add(row)?;
     }
     Ok(rows)
 }
@@ -81,7 +81,7 @@ fn sets(cursor: &mut Cursor, alloc: Global) -> Result<List<(Name, Expr)>, RuleFa
     while cursor.next_is_mark(b",") {
         cursor.mark(b",")?;
         let next = set(cursor, alloc)?;
-        add(&mut sets, next)?;
+        sets.add(next)?;
     }
     Ok(sets)
 }

@@ -1,5 +1,5 @@
--- How the reader goes over the terminals: what it reads and the terminals after it, or the fault and the terminals from the
--- fault on.
+-- How the reader goes over the terminals: what it reads and the terminals after it, or the fault and the terminals
+-- from the fault on.
 use Rattle.std.specs.Prelude.{◌≡◌, ◌≤◌, ℕ, zero, suc, Bool, false, List, [], ◌∷◌, ◌++◌, length, Option, None, Some, Result, Ok, Err, if◌then◌else◌}
 use Rattle.sql_reader.specs.declared.fault.RuleFault.{RuleFault}
 use Rattle.sql_reader.specs.declared.fault.RuleFault.TheVariants.{Syntax, Limit, Memory}
@@ -56,12 +56,12 @@ either test first second terminals = if next_is test terminals then first termin
 abbrev pub optional : {A : Type 0} → (Terminal → Bool) → Reader A → Reader (Option A)
 optional test reader = either test (reader >>= λ read. pure (Some read)) (pure None)
 
--- the rule as often as the first terminal passes, but no more often than that many times
+-- the rule as often as the first terminal passes, at most that many times
 abbrev pub up_to : {A : Type 0} → ℕ → (Terminal → Bool) → Reader A → Reader (List A)
 up_to zero test reader = pure []
 up_to (suc count) test reader = either test (reader >>= λ read. up_to count test reader >>= λ more. pure (read ∷ more)) (pure [])
 
--- the rule as often as the first terminal passes: no more often than there are terminals
+-- the rule as often as the first terminal passes
 abbrev pub many : {A : Type 0} → (Terminal → Bool) → Reader A → Reader (List A)
 many test reader terminals = up_to (length terminals) test reader terminals
 

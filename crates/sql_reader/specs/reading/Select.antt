@@ -58,7 +58,7 @@ item limits = do
 unfoldable pub item_after : Limits → ℕ → Reader Item
 item_after limits count = if fits limits.items (count + 1) then item limits else accept slot_of
 
--- {, gitem} after that many others, no more often than that many times
+-- {, gitem} after that many others, at most as many times as given
 unfoldable pub items_after : ℕ → Limits → ℕ → Reader (List Item)
 items_after zero limits count = pure []
 items_after (suc times) limits count = either (is_mark (codes ",")) (do

@@ -1,6 +1,6 @@
 ghost use Rattle.std.specs.Prelude.{◌<◌, length};
 
-use crate::{Lexer, SyntaxAt, TokenKind};
+use sql_lex::{Lexer, SyntaxAt, TokenKind};
 use std::alloc::Global;
 use std::test::Fail;
 
