@@ -1,9 +1,9 @@
 -- Which requests the answers for texts give.
-use Rattle.std.proofs.Common.{◌≡◌, ◌≤◌, ℕ, List, length}
+use Rattle.std.proofs.Common.{◌≤◌, ℕ, List, length}
 use Rattle.own_model.specs.declared.limit.LimitName.{LimitName}
 use Rattle.own_model.specs.declared.limit.LimitName.TheVariants as limit
 use Rattle.own_model.specs.declared.limit.TheConstants.{STATEMENT_BYTES}
-use Rattle.grammar_model.specs.Answer.{Answer, IsAnswer, IsAnswerFor, GivesStatement, StopsAt, PassesLimit}
+use Rattle.grammar_model.specs.Answer.{Answer, IsAnswer, GivesStatement, StopsAt, PassesLimit}
 use Rattle.grammar_model.specs.Continues.{IsLimitAt}
 use Rattle.grammar_model.specs.Readable.{IsReadable, IsLimitOfTexts, request_of}
 use Rattle.grammar_model.specs.Terminal.{Terminals}

@@ -3,6 +3,8 @@
 ghost use Rattle.std.specs.Prelude.{◌<◌, ◌^◌, length};
 
 use crate::check::{Answer, answer_of};
+use own_base::MakeCopy;
+use own_model::Statement;
 use sql_reader::read_statement;
 use std::alloc::Global;
 use std::mem::drop;
@@ -255,6 +257,27 @@ fn told(alloc: Global, text: &str) -> Result<String, Fail>
     }
 }
 
+/// The copy of the CREATE TABLE that is read, as its derived text.
+fn copy_told(alloc: Global, text: &str) -> Result<String, Fail>
+    requires { length text.now < 2 ^ 32 }
+{
+    match read_statement(alloc, text) {
+        Ok(Statement::CreateTable(create)) => {
+            let copied = create.copy(alloc)?;
+            drop(create);
+            let statement = Statement::CreateTable(copied);
+            let told = format!(in alloc; "{statement:?}");
+            drop(statement);
+            Ok(told?)
+        }
+        Ok(statement) => {
+            drop(statement);
+            Ok(format!(in alloc; "no CREATE TABLE")?)
+        }
+        Err(fault) => Ok(format!(in alloc; "{fault:?}")?),
+    }
+}
+
 /// The derived text that a row stands for.
 fn written_out(alloc: Global, row: &str) -> Result<String, Fail> {
     let mut text = String::new(alloc);
@@ -300,6 +323,17 @@ fn check_pairs(
             same,
             "{left}, {right}"
         );
+    }
+    Ok(())
+}
+
+#[test]
+fn copies_are_the_same(rt: HostRuntime) -> Result<(), Fail> {
+    for (text, wanted) in &CREATES[..3] {
+        assert!(rt; text.len() < 1000);
+        let told = copy_told(rt.alloc(), text)?;
+        let wanted = written_out(rt.alloc(), wanted)?;
+        assert_eq!(rt; told.as_str(), wanted.as_str(), "{text}");
     }
     Ok(())
 }

@@ -1,12 +1,11 @@
 -- The rules of one terminal.
-use Rattle.std.proofs.Common.{◌≡◌, ℕ, Bool, true, false, List, [], ◌∷◌, length, map, Result, Ok, Err, refl, ap, inl, inr, codes}
-use Rattle.std.specs.Prelude.{◌==◌, ◌^◌, ◌-◌, nat_le, ℤ, if◌then◌else◌, Option, None, Some}
+use Rattle.std.proofs.Common.{◌≡◌, ℕ, Bool, true, false, List, [], ◌∷◌, length, map, Ok, Err, refl, ap, inl, inr, codes}
+use Rattle.std.specs.Prelude.{◌^◌, ◌-◌, nat_le, ℤ, if◌then◌else◌, Option, None, Some}
 use Rattle.std.specs.Char.{to_ascii_lowercase}
 use Rattle.own_base.specs.Name.{is_spelled}
 use Rattle.own_model.specs.declared.limit.LimitName.{LimitName}
 use Rattle.own_model.specs.declared.limit.LimitName.TheVariants as limit
 use Rattle.sql_lex.specs.declared.token.TokenKind.TheVariants.{Name, Keyword, Number, Quoted, Mark}
-use Rattle.sql_reader.specs.declared.fault.RuleFault.{RuleFault}
 use Rattle.sql_reader.specs.declared.fault.RuleFault.TheVariants.{Syntax, Limit}
 use Rattle.grammar_model.specs.Grammar as grammar
 use Rattle.grammar_model.specs.Limits.{Limits, fits}

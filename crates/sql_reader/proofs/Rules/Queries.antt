@@ -1,9 +1,8 @@
 -- A select, as it is read: plain and grouped ones begin alike.
-use Rattle.std.proofs.Common.{◌≡◌, ℕ, Bool, true, false, List, [], ◌∷◌, Result, Ok, Err, refl, sym, ap, ◌∙◌, subst, inl, inr, codes}
+use Rattle.std.proofs.Common.{◌≡◌, ℕ, Bool, true, false, List, [], ◌∷◌, refl, sym, ap, ◌∙◌, subst, inl, inr, codes}
 use Rattle.std.specs.Prelude.{◌⊎◌, ◌+◌, ◌&&◌, not, Option, None, Some}
 use Rattle.std.specs.List.{list_all}
 use Rattle.std.proofs.lemmas.Bool.{false≢true}
-use Rattle.own_model.specs.declared.limit.LimitName.TheVariants as limit
 use Rattle.own_model.specs.declared.condition.Cond.{Cond}
 use Rattle.own_model.specs.declared.select.ColRef.{ColRef}
 use Rattle.own_model.specs.declared.select.Item.{Item}
@@ -12,10 +11,9 @@ use Rattle.own_model.specs.declared.select.Join.{Join}
 use Rattle.own_model.specs.declared.select.Select.{Select}
 use Rattle.grammar_model.specs.Grammar.{name, col, citem, gitem, item_after, items, join, condition, plain, grouped}
 use Rattle.grammar_model.specs.Language.{Language, one, ◌>>=◌, ◌>>◌, ◌or◌, pure, optional, many_from, word, mark, whether}
-use Rattle.grammar_model.specs.Limits.{Limits, fits, no_limits}
+use Rattle.grammar_model.specs.Limits.{Limits, fits}
 use Rattle.grammar_model.specs.Terminal.{Terminals}
 use Rattle.sql_reader.specs.reading.Select.{is_plain, is_listed, is_column}
-use Rattle.grammar_model.specs.Terminal.{Terminal, Written, Slot}
 use Rattle.sql_reader.proofs.Changes.{Into}
 use Rattle.sql_reader.proofs.Heads.{both}
 use Rattle.grammar_model.specs.Parts.{is_there}

@@ -1,5 +1,5 @@
-use Rattle.std.proofs.Common.{◌≡◌, ◌<◌, ◌++◌, ◌∷◌, [], ℕ, List, length, sym, ap, ◌∙◌, arith, false-eqb}
-use Rattle.std.specs.Prelude.{string_bytes, Some}
+use Rattle.std.proofs.Common.{◌≡◌, ◌<◌, ◌++◌, ◌∷◌, [], length, sym, ap, ◌∙◌, arith, false-eqb}
+use Rattle.std.specs.Prelude.{Some}
 use Rattle.sql_reader.proofs.Literals.{prefixed, inside-pair, inside-end, inside-more, inside-open, no_bytes}
 use Rattle.sql_reader.specs.reading.Judges.{inside}
 use Rattle.std.proofs.Common.{false}
