@@ -8,7 +8,7 @@ use Rattle.std.proofs.lemmas.Bool.Decides.{Decides-eqb}
 use Rattle.sql_lex.specs.Bytes.{is_space}
 use Rattle.sql_lex.specs.Filler.{Filler, Space, Comment, bytes_of, IsFiller, Fills, EndsLine, FrontFiller}
 
--- two dashes, and so many bytes of their line, are a comment
+-- two dashes, and that many bytes of their line, are a comment
 pub comment_at_front : (bytes rest : List ℕ) (len : ℕ) → starts_with nat_eq bytes (45 ∷ 45 ∷ []) ≡ true → rest ≡ drop 2 bytes → All (λ byte. byte ≢ 10) (take len rest) → EndsLine (drop len rest) → FrontFiller bytes (2 + len)
 comment_at_front bytes rest len dashes same line_of ends_of =
     let line = subst (λ l. All (λ byte. byte ≢ 10) (take len l)) same line_of in

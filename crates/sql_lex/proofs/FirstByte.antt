@@ -73,7 +73,7 @@ quoted-last value =
     let place : length (quoted value) - 1 ≡ length (39 ∷ doubled value) = omega (arith, length-append (doubled value) (39 ∷ [])) in
     ap (λ n. get_or (quoted value) n 0) place ∙ get_or-append_seam (39 ∷ doubled value) 39 [] 0
 
--- behind a quote a text that is closed is a token
+-- after a quote a text that is closed is a token
 pub quoted-scans : (bytes rest : List ℕ) (len : ℕ) → 0 < length bytes → get_or bytes 0 0 ≡ 39 → rest ≡ drop 1 bytes → Closes rest len → Scans bytes Quoted (1 + len)
 quoted-scans [] rest len some quote behind closes = absurd (omega arith)
 quoted-scans (byte ∷ bytes) rest len some quote behind closes =
@@ -82,7 +82,7 @@ quoted-scans (byte ∷ bytes) rest len some quote behind closes =
     (λ i. quote i ∷ (sym behind ∙ closes.split ∙ sym (append_assoc (doubled closes.value) (39 ∷ []) closes.after)) i)
     (omega arith) (closes.value, refl) closes.whole (omega arith) (subst (λ b. b < 128) (sym (quoted-last closes.value)) (omega arith)))
 
--- a text in quotes at the front is closed behind its first quote
+-- a text in quotes at the front is closed after its first quote
 pub quoted-closes : (bytes rest token after : List ℕ) → rest ≡ drop 1 bytes → Begins Quoted bytes token after → (len : ℕ) × Closes rest len
 quoted-closes bytes rest token after behind begins =
     let value = begins.spelled.0 in (

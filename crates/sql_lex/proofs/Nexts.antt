@@ -7,7 +7,7 @@ use Rattle.sql_lex.specs.Filler.{Skips}
 use Rattle.sql_lex.specs.Lexing.{Lexing, IsNext}
 use Rattle.sql_lex.specs.Tokens.{Begins, Scans}
 
--- behind what was skipped a token was found
+-- after what was skipped a token was found
 pub IsNext-found : (lexing : Lexing) (token : Token) (before rest : List ℕ) (skipped len : ℕ) → before ≡ drop lexing.at lexing.text → skipped ≤ length before → Skips before (drop skipped before) → token.start ≡ lexing.at + skipped → rest ≡ drop token.start lexing.text → token.end ≡ token.start + len → token.start ≤ length lexing.text → Scans rest token.kind len → token.text.now ≡ slice_range lexing.text token.start token.end → IsNext lexing token
 IsNext-found lexing token before rest skipped len before_is within skips start_is rest_is end_is start_within scans slice =
     record {

@@ -10,7 +10,7 @@ use Rattle.sql_lex.specs.declared.token.TokenKind.TheVariants.{Name, Keyword, Nu
 use Rattle.sql_lex.specs.Bytes.{is_space, begins_word, continues_word, first_passes}
 use Rattle.sql_lex.specs.declared.token.SyntaxAt.{SyntaxAt}
 use Rattle.sql_lex.specs.declared.token.Token.{Token}
-use Rattle.sql_lex.specs.Lexing.{Lexing, Stands, IsNext, IsAtEnd, IsFault, Answers, IsSameToken, SameAnswer}
+use Rattle.sql_lex.specs.Lexing.{Lexing, NextStandsAt, IsNext, IsAtEnd, IsFault, IsNextAnswer, IsSameToken, SameAnswer}
 use Rattle.sql_lex.specs.Filler.{Filler, Space, Comment, bytes_of, IsFiller, Fills, EndsLine, begins_filler, Skips}
 use Rattle.sql_lex.specs.Keywords.{is_keyword}
 use Rattle.sql_lex.specs.Tokens.{doubled, quoted, is_word, is_number, is_mark, goes_on, Begins}
@@ -54,7 +54,7 @@ fills_once (filler ∷ fillers) (other ∷ others) bytes after behind one two en
     let same = filler_once filler other one.0 two.0 (sym one.1 ∙ two.1) one.2 two.2 in
     fills_once fillers others one.0 after behind one.3 (subst (λ l. Fills others l behind) (sym same) two.3) ends stops
 
--- behind white space and comments one thing follows
+-- after white space and comments one thing follows
 pub Skips-once : (bytes after behind : List ℕ) → Skips bytes after → Skips bytes behind → after ≡ behind
 Skips-once bytes after behind one two = fills_once one.fillers two.fillers bytes after behind one.fills two.fills one.no_more two.no_more
 
@@ -202,27 +202,27 @@ Begins-once Mark Quoted bytes token other after behind first second =
     absurd (clash Mark Quoted bytes (begins-first Mark bytes token after first) (begins-first Quoted bytes other behind second) (λ byte x y. false≢true (sym (quote_no_mark byte y) ∙ x)))
 
 -- one place follows
-pub Stands-once : (lexing : Lexing) (place other : ℕ) → Stands lexing place → Stands lexing other → place ≡ other
-Stands-once lexing place other one two =
+pub NextStandsAt-once : (lexing : Lexing) (place other : ℕ) → NextStandsAt lexing place → NextStandsAt lexing other → place ≡ other
+NextStandsAt-once lexing place other one two =
     let same = Skips-once (drop lexing.at lexing.text) (drop place lexing.text) (drop other lexing.text) one.skips two.skips in
     omega (arith, ap length same, length-drop place lexing.text, length-drop other lexing.text, one.within, two.within)
 
 end-no_token : (lexing : Lexing) (token : Token) → IsAtEnd lexing → IsNext lexing token → ⊥
 end-no_token lexing token ends next =
-    omega (arith, Stands-once lexing (length lexing.text) token.start ends next.stands, next.onward, next.within)
+    omega (arith, NextStandsAt-once lexing (length lexing.text) token.start ends next.stands, next.onward, next.within)
 
 end-no_fault : (lexing : Lexing) (place : ℕ) → IsAtEnd lexing → IsFault lexing place → ⊥
-end-no_fault lexing place ends fault = omega (arith, Stands-once lexing (length lexing.text) place ends fault.stands, fault.within)
+end-no_fault lexing place ends fault = omega (arith, NextStandsAt-once lexing (length lexing.text) place ends fault.stands, fault.within)
 
 token-no_fault : (lexing : Lexing) (token : Token) (place : ℕ) → IsNext lexing token → IsFault lexing place → ⊥
 token-no_fault lexing token place next fault =
-    let same = Stands-once lexing token.start place next.stands fault.stands in
+    let same = NextStandsAt-once lexing token.start place next.stands fault.stands in
     fault.none token.kind token.text.now (drop token.end lexing.text)
     (subst (λ n. Begins token.kind (drop n lexing.text) token.text.now (drop token.end lexing.text)) same next.begins)
 
 token-once : (lexing : Lexing) (one other : Token) → IsNext lexing one → IsNext lexing other → IsSameToken one other
 token-once lexing one other first second =
-    let start = Stands-once lexing one.start other.start first.stands second.stands in
+    let start = NextStandsAt-once lexing one.start other.start first.stands second.stands in
     let moved = subst (λ n. Begins other.kind (drop n lexing.text) other.text.now (drop other.end lexing.text)) (sym start) second.begins in
     let same = Begins-once one.kind other.kind (drop one.start lexing.text) one.text.now other.text.now (drop one.end lexing.text) (drop other.end lexing.text) first.begins moved in
     let first_len = ap length first.begins.split in
@@ -234,13 +234,13 @@ token-once lexing one other first second =
     }
 
 -- two answers that are right say the same
-pub Answers-once : (lexing : Lexing) (one other : Result (Option Token) SyntaxAt) → Answers lexing one → Answers lexing other → SameAnswer one other
-Answers-once lexing (Ok None) (Ok None) first second = tt
-Answers-once lexing (Ok None) (Ok (Some other)) first second = end-no_token lexing other first second
-Answers-once lexing (Ok None) (Err other) first second = end-no_fault lexing other.0 first second
-Answers-once lexing (Ok (Some one)) (Ok None) first second = end-no_token lexing one second first
-Answers-once lexing (Ok (Some one)) (Ok (Some other)) first second = token-once lexing one other first second
-Answers-once lexing (Ok (Some one)) (Err other) first second = token-no_fault lexing one other.0 first second
-Answers-once lexing (Err one) (Ok None) first second = end-no_fault lexing one.0 second first
-Answers-once lexing (Err one) (Ok (Some other)) first second = token-no_fault lexing other one.0 second first
-Answers-once lexing (Err one) (Err other) first second = Stands-once lexing one.0 other.0 first.stands second.stands
+pub NextAnswer-once : (lexing : Lexing) (one other : Result (Option Token) SyntaxAt) → IsNextAnswer lexing one → IsNextAnswer lexing other → SameAnswer one other
+NextAnswer-once lexing (Ok None) (Ok None) first second = tt
+NextAnswer-once lexing (Ok None) (Ok (Some other)) first second = end-no_token lexing other first second
+NextAnswer-once lexing (Ok None) (Err other) first second = end-no_fault lexing other.0 first second
+NextAnswer-once lexing (Ok (Some one)) (Ok None) first second = end-no_token lexing one second first
+NextAnswer-once lexing (Ok (Some one)) (Ok (Some other)) first second = token-once lexing one other first second
+NextAnswer-once lexing (Ok (Some one)) (Err other) first second = token-no_fault lexing one other.0 first second
+NextAnswer-once lexing (Err one) (Ok None) first second = end-no_fault lexing one.0 second first
+NextAnswer-once lexing (Err one) (Ok (Some other)) first second = token-no_fault lexing other one.0 second first
+NextAnswer-once lexing (Err one) (Err other) first second = NextStandsAt-once lexing one.0 other.0 first.stands second.stands

@@ -33,12 +33,12 @@ Fills (filler ∷ fillers) bytes after =
 abbrev pub begins_filler : List ℕ → Bool
 begins_filler bytes = first_passes is_space bytes || starts_with nat_eq bytes (45 ∷ 45 ∷ [])
 
--- behind all white space and comments at the front, these bytes come next
+-- after all white space and comments at the front, these bytes come next
 pub record Skips (bytes after : List ℕ) : Type 0 where
   pub fillers : List Filler
   pub fills : Fills fillers bytes after
   pub no_more : begins_filler after ≡ false
 
--- so many bytes at the front are one filler
+-- that many bytes at the front are one filler
 abbrev pub FrontFiller : List ℕ → ℕ → Type 0
 FrontFiller bytes len = (filler : Filler) × (bytes ≡ bytes_of filler ++ drop len bytes) × IsFiller filler (drop len bytes)

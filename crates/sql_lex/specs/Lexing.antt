@@ -11,15 +11,15 @@ pub record Lexing : Type 0 where
   pub text : List ℕ
   pub at : ℕ
 
--- behind white space and comments the next token, or the end, stands at this byte
-pub record Stands (lexing : Lexing) (place : ℕ) : Type 0 where
+-- after white space and comments the next token, or the end, stands at this byte
+pub record NextStandsAt (lexing : Lexing) (place : ℕ) : Type 0 where
   pub onward : lexing.at ≤ place
   pub within : place ≤ length lexing.text
   pub skips : Skips (drop lexing.at lexing.text) (drop place lexing.text)
 
 -- the token that comes next: the slice of the text from its start to its end
 pub record IsNext (lexing : Lexing) (token : Token) : Type 0 where
-  pub stands : Stands lexing token.start
+  pub stands : NextStandsAt lexing token.start
   pub onward : token.start < token.end
   pub within : token.end ≤ length lexing.text
   pub slice : token.text.now ≡ slice_range lexing.text token.start token.end
@@ -27,19 +27,19 @@ pub record IsNext (lexing : Lexing) (token : Token) : Type 0 where
 
 -- no token comes any more
 abbrev pub IsAtEnd : Lexing → Type 0
-IsAtEnd lexing = Stands lexing (length lexing.text)
+IsAtEnd lexing = NextStandsAt lexing (length lexing.text)
 
 -- something stands at this byte, but no token begins there
 pub record IsFault (lexing : Lexing) (place : ℕ) : Type 0 where
-  pub stands : Stands lexing place
+  pub stands : NextStandsAt lexing place
   pub within : place < length lexing.text
   pub none : (kind : TokenKind) (token after : List ℕ) → Begins kind (drop place lexing.text) token after → ⊥
 
 -- what comes next: the end, a token, or a place at which no token begins
-abbrev pub Answers : Lexing → Result (Option Token) SyntaxAt → Type 0
-Answers lexing (Ok None) = IsAtEnd lexing
-Answers lexing (Ok (Some token)) = IsNext lexing token
-Answers lexing (Err fault) = IsFault lexing fault.0
+abbrev pub IsNextAnswer : Lexing → Result (Option Token) SyntaxAt → Type 0
+IsNextAnswer lexing (Ok None) = IsAtEnd lexing
+IsNextAnswer lexing (Ok (Some token)) = IsNext lexing token
+IsNextAnswer lexing (Err fault) = IsFault lexing fault.0
 
 -- the same kind at the same place
 pub record IsSameToken (one other : Token) : Type 0 where

@@ -57,7 +57,7 @@ pub record Begins (kind : TokenKind) (bytes token after : List ℕ) : Type 0 whe
   pub spelled : IsSpelled kind token
   pub whole : first_passes (goes_on kind token) after ≡ false
 
--- a text begins with a token of so many bytes, of which the first and the last are ASCII
+-- a text begins with a token of that many bytes, of which the first and the last are ASCII
 pub record Scans (bytes : List ℕ) (kind : TokenKind) (len : ℕ) : Type 0 where
   pub some : 0 < len
   pub within : len ≤ length bytes
@@ -65,7 +65,7 @@ pub record Scans (bytes : List ℕ) (kind : TokenKind) (len : ℕ) : Type 0 wher
   pub first : slice_index bytes 0 < 128
   pub last : slice_index bytes (len - 1) < 128
 
--- behind an opening quote: so many bytes go up to and with the quote that closes the text
+-- after an opening quote: that many bytes go up to and with the quote that closes the text
 pub record Closes (bytes : List ℕ) (len : ℕ) : Type 0 where
   pub value : List ℕ
   pub after : List ℕ

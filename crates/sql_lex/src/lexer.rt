@@ -1,5 +1,5 @@
 ghost use Rattle.std.specs.Prelude.{◌≡◌, ◌+◌, ◌-◌, ◌<◌, ◌≤◌, ◌^◌, length, slice_index, slice_range, Option, Result, OnErr, IfOk, MatchOption};
-ghost use Rattle.sql_lex.specs.Lexing.{Answers, SameAnswer};
+ghost use Rattle.sql_lex.specs.Lexing.{IsNextAnswer, SameAnswer};
 
 use crate::filler::skip;
 use crate::scan::scan;
@@ -39,7 +39,7 @@ fn slice(text: &str, start: usize, end: usize) -> &str
 fn token_at(text: &str, at: usize) -> Result<Option<Token<'_>>, SyntaxAt>
     requires within { at ≤ length text.now }
     requires short { length text.now < 2 ^ 32 }
-    ensures { Answers (record { text = text.now; at = at }) result }
+    ensures { IsNextAnswer (record { text = text.now; at = at }) result }
 {
     let bytes = text.as_bytes();
     let start = at + skip(&bytes[at..]);
@@ -66,12 +66,12 @@ impl<'a> Lexer<'a> {
         Lexer { text, at: 0 }
     }
 
-    /// The next token, behind white space and comments, or `None` at the end. The error is the byte at which no
+    /// The next token, after white space and comments, or `None` at the end. The error is the byte at which no
     /// token begins, or the quote of a text that isn't closed. Takes no memory.
     pub fn next(&mut self) -> Result<Option<Token<'a>>, SyntaxAt>
-        ensures answer { Answers self.old result }
+        ensures answer { IsNextAnswer self.old result }
         // No other answer would be right: each comes exactly where what it says holds.
-        ensures only { (other : Result (Option Token) SyntaxAt) → Answers self.old other → SameAnswer result other }
+        ensures only { (other : Result (Option Token) SyntaxAt) → IsNextAnswer self.old other → SameAnswer result other }
         // Only a token moves the lexer, which then stands where the token ends.
         ensures moved { IfOk result (λ found. MatchOption found (self.new ≡ self.old) (λ token. self.new ≡ record self.old { at = token.end })) }
         ensures unchanged { OnErr result (self.new ≡ self.old) }

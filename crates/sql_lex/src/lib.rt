@@ -11,6 +11,3 @@ mod token;
 
 pub use lexer::Lexer;
 pub use token::{SyntaxAt, Token, TokenKind};
-
-#[cfg(test)]
-mod tests;

@@ -3,7 +3,7 @@ ghost use Rattle.sql_lex.specs.Tokens.{Closes};
 
 const QUOTE: u8 = b'\'';
 
-/// Of the bytes behind an opening quote: how many come up to and with the quote that closes the text.
+/// Of the bytes after an opening quote: how many come up to and with the quote that closes the text.
 pub fn closed_len(bytes: &[u8]) -> Option<usize>
     ensures found { IfSome result (λ len. Closes bytes.now len) }
     ensures none { IfNone result ((len : ℕ) → Closes bytes.now len → ⊥) }

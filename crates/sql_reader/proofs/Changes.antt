@@ -5,12 +5,13 @@ use Rattle.std.specs.Str.{bytes_eq}
 use Rattle.std.proofs.lemmas.Bool.{false≢true}
 use Rattle.std.proofs.lemmas.Slice.Eq.{bytes_eq-Decides}
 use Rattle.own_model.specs.declared.limit.LimitName.{LimitName}
-use Rattle.sql_reader.specs.Reading.{Tokens, Outcome, Reader, next_is, then_read, pure, up_to, many}
-use Rattle.sql_reader.specs.Token.{Token}
-use Rattle.sql_reader.specs.Language.{Language, whether, many_from}
-use Rattle.sql_reader.specs.Language as grammar
+use Rattle.grammar_model.specs.Terminal.{Terminals}
+use Rattle.sql_reader.specs.reading.Reader.{Reading, Reader, next_is, then_read, pure, up_to, many}
+use Rattle.grammar_model.specs.Terminal.{Terminal}
+use Rattle.grammar_model.specs.Language.{Language, whether, many_from}
+use Rattle.grammar_model.specs.Language as grammar
 use Rattle.sql_reader.proofs.Heads.{Head, AWord, AMark, AName, ANumber, AQuoted, ASlot, is_head, among, apart, NoneNext, OneNext, both}
-use Rattle.sql_reader.proofs.Right.{Means, Begins, Right, reads_both}
+use Rattle.sql_reader.proofs.ReaderRight.{Means, Begins, Right, reads_both}
 use Rattle.sql_reader.proofs.Repeats.{up_from, as_often_from}
 
 -- one head is the other
@@ -45,49 +46,49 @@ either_true : (a b : Bool) → (a || b) ≡ true → (a ≡ true) ⊎ (b ≡ tru
 either_true true b is = inl refl
 either_true false b is = inr is
 
-is_in-among : (head : Head) (others : List Head) (token : Token) → is_in head others ≡ true → is_head head token ≡ true → among others token ≡ true
-is_in-among head [] token inside is = absurd (false≢true inside)
-is_in-among head (other ∷ others) token inside is = by (λ later. is_in-among head others token later is) (either_true (same_head head other) (is_in head others) inside)
+is_in-among : (head : Head) (others : List Head) (terminal : Terminal) → is_in head others ≡ true → is_head head terminal ≡ true → among others terminal ≡ true
+is_in-among head [] terminal inside is = absurd (false≢true inside)
+is_in-among head (other ∷ others) terminal inside is = by (λ later. is_in-among head others terminal later is) (either_true (same_head head other) (is_in head others) inside)
   where
     or_right : (a b : Bool) → b ≡ true → (a || b) ≡ true
     or_right true b is = refl
     or_right false b is = is
 
-    by : (is_in head others ≡ true → among others token ≡ true) → (same_head head other ≡ true) ⊎ (is_in head others ≡ true) → (is_head other token || among others token) ≡ true
-    by later (inl same) = ap (λ b. b || among others token) (ap (λ h. is_head h token) (sym (same-heads head other same)) ∙ is)
-    by later (inr more) = or_right (is_head other token) (among others token) (later more)
+    by : (is_in head others ≡ true → among others terminal ≡ true) → (same_head head other ≡ true) ⊎ (is_in head others ≡ true) → (is_head other terminal || among others terminal) ≡ true
+    by later (inl same) = ap (λ b. b || among others terminal) (ap (λ h. is_head h terminal) (sym (same-heads head other same)) ∙ is)
+    by later (inr more) = or_right (is_head other terminal) (among others terminal) (later more)
 
-all_in-among : (heads others : List Head) (token : Token) → all_in heads others ≡ true → among heads token ≡ true → among others token ≡ true
-all_in-among [] others token inside is = absurd (false≢true is)
-all_in-among (head ∷ heads) others token inside is = by (λ later. all_in-among heads others token (both (is_in head others) (all_in heads others) inside).1 later) (either_true (is_head head token) (among heads token) is)
+all_in-among : (heads others : List Head) (terminal : Terminal) → all_in heads others ≡ true → among heads terminal ≡ true → among others terminal ≡ true
+all_in-among [] others terminal inside is = absurd (false≢true is)
+all_in-among (head ∷ heads) others terminal inside is = by (λ later. all_in-among heads others terminal (both (is_in head others) (all_in heads others) inside).1 later) (either_true (is_head head terminal) (among heads terminal) is)
   where
-    by : (among heads token ≡ true → among others token ≡ true) → (is_head head token ≡ true) ⊎ (among heads token ≡ true) → among others token ≡ true
-    by later (inl here) = is_in-among head others token (both (is_in head others) (all_in heads others) inside).0 here
+    by : (among heads terminal ≡ true → among others terminal ≡ true) → (is_head head terminal ≡ true) ⊎ (among heads terminal ≡ true) → among others terminal ≡ true
+    by later (inl here) = is_in-among head others terminal (both (is_in head others) (all_in heads others) inside).0 here
     by later (inr more) = later more
 
-one-more : (heads others : List Head) (tokens : Tokens) → all_in heads others ≡ true → OneNext heads tokens → OneNext others tokens
+one-more : (heads others : List Head) (terminals : Terminals) → all_in heads others ≡ true → OneNext heads terminals → OneNext others terminals
 one-more heads others [] inside is = absurd (false≢true is)
-one-more heads others (token ∷ tokens) inside is = all_in-among heads others token inside is
+one-more heads others (terminal ∷ terminals) inside is = all_in-among heads others terminal inside is
 
-none-less : (heads others : List Head) (tokens : Tokens) → all_in heads others ≡ true → NoneNext others tokens → NoneNext heads tokens
-none-less heads others tokens inside none = by (next_is (among heads) tokens) refl
+none-less : (heads others : List Head) (terminals : Terminals) → all_in heads others ≡ true → NoneNext others terminals → NoneNext heads terminals
+none-less heads others terminals inside none = by (next_is (among heads) terminals) refl
   where
-    by : (answer : Bool) → next_is (among heads) tokens ≡ answer → next_is (among heads) tokens ≡ false
+    by : (answer : Bool) → next_is (among heads) terminals ≡ answer → next_is (among heads) terminals ≡ false
     by false is = is
-    by true is = absurd (false≢true (sym none ∙ one-more heads others tokens inside is))
+    by true is = absurd (false≢true (sym none ∙ one-more heads others terminals inside is))
 
-begins-more : (first heads : List Head) (empty blank : Bool) (tokens rest : Tokens) → all_in first heads ≡ true → (empty ≡ true → blank ≡ true) → Begins first empty tokens rest → Begins heads blank tokens rest
-begins-more first heads empty blank tokens rest inside emptier (inl here) = inl (emptier here.0, here.1)
-begins-more first heads empty blank tokens rest inside emptier (inr here) = inr (one-more first heads tokens inside here.0, here.1)
+begins-more : (first heads : List Head) (empty blank : Bool) (terminals rest : Terminals) → all_in first heads ≡ true → (empty ≡ true → blank ≡ true) → Begins first empty terminals rest → Begins heads blank terminals rest
+begins-more first heads empty blank terminals rest inside emptier (inl here) = inl (emptier here.0, here.1)
+begins-more first heads empty blank terminals rest inside emptier (inr here) = inr (one-more first heads terminals inside here.0, here.1)
 
--- with more tokens at the front and behind
+-- with more terminals at the front and after
 pub with_more : {A : Type 0} {lifts : LimitName → Bool} {reader other : Reader A} {language : Language A} {first : List Head} {empty : Bool} {follow : List Head} (heads : List Head) (blank : Bool) (after : List Head)
     → Right lifts reader other language first empty follow → all_in first heads ≡ true → (empty ≡ true → blank ≡ true) → all_in follow after ≡ true → Right lifts reader other language heads blank after
 with_more {first = first} {empty = empty} {follow = follow} heads blank after right inside emptier behind =
     record {
       goes = right.goes;
-      reads = λ value tokens rest word none. right.reads value tokens rest word (none-less follow after rest behind none);
-      begins = λ value tokens rest word. begins-more first heads empty blank tokens rest inside emptier (right.begins value tokens rest word);
+      reads = λ value terminals rest word none. right.reads value terminals rest word (none-less follow after rest behind none);
+      begins = λ value terminals rest word. begins-more first heads empty blank terminals rest inside emptier (right.begins value terminals rest word);
       some = right.some;
       lifted = right.lifted;
       within = right.within;
@@ -99,22 +100,22 @@ pub decided : {A : Type 0} {lifts : LimitName → Bool} {reader other second wid
 decided true one two = one
 decided false one two = two
 
-means-same : {A : Type 0} (language same : Language A) → ((value : A) (tokens rest : Tokens) → language value tokens rest → same value tokens rest) → (front : Tokens) (outcome : Outcome A) → Means language front outcome → Means same front outcome
+means-same : {A : Type 0} (language same : Language A) → ((value : A) (terminals rest : Terminals) → language value terminals rest → same value terminals rest) → (front : Terminals) (outcome : Reading A) → Means language front outcome → Means same front outcome
 means-same language same to front (Ok (value, rest)) means = λ ending. to value (front ++ ending) ending (means ending)
 means-same language same to front (Err fault) means = (means.0, means.1, λ ending. to means.0 ((front ++ means.1) ++ ending) ending (means.2 ending))
 
 -- what the one language says, the other says too
 abbrev pub Into : {A : Type 0} → Language A → Language A → Type 0
-Into {A = A} language same = (value : A) (tokens rest : Tokens) → language value tokens rest → same value tokens rest
+Into {A = A} language same = (value : A) (terminals rest : Terminals) → language value terminals rest → same value terminals rest
 
 -- the same language in other words
 pub in_words : {A : Type 0} {lifts : LimitName → Bool} {reader other : Reader A} {language : Language A} {first : List Head} {empty : Bool} {follow : List Head} (same : Language A) → Into language same → Into same language
     → Right lifts reader other language first empty follow → Right lifts reader other same first empty follow
 in_words {reader = reader} {language = language} same to from right =
     record {
-      goes = λ tokens. let went = right.goes tokens in record { front = went.front; is = went.is; local = went.local; means = means-same language same to went.front (reader tokens) went.means };
-      reads = λ value tokens rest word none. right.reads value tokens rest (from value tokens rest word) none;
-      begins = λ value tokens rest word. right.begins value tokens rest (from value tokens rest word);
+      goes = λ terminals. let went = right.goes terminals in record { front = went.front; is = went.is; local = went.local; means = means-same language same to went.front (reader terminals) went.means };
+      reads = λ value terminals rest word none. right.reads value terminals rest (from value terminals rest word) none;
+      begins = λ value terminals rest word. right.begins value terminals rest (from value terminals rest word);
       some = (right.some.0, right.some.1, λ ending. to right.some.0 (right.some.1 ++ ending) ending (right.some.2 ending));
       lifted = right.lifted;
       within = right.within;
@@ -122,28 +123,28 @@ in_words {reader = reader} {language = language} same to from right =
 
 -- the same readers in other words
 pub same_readers : {A : Type 0} {lifts : LimitName → Bool} {reader other : Reader A} {language : Language A} {first : List Head} {empty : Bool} {follow : List Head} (second wider : Reader A)
-    → ((tokens : Tokens) → reader tokens ≡ second tokens) → ((tokens : Tokens) → other tokens ≡ wider tokens) → Right lifts reader other language first empty follow → Right lifts second wider language first empty follow
+    → ((terminals : Terminals) → reader terminals ≡ second terminals) → ((terminals : Terminals) → other terminals ≡ wider terminals) → Right lifts reader other language first empty follow → Right lifts second wider language first empty follow
 same_readers {A = A} {lifts = lifts} {reader = reader} {other = other} {language = language} {first = first} {empty = empty} {follow = follow} second wider one two right =
-    subst (λ r. Right lifts second r language first empty follow) (λ i tokens. two tokens i) (subst (λ r. Right lifts r other language first empty follow) (λ i tokens. one tokens i) right)
+    subst (λ r. Right lifts second r language first empty follow) (λ i terminals. two terminals i) (subst (λ r. Right lifts r other language first empty follow) (λ i terminals. one terminals i) right)
 
-up_to-from : {A : Type 0} (test : Token → Bool) (reader : Reader A) (times count : ℕ) (tokens : Tokens) → up_from test (λ _. reader) times count tokens ≡ up_to times test reader tokens
-up_to-from test reader zero count tokens = refl
-up_to-from {A = A} test reader (suc times) count tokens = by (λ middle. up_to-from test reader times (count + 1) middle) (next_is test tokens)
+up_to-from : {A : Type 0} (test : Terminal → Bool) (reader : Reader A) (times count : ℕ) (terminals : Terminals) → up_from test (λ _. reader) times count terminals ≡ up_to times test reader terminals
+up_to-from test reader zero count terminals = refl
+up_to-from {A = A} test reader (suc times) count terminals = by (λ middle. up_to-from test reader times (count + 1) middle) (next_is test terminals)
   where
-    onward : ((middle : Tokens) → up_from test (λ _. reader) times (count + 1) middle ≡ up_to times test reader middle) → (outcome : Outcome A)
+    onward : ((middle : Terminals) → up_from test (λ _. reader) times (count + 1) middle ≡ up_to times test reader middle) → (outcome : Reading A)
         → then_read outcome (λ value. reads_both (up_from test (λ _. reader) times (count + 1)) (λ more. pure (value ∷ more))) ≡ then_read outcome (λ value. reads_both (up_to times test reader) (λ more. pure (value ∷ more)))
     onward later (Ok (value, middle)) = ap (λ o. then_read o (λ more. pure (value ∷ more))) (later middle)
     onward later (Err fault) = refl
 
-    by : ((middle : Tokens) → up_from test (λ _. reader) times (count + 1) middle ≡ up_to times test reader middle) → (answer : Bool)
-        → (if answer then then_read (reader tokens) (λ value. reads_both (up_from test (λ _. reader) times (count + 1)) (λ more. pure (value ∷ more))) else Ok ([], tokens))
-        ≡ (if answer then then_read (reader tokens) (λ value. reads_both (up_to times test reader) (λ more. pure (value ∷ more))) else Ok ([], tokens))
-    by later true = onward later (reader tokens)
+    by : ((middle : Terminals) → up_from test (λ _. reader) times (count + 1) middle ≡ up_to times test reader middle) → (answer : Bool)
+        → (if answer then then_read (reader terminals) (λ value. reads_both (up_from test (λ _. reader) times (count + 1)) (λ more. pure (value ∷ more))) else Ok ([], terminals))
+        ≡ (if answer then then_read (reader terminals) (λ value. reads_both (up_to times test reader) (λ more. pure (value ∷ more))) else Ok ([], terminals))
+    by later true = onward later (reader terminals)
     by later false = refl
 
 -- the rule as often as it comes
-pub as_often : {A : Type 0} {lifts : LimitName → Bool} {test : Token → Bool} {reader other : Reader A} {language : Language A} {first follow : List Head}
-    → ((token : Token) → test token ≡ among first token) → Right lifts reader other language first false follow → apart first follow ≡ true → Right lifts (many test reader) (many test other) (grammar.many language) first true (first ++ follow)
+pub as_often : {A : Type 0} {lifts : LimitName → Bool} {test : Terminal → Bool} {reader other : Reader A} {language : Language A} {first follow : List Head}
+    → ((terminal : Terminal) → test terminal ≡ among first terminal) → Right lifts reader other language first false follow → apart first follow ≡ true → Right lifts (many test reader) (many test other) (grammar.many language) first true (first ++ follow)
 as_often {test = test} {reader = reader} {other = other} {language = language} {first = first} {follow = follow} tests right distinct =
-    same_readers (many test reader) (many test other) (λ tokens. up_to-from test reader (length tokens) 0 tokens) (λ tokens. up_to-from test other (length tokens) 0 tokens)
+    same_readers (many test reader) (many test other) (λ terminals. up_to-from test reader (length terminals) 0 terminals) (λ terminals. up_to-from test other (length terminals) 0 terminals)
     (as_often_from test (λ _. reader) (λ _. other) (λ _. language) first follow tests (λ _. right) distinct 0)

@@ -1,12 +1,22 @@
--- What a token may be at the front of a rule.
+-- What a terminal may be at the front of a rule.
 use Rattle.std.proofs.Common.{◌≡◌, ℕ, Bool, true, false, List, [], ◌∷◌, ◌++◌, refl, sym, ap, ◌∙◌}
 use Rattle.std.specs.Prelude.{◌||◌, ◌&&◌, not}
 use Rattle.std.specs.Str.{bytes_eq, str_eq_ignore_ascii_case, str_to_ascii_lowercase}
 use Rattle.std.proofs.lemmas.Bool.{false≢true}
 use Rattle.std.proofs.lemmas.Slice.Eq.{bytes_eq-Decides}
 use Rattle.sql_lex.specs.declared.token.TokenKind.TheVariants.{Name, Keyword, Number, Quoted, Mark}
-use Rattle.sql_reader.specs.Reading.{Tokens, next_is}
-use Rattle.sql_reader.specs.Token.{Token, Written, Slot, is_word, is_mark, is_name, is_number, is_quoted, is_slot}
+use Rattle.grammar_model.specs.Terminal.{Terminals}
+use Rattle.sql_reader.specs.reading.Reader.{next_is}
+use Rattle.grammar_model.specs.Terminal.{Terminal, Written, Slot, is_word, is_mark}
+use Rattle.sql_reader.specs.reading.Judges.{is_name, is_quoted}
+
+abbrev pub is_number : Terminal → Bool
+is_number (Written Number bytes start) = true
+is_number _ = false
+
+abbrev pub is_slot : Terminal → Bool
+is_slot Slot = true
+is_slot _ = false
 
 pub data Head : Type 0 where
   AWord : List ℕ → Head
@@ -16,7 +26,7 @@ pub data Head : Type 0 where
   AQuoted : Head
   ASlot : Head
 
-abbrev pub is_head : Head → Token → Bool
+abbrev pub is_head : Head → Terminal → Bool
 is_head (AWord word) = is_word word
 is_head (AMark mark) = is_mark mark
 is_head AName = is_name
@@ -24,12 +34,12 @@ is_head ANumber = is_number
 is_head AQuoted = is_quoted
 is_head ASlot = is_slot
 
--- the token is one of these
-abbrev pub among : List Head → Token → Bool
-among [] token = false
-among (head ∷ heads) token = is_head head token || among heads token
+-- the terminal is one of these
+abbrev pub among : List Head → Terminal → Bool
+among [] terminal = false
+among (head ∷ heads) terminal = is_head head terminal || among heads terminal
 
--- no token is both
+-- no terminal is both
 abbrev pub differ : Head → Head → Bool
 differ (AWord a) (AWord b) = not (str_eq_ignore_ascii_case a b)
 differ (AMark a) (AMark b) = not (bytes_eq a b)
@@ -43,7 +53,7 @@ abbrev pub differs : Head → List Head → Bool
 differs head [] = true
 differs head (other ∷ others) = differ head other && differs head others
 
--- no token is one of these and one of those
+-- no terminal is one of these and one of those
 abbrev pub apart : List Head → List Head → Bool
 apart [] others = true
 apart (head ∷ heads) others = differs head others && apart heads others
@@ -72,7 +82,7 @@ unlike x a b same other = by (bytes_eq x b) refl
     by false is = is
     by true is = absurd (false≢true (sym other ∙ (bytes_eq-Decides a b).1 (sym ((bytes_eq-Decides x a).0 same) ∙ (bytes_eq-Decides x b).0 is)))
 
-differ-heads : (head other : Head) (token : Token) → differ head other ≡ true → is_head head token ≡ true → is_head other token ≡ false
+differ-heads : (head other : Head) (terminal : Terminal) → differ head other ≡ true → is_head head terminal ≡ true → is_head other terminal ≡ false
 differ-heads head other Slot differs is = slot head other differs is
   where
     slot : (head other : Head) → differ head other ≡ true → is_head head Slot ≡ true → is_head other Slot ≡ false
@@ -159,56 +169,56 @@ differ-heads head other (Written Mark text start) differs is = marks head other 
     marks ANumber other differs is = absurd (false≢true is)
     marks AQuoted other differs is = absurd (false≢true is)
 
-differs-heads : (head : Head) (others : List Head) (token : Token) → differs head others ≡ true → is_head head token ≡ true → among others token ≡ false
-differs-heads head [] token distinct is = refl
-differs-heads head (other ∷ others) token distinct is =
+differs-heads : (head : Head) (others : List Head) (terminal : Terminal) → differs head others ≡ true → is_head head terminal ≡ true → among others terminal ≡ false
+differs-heads head [] terminal distinct is = refl
+differs-heads head (other ∷ others) terminal distinct is =
     let parts = both (differ head other) (differs head others) distinct in
-    neither (is_head other token) (among others token) (differ-heads head other token parts.0 is) (differs-heads head others token parts.1 is)
+    neither (is_head other terminal) (among others terminal) (differ-heads head other terminal parts.0 is) (differs-heads head others terminal parts.1 is)
 
--- a token that is one of these is none of those
-pub apart-heads : (heads others : List Head) (token : Token) → apart heads others ≡ true → among heads token ≡ true → among others token ≡ false
-apart-heads [] others token distinct is = absurd (false≢true is)
-apart-heads (head ∷ heads) others token distinct is =
+-- a terminal that is one of these is none of those
+pub apart-heads : (heads others : List Head) (terminal : Terminal) → apart heads others ≡ true → among heads terminal ≡ true → among others terminal ≡ false
+apart-heads [] others terminal distinct is = absurd (false≢true is)
+apart-heads (head ∷ heads) others terminal distinct is =
     let parts = both (differs head others) (apart heads others) distinct in
-    by (is_head head token) refl (λ rest. apart-heads heads others token parts.1 rest)
+    by (is_head head terminal) refl (λ rest. apart-heads heads others terminal parts.1 rest)
   where
-    by : (answer : Bool) → is_head head token ≡ answer → (among heads token ≡ true → among others token ≡ false) → among others token ≡ false
-    by true met later = differs-heads head others token (both (differs head others) (apart heads others) distinct).0 met
-    by false none later = later (ap (λ b. b || among heads token) (sym none) ∙ is)
+    by : (answer : Bool) → is_head head terminal ≡ answer → (among heads terminal ≡ true → among others terminal ≡ false) → among others terminal ≡ false
+    by true met later = differs-heads head others terminal (both (differs head others) (apart heads others) distinct).0 met
+    by false none later = later (ap (λ b. b || among heads terminal) (sym none) ∙ is)
 
 -- what is one of two lists is one of the one or of the other
-pub among-append : (heads others : List Head) (token : Token) → among (heads ++ others) token ≡ (among heads token || among others token)
-among-append [] others token = refl
-among-append (head ∷ heads) others token = ap (λ b. is_head head token || b) (among-append heads others token) ∙ grouped (is_head head token) (among heads token) (among others token)
+pub among-append : (heads others : List Head) (terminal : Terminal) → among (heads ++ others) terminal ≡ (among heads terminal || among others terminal)
+among-append [] others terminal = refl
+among-append (head ∷ heads) others terminal = ap (λ b. is_head head terminal || b) (among-append heads others terminal) ∙ grouped (is_head head terminal) (among heads terminal) (among others terminal)
   where
     grouped : (a b c : Bool) → (a || (b || c)) ≡ ((a || b) || c)
     grouped true b c = refl
     grouped false b c = refl
 
--- the first token is none of these
-abbrev pub NoneNext : List Head → Tokens → Type 0
-NoneNext heads tokens = next_is (among heads) tokens ≡ false
+-- the first terminal is none of these
+abbrev pub NoneNext : List Head → Terminals → Type 0
+NoneNext heads terminals = next_is (among heads) terminals ≡ false
 
--- the first token is one of these
-abbrev pub OneNext : List Head → Tokens → Type 0
-OneNext heads tokens = next_is (among heads) tokens ≡ true
+-- the first terminal is one of these
+abbrev pub OneNext : List Head → Terminals → Type 0
+OneNext heads terminals = next_is (among heads) terminals ≡ true
 
-pub none-append : (heads others : List Head) (tokens : Tokens) → NoneNext (heads ++ others) tokens → NoneNext heads tokens × NoneNext others tokens
+pub none-append : (heads others : List Head) (terminals : Terminals) → NoneNext (heads ++ others) terminals → NoneNext heads terminals × NoneNext others terminals
 none-append heads others [] none = (refl, refl)
-none-append heads others (token ∷ tokens) none = neither_of (among heads token) (among others token) (sym (among-append heads others token) ∙ none)
+none-append heads others (terminal ∷ terminals) none = neither_of (among heads terminal) (among others terminal) (sym (among-append heads others terminal) ∙ none)
 
-pub one-append-left : (heads others : List Head) (tokens : Tokens) → OneNext heads tokens → OneNext (heads ++ others) tokens
+pub one-append-left : (heads others : List Head) (terminals : Terminals) → OneNext heads terminals → OneNext (heads ++ others) terminals
 one-append-left heads others [] is = absurd (false≢true is)
-one-append-left heads others (token ∷ tokens) is = among-append heads others token ∙ ap (λ b. b || among others token) is
+one-append-left heads others (terminal ∷ terminals) is = among-append heads others terminal ∙ ap (λ b. b || among others terminal) is
 
-pub one-append-right : (heads others : List Head) (tokens : Tokens) → OneNext others tokens → OneNext (heads ++ others) tokens
+pub one-append-right : (heads others : List Head) (terminals : Terminals) → OneNext others terminals → OneNext (heads ++ others) terminals
 one-append-right heads others [] is = absurd (false≢true is)
-one-append-right heads others (token ∷ tokens) is = among-append heads others token ∙ or_true (among heads token) (among others token) is
+one-append-right heads others (terminal ∷ terminals) is = among-append heads others terminal ∙ or_true (among heads terminal) (among others terminal) is
   where
     or_true : (a b : Bool) → b ≡ true → (a || b) ≡ true
     or_true true b is = refl
     or_true false b is = is
 
-pub one-none : (heads others : List Head) (tokens : Tokens) → apart heads others ≡ true → OneNext heads tokens → NoneNext others tokens
+pub one-none : (heads others : List Head) (terminals : Terminals) → apart heads others ≡ true → OneNext heads terminals → NoneNext others terminals
 one-none heads others [] distinct is = refl
-one-none heads others (token ∷ tokens) distinct is = apart-heads heads others token distinct is
+one-none heads others (terminal ∷ terminals) distinct is = apart-heads heads others terminal distinct is

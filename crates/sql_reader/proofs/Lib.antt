@@ -2,7 +2,9 @@ pub mod Answering
 pub mod Changes
 pub mod Choices
 pub mod Conditions
-pub mod Cuts
+pub mod CutTexts
+pub mod Exactly
+pub mod FaultPlaces
 pub mod Heads
 pub mod Itemizing
 pub mod Joins
@@ -10,10 +12,9 @@ pub mod Leaves
 pub mod Lifts
 pub mod Listing
 pub mod Literals
-pub mod Once
+pub mod OneAnswer
+pub mod ReaderRight
 pub mod Repeats
-pub mod Right
 pub mod Rules
-pub mod Verdicts
-pub mod Wholes
-pub mod Wholly
+pub mod WholeEnds
+pub mod WholeTexts

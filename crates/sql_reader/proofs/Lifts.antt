@@ -3,7 +3,7 @@ use Rattle.std.proofs.Common.{◌≡◌, ℕ, Bool, true, false, refl}
 use Rattle.std.specs.Prelude.{if◌then◌else◌, Option, None}
 use Rattle.own_model.specs.declared.limit.LimitName.{LimitName}
 use Rattle.own_model.specs.declared.limit.LimitName.TheVariants as limit
-use Rattle.sql_reader.specs.Limits.{Limits, fits}
+use Rattle.grammar_model.specs.Limits.{Limits, fits}
 
 -- these limits, without those that a test names
 abbrev pub lift : (LimitName → Bool) → Limits → Limits

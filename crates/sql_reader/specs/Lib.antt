@@ -1,15 +1,2 @@
-pub mod Answer
-pub mod Condition
-pub mod Continues
-pub mod Create
-pub mod Cut
-pub mod Grammar
-pub mod Language
-pub mod Limits
-pub mod Made
-pub mod Outcomes
-pub mod Reading
-pub mod Rules
-pub mod Select
-pub mod Statements
-pub mod Token
+pub mod AnswerOf
+pub mod reading

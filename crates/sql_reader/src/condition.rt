@@ -1,20 +1,21 @@
 ghost use Rattle.std.specs.Prelude.{◌≡◌};
-ghost use Rattle.sql_reader.specs.Made.{list_of};
-ghost use Rattle.sql_reader.specs.Limits.{store_limits};
-ghost use Rattle.sql_reader.specs.Reading.{Does};
-ghost use Rattle.sql_reader.specs.Condition as rules;
+ghost use Rattle.own_model.specs.declared.limit.TheConstants.{NESTING_LEVELS};
+ghost use Rattle.grammar_model.specs.Parts.{list_of};
+ghost use Rattle.grammar_model.specs.Limits.{store_limits};
+ghost use Rattle.sql_reader.specs.reading.Reader.{Does};
+ghost use Rattle.sql_reader.specs.reading.Condition as rules;
 
 use crate::cursor::Cursor;
-use crate::fault::Fault;
-use crate::list::{add, list_of_one};
+use crate::fault::RuleFault;
+use crate::list::list_of_one;
 use crate::rule::{col, literal};
 use own_base::{Boxed, List};
-use own_model::{Cmp, ColRef, Cond, LimitName, Operand};
+use own_model::{Cmp, ColRef, Cond, LimitName, NESTING_LEVELS, Operand};
 use std::alloc::Global;
 
 /// The sign of a comparison.
-#[tactic(auto, unfolding(crate::specs::Condition::comparison_sign))]
-pub fn comparison_sign(cursor: &mut Cursor) -> Result<Cmp, Fault>
+#[tactic(auto, unfolding(crate::specs::reading::Condition::comparison_sign))]
+pub fn comparison_sign(cursor: &mut Cursor) -> Result<Cmp, RuleFault>
     ensures { Does rules.comparison_sign cursor.old result cursor.new }
 {
     if cursor.next_is_mark(b"=") {
@@ -46,8 +47,8 @@ pub fn comparison_sign(cursor: &mut Cursor) -> Result<Cmp, Fault>
 }
 
 /// The right side of a comparison.
-#[tactic(auto, unfolding(crate::specs::Condition::operand_rule))]
-pub fn operand(cursor: &mut Cursor, alloc: Global) -> Result<Operand, Fault>
+#[tactic(auto, unfolding(crate::specs::reading::Condition::operand_rule))]
+pub fn operand(cursor: &mut Cursor, alloc: Global) -> Result<Operand, RuleFault>
     ensures { Does (rules.operand_rule store_limits) cursor.old result cursor.new }
 {
     if cursor.next_is_name() {
@@ -59,8 +60,8 @@ pub fn operand(cursor: &mut Cursor, alloc: Global) -> Result<Operand, Fault>
 }
 
 /// The comparison that begins with this column.
-#[tactic(auto, unfolding(crate::specs::Condition::compared))]
-pub fn compared(cursor: &mut Cursor, alloc: Global, column: ColRef) -> Result<Cond, Fault>
+#[tactic(auto, unfolding(crate::specs::reading::Condition::compared))]
+pub fn compared(cursor: &mut Cursor, alloc: Global, column: ColRef) -> Result<Cond, RuleFault>
     ensures { Does (rules.compared store_limits column) cursor.old result cursor.new }
 {
     if cursor.next_is_word(b"IS") {
@@ -78,8 +79,8 @@ pub fn compared(cursor: &mut Cursor, alloc: Global, column: ColRef) -> Result<Co
 }
 
 /// A comparison.
-#[tactic(auto, unfolding(crate::specs::Condition::comparison))]
-pub fn comparison(cursor: &mut Cursor, alloc: Global) -> Result<Cond, Fault>
+#[tactic(auto, unfolding(crate::specs::reading::Condition::comparison))]
+pub fn comparison(cursor: &mut Cursor, alloc: Global) -> Result<Cond, RuleFault>
     ensures { Does (rules.comparison store_limits) cursor.old result cursor.new }
 {
     let column = col(cursor, alloc)?;
@@ -112,10 +113,10 @@ fn some(parts: List<Cond>) -> Cond
     Cond::Some1(List::from_vec(parts))
 }
 
-/// The parts of an AND, with so many levels of NOT and brackets in each.
+/// The parts of an AND, with that many levels of NOT and brackets in each.
 #[cycle(condition)]
-#[tactic(auto, unfolding(crate::specs::Condition::conj_parts))]
-fn conj_parts(cursor: &mut Cursor, alloc: Global, levels: u32) -> Result<List<Cond>, Fault>
+#[tactic(auto, unfolding(crate::specs::reading::Condition::conj_parts))]
+fn conj_parts(cursor: &mut Cursor, alloc: Global, levels: u32) -> Result<List<Cond>, RuleFault>
     ensures { Does (rules.conj_parts (rules.neg store_limits levels)) cursor.old result cursor.new }
 {
     let first = neg(cursor, alloc, levels)?;
@@ -123,25 +124,25 @@ fn conj_parts(cursor: &mut Cursor, alloc: Global, levels: u32) -> Result<List<Co
     while cursor.next_is_word(b"AND") {
         cursor.word(b"AND")?;
         let part = neg(cursor, alloc, levels)?;
-        add(&mut parts, part)?;
+        parts.add(part)?;
     }
     Ok(parts)
 }
 
 /// A condition without OR outside brackets.
 #[cycle(condition)]
-#[tactic(auto, unfolding(crate::specs::Condition::conj_over))]
-fn conj(cursor: &mut Cursor, alloc: Global, levels: u32) -> Result<Cond, Fault>
+#[tactic(auto, unfolding(crate::specs::reading::Condition::conj_over))]
+fn conj(cursor: &mut Cursor, alloc: Global, levels: u32) -> Result<Cond, RuleFault>
     ensures { Does (rules.conj_over (rules.neg store_limits levels)) cursor.old result cursor.new }
 {
     let parts = conj_parts(cursor, alloc, levels)?;
     Ok(every(parts))
 }
 
-/// The parts of an OR, with so many levels of NOT and brackets in each.
+/// The parts of an OR, with that many levels of NOT and brackets in each.
 #[cycle(condition)]
-#[tactic(auto, unfolding(crate::specs::Condition::cond_parts))]
-fn cond_parts(cursor: &mut Cursor, alloc: Global, levels: u32) -> Result<List<Cond>, Fault>
+#[tactic(auto, unfolding(crate::specs::reading::Condition::cond_parts))]
+fn cond_parts(cursor: &mut Cursor, alloc: Global, levels: u32) -> Result<List<Cond>, RuleFault>
     ensures { Does (rules.cond_parts (rules.neg store_limits levels)) cursor.old result cursor.new }
 {
     let first = conj(cursor, alloc, levels)?;
@@ -149,30 +150,30 @@ fn cond_parts(cursor: &mut Cursor, alloc: Global, levels: u32) -> Result<List<Co
     while cursor.next_is_word(b"OR") {
         cursor.word(b"OR")?;
         let part = conj(cursor, alloc, levels)?;
-        add(&mut parts, part)?;
+        parts.add(part)?;
     }
     Ok(parts)
 }
 
-/// A condition, with so many levels of NOT and brackets.
+/// A condition, with that many levels of NOT and brackets.
 #[cycle(condition)]
-#[tactic(auto, unfolding(crate::specs::Condition::cond_over))]
-fn cond(cursor: &mut Cursor, alloc: Global, levels: u32) -> Result<Cond, Fault>
+#[tactic(auto, unfolding(crate::specs::reading::Condition::cond_over))]
+fn cond(cursor: &mut Cursor, alloc: Global, levels: u32) -> Result<Cond, RuleFault>
     ensures { Does (rules.cond_over (rules.neg store_limits levels)) cursor.old result cursor.new }
 {
     let parts = cond_parts(cursor, alloc, levels)?;
     Ok(some(parts))
 }
 
-/// A condition without AND and OR outside brackets, with so many levels of NOT and brackets.
+/// A condition without AND and OR outside brackets, with that many levels of NOT and brackets.
 #[cycle(condition)]
-#[tactic(auto, unfolding(crate::specs::Condition::neg))]
-fn neg(cursor: &mut Cursor, alloc: Global, levels: u32) -> Result<Cond, Fault>
+#[tactic(auto, unfolding(crate::specs::reading::Condition::neg))]
+fn neg(cursor: &mut Cursor, alloc: Global, levels: u32) -> Result<Cond, RuleFault>
     ensures { Does (rules.neg store_limits levels) cursor.old result cursor.new }
 {
     if cursor.next_is_word(b"NOT") {
         if levels == 0 {
-            return Err(Fault::Limit(LimitName::Nesting));
+            return Err(RuleFault::Limit(LimitName::Nesting));
         }
         cursor.word(b"NOT")?;
         let inner = neg(cursor, alloc, levels - 1)?;
@@ -181,7 +182,7 @@ fn neg(cursor: &mut Cursor, alloc: Global, levels: u32) -> Result<Cond, Fault>
     }
     if cursor.next_is_mark(b"(") {
         if levels == 0 {
-            return Err(Fault::Limit(LimitName::Nesting));
+            return Err(RuleFault::Limit(LimitName::Nesting));
         }
         cursor.mark(b"(")?;
         let inner = cond(cursor, alloc, levels - 1)?;
@@ -192,13 +193,13 @@ fn neg(cursor: &mut Cursor, alloc: Global, levels: u32) -> Result<Cond, Fault>
 }
 
 /// The condition of a WHERE, if one stands there.
-#[tactic(auto, unfolding(crate::specs::Condition::condition, crate::specs::Condition::cond_rule))]
-pub fn condition(cursor: &mut Cursor, alloc: Global) -> Result<Option<Cond>, Fault>
-    ensures { Does (rules.condition store_limits 64) cursor.old result cursor.new }
+#[tactic(auto, unfolding(crate::specs::reading::Condition::condition, crate::specs::reading::Condition::cond_rule))]
+pub fn condition(cursor: &mut Cursor, alloc: Global) -> Result<Option<Cond>, RuleFault>
+    ensures { Does (rules.condition store_limits NESTING_LEVELS) cursor.old result cursor.new }
 {
     if cursor.next_is_word(b"WHERE") {
         cursor.word(b"WHERE")?;
-        let found = cond(cursor, alloc, 64)?;
+        let found = cond(cursor, alloc, NESTING_LEVELS as u32)?;
         return Ok(Some(found));
     }
     Ok(None)

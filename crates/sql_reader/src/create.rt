@@ -1,12 +1,13 @@
 ghost use Rattle.std.specs.Prelude.{◌≡◌, ◌<◌, length, OnOk};
-ghost use Rattle.sql_reader.specs.Limits.{store_limits};
-ghost use Rattle.sql_reader.specs.Reading.{Does};
-ghost use Rattle.sql_reader.specs.Create as rules;
-ghost use Rattle.sql_reader.specs.Reading.{next_is};
+ghost use Rattle.own_model.specs.declared.limit.TheConstants.{NESTING_LEVELS};
+ghost use Rattle.grammar_model.specs.Limits.{store_limits};
+ghost use Rattle.sql_reader.specs.reading.Reader.{Does};
+ghost use Rattle.sql_reader.specs.reading.Create as rules;
+ghost use Rattle.sql_reader.specs.reading.Reader.{next_is};
 
 use crate::cursor::Cursor;
-use crate::fault::Fault;
-use crate::list::{add, list_of_one};
+use crate::fault::RuleFault;
+use crate::list::list_of_one;
 use crate::rule::{bracketed_names, one_name};
 use crate::select::query;
 use own_base::{List, Name};
@@ -14,8 +15,8 @@ use own_model::{Attr, ColumnDef, CreateTable, CreateView, Kind, Part, RefDef, Re
 use std::alloc::Global;
 
 /// The kind of a reference.
-#[tactic(auto, unfolding(crate::specs::Create::ref_kind))]
-fn ref_kind(cursor: &mut Cursor) -> Result<RefKind, Fault>
+#[tactic(auto, unfolding(crate::specs::reading::Create::ref_kind))]
+fn ref_kind(cursor: &mut Cursor) -> Result<RefKind, RuleFault>
     ensures does { Does rules.ref_kind cursor.old result cursor.new }
     ensures shorter { OnOk result (length cursor.new < length cursor.old) }
 {
@@ -43,8 +44,8 @@ fn ref_kind(cursor: &mut Cursor) -> Result<RefKind, Fault>
 }
 
 /// A reference.
-#[tactic(auto, unfolding(crate::specs::Create::refers))]
-fn refers(cursor: &mut Cursor, alloc: Global) -> Result<RefDef, Fault>
+#[tactic(auto, unfolding(crate::specs::reading::Create::refers))]
+fn refers(cursor: &mut Cursor, alloc: Global) -> Result<RefDef, RuleFault>
     ensures does { Does (rules.refers store_limits) cursor.old result cursor.new }
     ensures shorter { OnOk result (length cursor.new < length cursor.old) }
 {
@@ -58,9 +59,9 @@ fn refers(cursor: &mut Cursor, alloc: Global) -> Result<RefDef, Fault>
     })
 }
 
-/// What stands behind a column and its kind.
-#[tactic(auto, unfolding(crate::specs::Create::attr_rule))]
-fn attr(cursor: &mut Cursor, alloc: Global) -> Result<Attr, Fault>
+/// What stands after a column and its kind.
+#[tactic(auto, unfolding(crate::specs::reading::Create::attr_rule))]
+fn attr(cursor: &mut Cursor, alloc: Global) -> Result<Attr, RuleFault>
     ensures does { Does (rules.attr_rule store_limits) cursor.old result cursor.new }
     ensures shorter { OnOk result (length cursor.new < length cursor.old) }
 {
@@ -93,7 +94,7 @@ fn next_is_ref(cursor: &Cursor) -> bool
         || cursor.next_is_word(b"ACCESSES")
 }
 
-/// Whether something that stands behind a column's kind comes next.
+/// Whether something that stands after a column's kind comes next.
 fn next_is_attr(cursor: &Cursor) -> bool
     ensures { result ≡ next_is rules.begins_attr cursor.now }
 {
@@ -103,9 +104,9 @@ fn next_is_attr(cursor: &Cursor) -> bool
         || next_is_ref(cursor)
 }
 
-/// What stands behind a column and its kind, in order.
-#[tactic(auto, unfolding(crate::specs::Create::attrs))]
-fn attrs(cursor: &mut Cursor, alloc: Global) -> Result<List<Attr>, Fault>
+/// What stands after a column and its kind, in order.
+#[tactic(auto, unfolding(crate::specs::reading::Create::attrs))]
+fn attrs(cursor: &mut Cursor, alloc: Global) -> Result<List<Attr>, RuleFault>
     ensures { Does (rules.attrs store_limits) cursor.old result cursor.new }
 {
     let mut attrs = List::new(alloc);
@@ -114,14 +115,14 @@ fn attrs(cursor: &mut Cursor, alloc: Global) -> Result<List<Attr>, Fault>
             Ok(attr) => attr,
             Err(fault) => return Err(fault),
         };
-        add(&mut attrs, attr)?;
+        attrs.add(attr)?;
     }
     Ok(attrs)
 }
 
 /// The kind of a column.
-#[tactic(auto, unfolding(crate::specs::Create::kind_rule))]
-fn kind(cursor: &mut Cursor) -> Result<Kind, Fault>
+#[tactic(auto, unfolding(crate::specs::reading::Create::kind_rule))]
+fn kind(cursor: &mut Cursor) -> Result<Kind, RuleFault>
     ensures { Does rules.kind_rule cursor.old result cursor.new }
 {
     if cursor.next_is_word(b"INT") {
@@ -133,8 +134,8 @@ fn kind(cursor: &mut Cursor) -> Result<Kind, Fault>
 }
 
 /// A column.
-#[tactic(auto, unfolding(crate::specs::Create::column_part))]
-fn column_part(cursor: &mut Cursor, alloc: Global) -> Result<Part, Fault>
+#[tactic(auto, unfolding(crate::specs::reading::Create::column_part))]
+fn column_part(cursor: &mut Cursor, alloc: Global) -> Result<Part, RuleFault>
     ensures { Does (rules.column_part store_limits) cursor.old result cursor.new }
 {
     let name = cursor.name(alloc)?;
@@ -144,8 +145,8 @@ fn column_part(cursor: &mut Cursor, alloc: Global) -> Result<Part, Fault>
 }
 
 /// A foreign key.
-#[tactic(auto, unfolding(crate::specs::Create::foreign_part))]
-fn foreign_part(cursor: &mut Cursor, alloc: Global) -> Result<Part, Fault>
+#[tactic(auto, unfolding(crate::specs::reading::Create::foreign_part))]
+fn foreign_part(cursor: &mut Cursor, alloc: Global) -> Result<Part, RuleFault>
     ensures { Does (rules.foreign_part store_limits) cursor.old result cursor.new }
 {
     cursor.word(b"FOREIGN")?;
@@ -155,9 +156,9 @@ fn foreign_part(cursor: &mut Cursor, alloc: Global) -> Result<Part, Fault>
     Ok(Part::Foreign(column, found))
 }
 
-/// A rule on GET, behind ON.
-#[tactic(auto, unfolding(crate::specs::Create::get_part))]
-fn get_part(cursor: &mut Cursor, alloc: Global) -> Result<Part, Fault>
+/// A rule on GET, after ON.
+#[tactic(auto, unfolding(crate::specs::reading::Create::get_part))]
+fn get_part(cursor: &mut Cursor, alloc: Global) -> Result<Part, RuleFault>
     ensures { Does (rules.get_part store_limits) cursor.old result cursor.new }
 {
     cursor.word(b"GET")?;
@@ -167,9 +168,9 @@ fn get_part(cursor: &mut Cursor, alloc: Global) -> Result<Part, Fault>
     Ok(Part::Get(column, hidden))
 }
 
-/// A rule on DEL, behind ON.
-#[tactic(auto, unfolding(crate::specs::Create::del_part))]
-fn del_part(cursor: &mut Cursor, alloc: Global) -> Result<Part, Fault>
+/// A rule on DEL, after ON.
+#[tactic(auto, unfolding(crate::specs::reading::Create::del_part))]
+fn del_part(cursor: &mut Cursor, alloc: Global) -> Result<Part, RuleFault>
     ensures { Does (rules.del_part store_limits) cursor.old result cursor.new }
 {
     cursor.word(b"DEL")?;
@@ -184,8 +185,8 @@ fn del_part(cursor: &mut Cursor, alloc: Global) -> Result<Part, Fault>
 }
 
 /// A part of a CREATE TABLE.
-#[tactic(auto, unfolding(crate::specs::Create::part_rule))]
-fn part(cursor: &mut Cursor, alloc: Global) -> Result<Part, Fault>
+#[tactic(auto, unfolding(crate::specs::reading::Create::part_rule))]
+fn part(cursor: &mut Cursor, alloc: Global) -> Result<Part, RuleFault>
     ensures { Does (rules.part_rule store_limits) cursor.old result cursor.new }
 {
     if cursor.next_is_name() {
@@ -213,8 +214,8 @@ fn part(cursor: &mut Cursor, alloc: Global) -> Result<Part, Fault>
 }
 
 /// The parts of a CREATE TABLE.
-#[tactic(auto, unfolding(crate::specs::Create::listed_parts))]
-fn listed_parts(cursor: &mut Cursor, alloc: Global) -> Result<List<Part>, Fault>
+#[tactic(auto, unfolding(crate::specs::reading::Create::listed_parts))]
+fn listed_parts(cursor: &mut Cursor, alloc: Global) -> Result<List<Part>, RuleFault>
     ensures { Does (rules.listed_parts store_limits) cursor.old result cursor.new }
 {
     let first = part(cursor, alloc)?;
@@ -222,14 +223,14 @@ fn listed_parts(cursor: &mut Cursor, alloc: Global) -> Result<List<Part>, Fault>
     while cursor.next_is_mark(b",") {
         cursor.mark(b",")?;
         let next = part(cursor, alloc)?;
-        add(&mut parts, next)?;
+        parts.add(next)?;
     }
     Ok(parts)
 }
 
 /// The parts of a CREATE TABLE, in brackets.
-#[tactic(auto, unfolding(crate::specs::Create::parts))]
-fn parts(cursor: &mut Cursor, alloc: Global) -> Result<List<Part>, Fault>
+#[tactic(auto, unfolding(crate::specs::reading::Create::parts))]
+fn parts(cursor: &mut Cursor, alloc: Global) -> Result<List<Part>, RuleFault>
     ensures { Does (rules.parts store_limits) cursor.old result cursor.new }
 {
     cursor.mark(b"(")?;
@@ -238,9 +239,9 @@ fn parts(cursor: &mut Cursor, alloc: Global) -> Result<List<Part>, Fault>
     Ok(parts)
 }
 
-/// A table, behind CREATE.
-#[tactic(auto, unfolding(crate::specs::Create::table))]
-fn table(cursor: &mut Cursor, alloc: Global) -> Result<CreateTable, Fault>
+/// A table, after CREATE.
+#[tactic(auto, unfolding(crate::specs::reading::Create::table))]
+fn table(cursor: &mut Cursor, alloc: Global) -> Result<CreateTable, RuleFault>
     ensures { Does (rules.table store_limits) cursor.old result cursor.new }
 {
     let subject = cursor.next_is_word(b"DATA_SUBJECT");
@@ -257,10 +258,10 @@ fn table(cursor: &mut Cursor, alloc: Global) -> Result<CreateTable, Fault>
     })
 }
 
-/// A view, behind CREATE.
-#[tactic(auto, unfolding(crate::specs::Create::view))]
-fn view(cursor: &mut Cursor, alloc: Global) -> Result<CreateView, Fault>
-    ensures { Does (rules.view store_limits 64) cursor.old result cursor.new }
+/// A view, after CREATE.
+#[tactic(auto, unfolding(crate::specs::reading::Create::view))]
+fn view(cursor: &mut Cursor, alloc: Global) -> Result<CreateView, RuleFault>
+    ensures { Does (rules.view store_limits NESTING_LEVELS) cursor.old result cursor.new }
 {
     cursor.word(b"VIEW")?;
     let name = cursor.name(alloc)?;
@@ -270,9 +271,9 @@ fn view(cursor: &mut Cursor, alloc: Global) -> Result<CreateView, Fault>
 }
 
 /// A CREATE.
-#[tactic(auto, unfolding(crate::specs::Create::create))]
-pub fn create(cursor: &mut Cursor, alloc: Global) -> Result<Statement, Fault>
-    ensures { Does (rules.create store_limits 64) cursor.old result cursor.new }
+#[tactic(auto, unfolding(crate::specs::reading::Create::create))]
+pub fn create(cursor: &mut Cursor, alloc: Global) -> Result<Statement, RuleFault>
+    ensures { Does (rules.create store_limits NESTING_LEVELS) cursor.old result cursor.new }
 {
     cursor.word(b"CREATE")?;
     if cursor.next_is_word(b"VIEW") {

@@ -1,12 +1,12 @@
 ghost use Rattle.std.specs.Prelude.{◌≡◌, ◌<◌, length, map, Err, OnOk};
-ghost use Rattle.sql_reader.specs.Limits.{store_limits};
-ghost use Rattle.sql_reader.specs.Outcomes.{ended};
-ghost use Rattle.sql_reader.specs.Reading.{Does, accept, next_is};
-ghost use Rattle.sql_reader.specs.Rules as rules;
-ghost use Rattle.sql_reader.specs.Made.{slot_of};
-ghost use Rattle.sql_reader.specs.Token as spec;
+ghost use Rattle.grammar_model.specs.Limits.{store_limits};
+ghost use Rattle.sql_reader.specs.reading.Whole.{ended};
+ghost use Rattle.sql_reader.specs.reading.Reader.{Does, accept, next_is};
+ghost use Rattle.sql_reader.specs.reading.Rules as rules;
+ghost use Rattle.sql_reader.specs.reading.Judges.{is_name, is_quoted, slot_of};
+ghost use Rattle.grammar_model.specs.Terminal as spec;
 
-use crate::fault::Fault;
+use crate::fault::RuleFault;
 use crate::literal::{can_be_name, name_of, number_of, text_of};
 use own_base::{Name, Text};
 use own_model::LimitName;
@@ -22,15 +22,15 @@ pub struct Cursor<'a> {
 
 impl<'a> Model for Cursor<'a> {
     ghost use Rattle.std.specs.Prelude.{List, map};
-    ghost use Rattle.sql_reader.specs.Token.{Token, token_of};
+    ghost use Rattle.grammar_model.specs.Terminal.{Terminal, terminal_of};
 
-    ghost Value = { List Token };
+    ghost Value = { List Terminal };
 
-    ghost view = { λ cursor. map token_of cursor.tokens.now };
+    ghost view = { λ cursor. map terminal_of cursor.tokens.now };
 }
 
 fn is_word(token: &Token, word: &[u8]) -> bool
-    ensures { result ≡ spec.is_word word.now (spec.token_of token.now) }
+    ensures { result ≡ spec.is_word word.now (spec.terminal_of token.now) }
 {
     match token.kind {
         TokenKind::Keyword => token.text.as_bytes().eq_ignore_ascii_case(word),
@@ -39,7 +39,7 @@ fn is_word(token: &Token, word: &[u8]) -> bool
 }
 
 fn is_mark(token: &Token, mark: &[u8]) -> bool
-    ensures { result ≡ spec.is_mark mark.now (spec.token_of token.now) }
+    ensures { result ≡ spec.is_mark mark.now (spec.terminal_of token.now) }
 {
     match token.kind {
         TokenKind::Mark => token.text.as_bytes() == mark,
@@ -50,7 +50,7 @@ fn is_mark(token: &Token, mark: &[u8]) -> bool
 impl<'a> Cursor<'a> {
     /// At the first of the tokens.
     pub fn new(tokens: &'a [Token<'a>]) -> Cursor<'a>
-        ensures { result ≡ map spec.token_of tokens.now }
+        ensures { result ≡ map spec.terminal_of tokens.now }
     {
         Cursor { tokens }
     }
@@ -77,7 +77,7 @@ impl<'a> Cursor<'a> {
 
     /// Whether a name comes next.
     pub fn next_is_name(&self) -> bool
-        ensures { result ≡ next_is spec.is_name self.now }
+        ensures { result ≡ next_is is_name self.now }
     {
         match self.tokens.first() {
             Some(token) => matches!(token.kind, TokenKind::Name),
@@ -87,7 +87,7 @@ impl<'a> Cursor<'a> {
 
     /// Whether a text in quotes comes next.
     pub fn next_is_quoted(&self) -> bool
-        ensures { result ≡ next_is spec.is_quoted self.now }
+        ensures { result ≡ next_is is_quoted self.now }
     {
         match self.tokens.first() {
             Some(token) => matches!(token.kind, TokenKind::Quoted),
@@ -96,7 +96,7 @@ impl<'a> Cursor<'a> {
     }
 
     /// Takes this keyword.
-    pub fn word(&mut self, word: &[u8]) -> Result<(), Fault>
+    pub fn word(&mut self, word: &[u8]) -> Result<(), RuleFault>
         ensures does { Does (rules.word word.now) self.old result self.new }
         ensures shorter { OnOk result (length self.new < length self.old) }
     {
@@ -104,12 +104,12 @@ impl<'a> Cursor<'a> {
             self.tokens = &self.tokens[1..];
             Ok(())
         } else {
-            Err(Fault::Syntax)
+            Err(RuleFault::Syntax)
         }
     }
 
     /// Takes this mark.
-    pub fn mark(&mut self, mark: &[u8]) -> Result<(), Fault>
+    pub fn mark(&mut self, mark: &[u8]) -> Result<(), RuleFault>
         ensures does { Does (rules.mark mark.now) self.old result self.new }
         ensures shorter { OnOk result (length self.new < length self.old) }
     {
@@ -117,13 +117,13 @@ impl<'a> Cursor<'a> {
             self.tokens = &self.tokens[1..];
             Ok(())
         } else {
-            Err(Fault::Syntax)
+            Err(RuleFault::Syntax)
         }
     }
 
     /// Takes a name.
-    #[tactic(auto, unfolding(crate::specs::Rules::name))]
-    pub fn name(&mut self, alloc: Global) -> Result<Name, Fault>
+    #[tactic(auto, unfolding(crate::specs::reading::Rules::name))]
+    pub fn name(&mut self, alloc: Global) -> Result<Name, RuleFault>
         ensures { Does (rules.name store_limits) self.old result self.new }
     {
         match self.tokens.first() {
@@ -132,13 +132,13 @@ impl<'a> Cursor<'a> {
                 self.tokens = &self.tokens[1..];
                 Ok(name)
             }
-            None => Err(Fault::Syntax),
+            None => Err(RuleFault::Syntax),
         }
     }
 
     /// Takes a number, whose sign was taken.
-    #[tactic(auto, unfolding(crate::specs::Rules::number))]
-    pub fn number(&mut self, negative: bool) -> Result<i64, Fault>
+    #[tactic(auto, unfolding(crate::specs::reading::Rules::number))]
+    pub fn number(&mut self, negative: bool) -> Result<i64, RuleFault>
         ensures { Does (rules.number negative) self.old result self.new }
     {
         match self.tokens.first() {
@@ -147,13 +147,13 @@ impl<'a> Cursor<'a> {
                 self.tokens = &self.tokens[1..];
                 Ok(number)
             }
-            None => Err(Fault::Syntax),
+            None => Err(RuleFault::Syntax),
         }
     }
 
     /// Takes a text in quotes.
-    #[tactic(auto, unfolding(crate::specs::Rules::text))]
-    pub fn text(&mut self, alloc: Global) -> Result<Text, Fault>
+    #[tactic(auto, unfolding(crate::specs::reading::Rules::text))]
+    pub fn text(&mut self, alloc: Global) -> Result<Text, RuleFault>
         ensures { Does (rules.text store_limits) self.old result self.new }
     {
         match self.tokens.first() {
@@ -162,28 +162,28 @@ impl<'a> Cursor<'a> {
                 self.tokens = &self.tokens[1..];
                 Ok(text)
             }
-            None => Err(Fault::Syntax),
+            None => Err(RuleFault::Syntax),
         }
     }
 
     /// What is wrong where an item comes above the limit: the limit, if an item can begin there.
-    pub fn no_item(&self) -> Fault
+    pub fn no_item(&self) -> RuleFault
         ensures { accept slot_of self.now ≡ Err (result, self.now) }
     {
         match self.tokens.first() {
-            Some(token) if can_be_name(token) => Fault::Limit(LimitName::Items),
-            _ => Fault::Syntax,
+            Some(token) if can_be_name(token) => RuleFault::Limit(LimitName::Items),
+            _ => RuleFault::Syntax,
         }
     }
 
     /// Nothing is to be read any more.
-    pub fn ended(&mut self) -> Result<(), Fault>
+    pub fn ended(&mut self) -> Result<(), RuleFault>
         ensures { Does ended self.old result self.new }
     {
         if self.tokens.is_empty() {
             Ok(())
         } else {
-            Err(Fault::Syntax)
+            Err(RuleFault::Syntax)
         }
     }
 

@@ -3,7 +3,7 @@ use std::alloc::{AllocError, AllocFailed};
 
 /// Why nothing is read, without its place.
 #[derive(Clone, Copy, Debug, PartialEq, Eq)]
-pub enum Fault {
+pub enum RuleFault {
     Syntax,
     Limit(LimitName),
     Memory,
@@ -20,13 +20,13 @@ pub enum ReadFault {
     Memory,
 }
 
-impl From<AllocError> for Fault {
+impl From<AllocError> for RuleFault {
     ghost use Rattle.std.specs.Prelude.{◌≡◌};
-    ghost use Rattle.sql_reader.specs.declared.fault.Fault.TheVariants.{Memory};
+    ghost use Rattle.sql_reader.specs.declared.fault.RuleFault.TheVariants.{Memory};
 
     ghost from_gives = { λ _ fault. fault ≡ Memory };
 
-    fn from(_error: AllocError) -> Fault {
-        Fault::Memory
+    fn from(_error: AllocError) -> RuleFault {
+        RuleFault::Memory
     }
 }

@@ -17,6 +17,3 @@ mod tokens;
 
 pub use fault::ReadFault;
 pub use read::read_statement;
-
-#[cfg(test)]
-mod tests;

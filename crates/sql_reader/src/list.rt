@@ -1,27 +1,13 @@
-ghost use Rattle.std.specs.Prelude.{◌≡◌, [], ◌∷◌, ◌++◌, OnOk, IfOk, IfErr};
-ghost use Rattle.sql_reader.specs.declared.fault.Fault.TheVariants.{Memory};
+ghost use Rattle.std.specs.Prelude.{◌≡◌, [], ◌∷◌, IfOk};
 
-use crate::fault::Fault;
 use own_base::List;
-use std::alloc::Global;
-
-/// Puts the item last.
-pub fn add<T: Drop>(list: &mut List<T>, item: T) -> Result<(), Fault>
-    ensures added { OnOk result (list.new ≡ list.old ++ item ∷ []) }
-    ensures refused { IfErr result (λ fault. fault ≡ Memory) }
-{
-    match list.push(item) {
-        Ok(()) => Ok(()),
-        Err(_refused) => Err(Fault::Memory),
-    }
-}
+use std::alloc::{AllocError, Global};
 
 /// The list of one item.
-pub fn list_of_one<T: Drop>(alloc: Global, item: T) -> Result<List<T>, Fault>
-    ensures added { IfOk result (λ list. list ≡ item ∷ []) }
-    ensures refused { IfErr result (λ fault. fault ≡ Memory) }
+pub fn list_of_one<T: Drop>(alloc: Global, item: T) -> Result<List<T>, AllocError>
+    ensures { IfOk result (λ list. list ≡ item ∷ []) }
 {
     let mut list = List::new(alloc);
-    add(&mut list, item)?;
+    list.add(item)?;
     Ok(list)
 }

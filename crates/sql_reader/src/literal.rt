@@ -1,15 +1,18 @@
-ghost use Rattle.std.specs.Prelude.{◌≡◌, ◌≢◌, ◌<◌, ◌≤◌, ◌^◌, ◌==◌, ◌∷◌, ◌++◌, ℕ, length, map, slice_index, All, is_ok, IfOk, IfSome, IfNone, MatchOption, string_bytes, IsUtf8, false};
+ghost use Rattle.std.specs.Prelude.{◌≡◌, ◌≢◌, ◌<◌, ◌≤◌, ◌^◌, ◌==◌, ◌∷◌, ◌++◌, ℕ, List, None, Some, length, map, slice_index, All, is_ok, IfOk, IfSome, IfNone, MatchOption, string_bytes, IsUtf8, false};
 ghost use Rattle.std.specs.Char.{to_ascii_lowercase};
 ghost use Rattle.std.specs.List.{list_all};
 ghost use Rattle.own_base.specs.Name.{is_spelled, begins_name, continues_name};
 ghost use Rattle.sql_lex.specs.Bytes.{first_passes};
-ghost use Rattle.sql_reader.specs.Limits.{no_limits, store_limits};
-ghost use Rattle.sql_reader.specs.Reading.{Judges};
-ghost use Rattle.sql_reader.specs.Token.{token_of, name_of, number_of, text_of, digits_behind, undoubled, folded, ranged, short_text, value_of};
+ghost use Rattle.sql_lex.specs.Tokens.{quoted};
+ghost use Rattle.grammar_model.specs.Limits.{no_limits, store_limits};
+ghost use Rattle.sql_reader.specs.reading.Reader.{Judges};
+ghost use Rattle.grammar_model.specs.Terminal.{terminal_of};
+ghost use Rattle.sql_reader.specs.reading.Judges.{name_of, number_of, text_of, inside, unquoted, folded, ranged, short_text};
+ghost use Rattle.grammar_model.specs.Values.{digits_after};
 
-use crate::fault::Fault;
-use own_base::{Name, Text};
-use own_model::LimitName;
+use crate::fault::RuleFault;
+use own_base::{NAME_BYTES, Name, Text};
+use own_model::{LimitName, TEXT_BYTES};
 use sql_lex::{Token, TokenKind};
 use std::alloc::{AllocError, Global};
 
@@ -64,7 +67,7 @@ fn is_spelled_lowered(name: &[u8]) -> bool
 
 /// Whether the token is a name, whatever its length. Takes no memory.
 pub fn can_be_name(token: &Token) -> bool
-    ensures { result ≡ is_ok (name_of no_limits (token_of token.now)) }
+    ensures { result ≡ is_ok (name_of no_limits (terminal_of token.now)) }
 {
     match token.kind {
         TokenKind::Name => is_spelled_lowered(token.text.as_bytes()),
@@ -73,36 +76,36 @@ pub fn can_be_name(token: &Token) -> bool
 }
 
 /// A name in lower case.
-fn folded(alloc: Global, name: &str) -> Result<Name, Fault>
+fn folded(alloc: Global, name: &str) -> Result<Name, RuleFault>
     ensures { Judges (folded store_limits name.now) result }
 {
     if !is_spelled(name.as_bytes()) {
-        return Err(Fault::Syntax);
+        return Err(RuleFault::Syntax);
     }
-    if name.len() > 64 {
-        return Err(Fault::Limit(LimitName::Name));
+    if name.len() > NAME_BYTES {
+        return Err(RuleFault::Limit(LimitName::Name));
     }
     let name = Name::from_str(alloc, name)?;
     Ok(name)
 }
 
 /// The name that a token is.
-pub fn name_of(alloc: Global, token: &Token) -> Result<Name, Fault>
-    ensures { Judges (name_of store_limits (token_of token.now)) result }
+pub fn name_of(alloc: Global, token: &Token) -> Result<Name, RuleFault>
+    ensures { Judges (name_of store_limits (terminal_of token.now)) result }
 {
     match token.kind {
         TokenKind::Name => {
             let lower = token.text.to_ascii_lowercase(alloc)?;
             folded(alloc, lower.as_str())
         }
-        _ => Err(Fault::Syntax),
+        _ => Err(RuleFault::Syntax),
     }
 }
 
 /// The number that the digits write, where it is at most 2^63.
 fn magnitude(digits: &[u8]) -> Option<u128>
-    ensures { MatchOption result (2 ^ 63 < digits_behind 0 digits.now)
-        (λ number. (number ≡ digits_behind 0 digits.now) × (number ≤ 2 ^ 63)) }
+    ensures { MatchOption result (2 ^ 63 < digits_after 0 digits.now)
+        (λ number. (number ≡ digits_after 0 digits.now) × (number ≤ 2 ^ 63)) }
 {
     let mut number: u128 = 0;
     for digit in digits {
@@ -115,23 +118,23 @@ fn magnitude(digits: &[u8]) -> Option<u128>
 }
 
 /// The number with its sign, where i64 has it.
-fn ranged(negative: bool, digits: &[u8]) -> Result<i64, Fault>
-    ensures { Judges (ranged negative (digits_behind 0 digits.now)) result }
+fn ranged(negative: bool, digits: &[u8]) -> Result<i64, RuleFault>
+    ensures { Judges (ranged negative (digits_after 0 digits.now)) result }
 {
     match magnitude(digits) {
         Some(number) if negative => Ok(-(number as i128) as i64),
         Some(number) if number < 1 << 63 => Ok(number as i64),
-        _ => Err(Fault::Syntax),
+        _ => Err(RuleFault::Syntax),
     }
 }
 
 /// The number that a token is.
-pub fn number_of(negative: bool, token: &Token) -> Result<i64, Fault>
-    ensures { Judges (number_of negative (token_of token.now)) result }
+pub fn number_of(negative: bool, token: &Token) -> Result<i64, RuleFault>
+    ensures { Judges (number_of negative (terminal_of token.now)) result }
 {
     match token.kind {
         TokenKind::Number => ranged(negative, token.text.as_bytes()),
-        _ => Err(Fault::Syntax),
+        _ => Err(RuleFault::Syntax),
     }
 }
 
@@ -144,7 +147,7 @@ fn quote_at(bytes: &[u8]) -> Option<usize>
     bytes.iter().position(|byte| *byte == QUOTE)
 }
 
-/// What comes before and behind the first quote, if there is one.
+/// What comes before and after the first quote, if there is one.
 fn split_at_quote(text: &str) -> Option<(&str, &str)>
     ensures found { IfSome result (λ parts. (text.now ≡ parts.0.now ++ 39 ∷ parts.1.now) × All (λ byte. byte ≢ 39) parts.0.now) }
     ensures texts { IfSome result (λ parts. IsUtf8 parts.0.now × IsUtf8 parts.1.now) }
@@ -156,10 +159,10 @@ fn split_at_quote(text: &str) -> Option<(&str, &str)>
     }
 }
 
-/// What comes behind a quote at the front.
-fn behind_quote(text: &str) -> Option<&str>
-    ensures found { IfSome result (λ behind. text.now ≡ 39 ∷ behind.now) }
-    ensures texts { IfSome result (λ behind. IsUtf8 behind.now) }
+/// What comes after a quote at the front.
+fn after_quote(text: &str) -> Option<&str>
+    ensures found { IfSome result (λ after. text.now ≡ 39 ∷ after.now) }
+    ensures texts { IfSome result (λ after. IsUtf8 after.now) }
     ensures none { IfNone result (first_passes (λ byte. byte == 39) text.now ≡ false) }
 {
     let bytes = text.as_bytes();
@@ -169,55 +172,62 @@ fn behind_quote(text: &str) -> Option<&str>
     Some(&text[1..])
 }
 
-/// The value of a text, of which the bytes behind its first quote are given.
-fn undoubled(alloc: Global, inside: &str) -> Result<String, AllocError>
-    ensures { IfOk result (λ value. string_bytes value ≡ undoubled false inside.now) }
+/// The value of a text in quotes, of which the bytes after the first quote are given: the last of them closes it.
+fn closed(alloc: Global, text: &str) -> Result<Option<String>, AllocError>
+    ensures { IfOk result (λ found. MatchOption found (inside false text.now ≡ None) (λ value. inside false text.now ≡ Some (string_bytes value))) }
 {
     let mut value = String::new(alloc);
-    let mut rest = inside;
+    let mut rest = text;
     while let Some((front, back)) = split_at_quote(rest) {
         value.push_str(front)?;
-        rest = match behind_quote(back) {
-            Some(behind) => {
-                value.push_str("'")?;
-                behind
+        let Some(after) = after_quote(back) else {
+            if back.is_empty() {
+                return Ok(Some(value));
             }
-            None => back,
+            return Ok(None);
         };
+        value.push_str("'")?;
+        rest = after;
     }
-    value.push_str(rest)?;
-    Ok(value)
+    Ok(None)
 }
 
-/// A text of at most 4,096 bytes.
-fn short_text(value: String) -> Result<Text, Fault>
-    ensures { Judges (short_text store_limits (string_bytes value)) result }
+/// What stands between the quotes, where this is a text in quotes.
+fn unquoted(alloc: Global, text: &str) -> Result<Option<String>, AllocError>
+    ensures { IfOk result (λ found. MatchOption found ((value : List ℕ) → text.now ≡ quoted value → ⊥) (λ value. text.now ≡ quoted (string_bytes value))) }
 {
-    if value.len() > 4096 {
-        return Err(Fault::Limit(LimitName::Text));
+    match after_quote(text) {
+        Some(inside) => closed(alloc, inside),
+        None => Ok(None),
+    }
+}
+
+/// A text of at most `TEXT_BYTES` bytes.
+fn short_text(value: String) -> Result<Text, RuleFault>
+    ensures { Judges (short_text store_limits (Some (string_bytes value))) result }
+{
+    if value.len() > TEXT_BYTES {
+        return Err(RuleFault::Limit(LimitName::Text));
     }
     Ok(Text::from_string(value))
 }
 
 /// The value of a text in quotes.
-fn value_of(alloc: Global, text: &str) -> Result<Text, Fault>
-    ensures { Judges (value_of store_limits text.now) result }
+fn value_of(alloc: Global, text: &str) -> Result<Text, RuleFault>
+    ensures { Judges (short_text store_limits (unquoted text.now)) result }
 {
-    match behind_quote(text) {
-        Some(inside) => {
-            let value = undoubled(alloc, inside)?;
-            short_text(value)
-        }
-        None => Err(Fault::Syntax),
+    match unquoted(alloc, text)? {
+        Some(value) => short_text(value),
+        None => Err(RuleFault::Syntax),
     }
 }
 
 /// The text that a token is.
-pub fn text_of(alloc: Global, token: &Token) -> Result<Text, Fault>
-    ensures { Judges (text_of store_limits (token_of token.now)) result }
+pub fn text_of(alloc: Global, token: &Token) -> Result<Text, RuleFault>
+    ensures { Judges (text_of store_limits (terminal_of token.now)) result }
 {
     match token.kind {
         TokenKind::Quoted => value_of(alloc, token.text),
-        _ => Err(Fault::Syntax),
+        _ => Err(RuleFault::Syntax),
     }
 }

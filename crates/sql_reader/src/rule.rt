@@ -1,17 +1,17 @@
-ghost use Rattle.sql_reader.specs.Limits.{store_limits};
-ghost use Rattle.sql_reader.specs.Reading.{Does};
-ghost use Rattle.sql_reader.specs.Rules as rules;
+ghost use Rattle.grammar_model.specs.Limits.{store_limits};
+ghost use Rattle.sql_reader.specs.reading.Reader.{Does};
+ghost use Rattle.sql_reader.specs.reading.Rules as rules;
 
 use crate::cursor::Cursor;
-use crate::fault::Fault;
-use crate::list::{add, list_of_one};
+use crate::fault::RuleFault;
+use crate::list::list_of_one;
 use own_base::{List, Name, Value};
 use own_model::{ColRef, Expr};
 use std::alloc::Global;
 
 /// A number with its sign.
-#[tactic(auto, unfolding(crate::specs::Rules::int))]
-pub fn int(cursor: &mut Cursor) -> Result<i64, Fault>
+#[tactic(auto, unfolding(crate::specs::reading::Rules::int))]
+pub fn int(cursor: &mut Cursor) -> Result<i64, RuleFault>
     ensures { Does rules.int cursor.old result cursor.new }
 {
     if cursor.next_is_mark(b"-") {
@@ -22,8 +22,8 @@ pub fn int(cursor: &mut Cursor) -> Result<i64, Fault>
 }
 
 /// Names, parted by commas.
-#[tactic(auto, unfolding(crate::specs::Rules::names))]
-pub fn names(cursor: &mut Cursor, alloc: Global) -> Result<List<Name>, Fault>
+#[tactic(auto, unfolding(crate::specs::reading::Rules::names))]
+pub fn names(cursor: &mut Cursor, alloc: Global) -> Result<List<Name>, RuleFault>
     ensures { Does (rules.names store_limits) cursor.old result cursor.new }
 {
     let first = cursor.name(alloc)?;
@@ -31,14 +31,14 @@ pub fn names(cursor: &mut Cursor, alloc: Global) -> Result<List<Name>, Fault>
     while cursor.next_is_mark(b",") {
         cursor.mark(b",")?;
         let name = cursor.name(alloc)?;
-        add(&mut names, name)?;
+        names.add(name)?;
     }
     Ok(names)
 }
 
 /// A name in brackets.
-#[tactic(auto, unfolding(crate::specs::Rules::one_name))]
-pub fn one_name(cursor: &mut Cursor, alloc: Global) -> Result<Name, Fault>
+#[tactic(auto, unfolding(crate::specs::reading::Rules::one_name))]
+pub fn one_name(cursor: &mut Cursor, alloc: Global) -> Result<Name, RuleFault>
     ensures { Does (rules.one_name store_limits) cursor.old result cursor.new }
 {
     cursor.mark(b"(")?;
@@ -48,8 +48,8 @@ pub fn one_name(cursor: &mut Cursor, alloc: Global) -> Result<Name, Fault>
 }
 
 /// Names in brackets.
-#[tactic(auto, unfolding(crate::specs::Rules::bracketed_names))]
-pub fn bracketed_names(cursor: &mut Cursor, alloc: Global) -> Result<List<Name>, Fault>
+#[tactic(auto, unfolding(crate::specs::reading::Rules::bracketed_names))]
+pub fn bracketed_names(cursor: &mut Cursor, alloc: Global) -> Result<List<Name>, RuleFault>
     ensures { Does (rules.bracketed_names store_limits) cursor.old result cursor.new }
 {
     cursor.mark(b"(")?;
@@ -59,9 +59,9 @@ pub fn bracketed_names(cursor: &mut Cursor, alloc: Global) -> Result<List<Name>,
 }
 
 /// The column that begins with this name.
-#[tactic(auto, unfolding(crate::specs::Rules::col_behind))]
-pub fn col_behind(cursor: &mut Cursor, alloc: Global, first: Name) -> Result<ColRef, Fault>
-    ensures { Does (rules.col_behind store_limits first) cursor.old result cursor.new }
+#[tactic(auto, unfolding(crate::specs::reading::Rules::col_after))]
+pub fn col_after(cursor: &mut Cursor, alloc: Global, first: Name) -> Result<ColRef, RuleFault>
+    ensures { Does (rules.col_after store_limits first) cursor.old result cursor.new }
 {
     if cursor.next_is_mark(b".") {
         cursor.mark(b".")?;
@@ -78,17 +78,17 @@ pub fn col_behind(cursor: &mut Cursor, alloc: Global, first: Name) -> Result<Col
 }
 
 /// A column.
-#[tactic(auto, unfolding(crate::specs::Rules::col))]
-pub fn col(cursor: &mut Cursor, alloc: Global) -> Result<ColRef, Fault>
+#[tactic(auto, unfolding(crate::specs::reading::Rules::col))]
+pub fn col(cursor: &mut Cursor, alloc: Global) -> Result<ColRef, RuleFault>
     ensures { Does (rules.col store_limits) cursor.old result cursor.new }
 {
     let first = cursor.name(alloc)?;
-    col_behind(cursor, alloc, first)
+    col_after(cursor, alloc, first)
 }
 
 /// NULL, a number or a text.
-#[tactic(auto, unfolding(crate::specs::Rules::literal))]
-pub fn literal(cursor: &mut Cursor, alloc: Global) -> Result<Value, Fault>
+#[tactic(auto, unfolding(crate::specs::reading::Rules::literal))]
+pub fn literal(cursor: &mut Cursor, alloc: Global) -> Result<Value, RuleFault>
     ensures { Does (rules.literal store_limits) cursor.old result cursor.new }
 {
     if cursor.next_is_word(b"NULL") {
@@ -104,8 +104,8 @@ pub fn literal(cursor: &mut Cursor, alloc: Global) -> Result<Value, Fault>
 }
 
 /// A tuple of values.
-#[tactic(auto, unfolding(crate::specs::Rules::tuple))]
-pub fn tuple(cursor: &mut Cursor, alloc: Global) -> Result<List<Value>, Fault>
+#[tactic(auto, unfolding(crate::specs::reading::Rules::tuple))]
+pub fn tuple(cursor: &mut Cursor, alloc: Global) -> Result<List<Value>, RuleFault>
     ensures { Does (rules.tuple store_limits) cursor.old result cursor.new }
 {
     cursor.mark(b"(")?;
@@ -115,8 +115,8 @@ pub fn tuple(cursor: &mut Cursor, alloc: Global) -> Result<List<Value>, Fault>
 }
 
 /// Values, parted by commas.
-#[tactic(auto, unfolding(crate::specs::Rules::values))]
-pub fn values(cursor: &mut Cursor, alloc: Global) -> Result<List<Value>, Fault>
+#[tactic(auto, unfolding(crate::specs::reading::Rules::values))]
+pub fn values(cursor: &mut Cursor, alloc: Global) -> Result<List<Value>, RuleFault>
     ensures { Does (rules.values store_limits) cursor.old result cursor.new }
 {
     let first = literal(cursor, alloc)?;
@@ -124,15 +124,15 @@ pub fn values(cursor: &mut Cursor, alloc: Global) -> Result<List<Value>, Fault>
     while cursor.next_is_mark(b",") {
         cursor.mark(b",")?;
         let value = literal(cursor, alloc)?;
-        add(&mut values, value)?;
+        values.add(value)?;
     }
     Ok(values)
 }
 
 /// The expression that begins with this column.
-#[tactic(auto, unfolding(crate::specs::Rules::sum_behind))]
-pub fn sum_behind(cursor: &mut Cursor, column: Name) -> Result<Expr, Fault>
-    ensures { Does (rules.sum_behind column) cursor.old result cursor.new }
+#[tactic(auto, unfolding(crate::specs::reading::Rules::sum_after))]
+pub fn sum_after(cursor: &mut Cursor, column: Name) -> Result<Expr, RuleFault>
+    ensures { Does (rules.sum_after column) cursor.old result cursor.new }
 {
     if cursor.next_is_mark(b"+") {
         cursor.mark(b"+")?;
@@ -148,13 +148,13 @@ pub fn sum_behind(cursor: &mut Cursor, column: Name) -> Result<Expr, Fault>
 }
 
 /// What an UPDATE sets a column to.
-#[tactic(auto, unfolding(crate::specs::Rules::expr_rule))]
-pub fn expr(cursor: &mut Cursor, alloc: Global) -> Result<Expr, Fault>
+#[tactic(auto, unfolding(crate::specs::reading::Rules::expr_rule))]
+pub fn expr(cursor: &mut Cursor, alloc: Global) -> Result<Expr, RuleFault>
     ensures { Does (rules.expr_rule store_limits) cursor.old result cursor.new }
 {
     if cursor.next_is_name() {
         let column = cursor.name(alloc)?;
-        return sum_behind(cursor, column);
+        return sum_after(cursor, column);
     }
     let found = literal(cursor, alloc)?;
     Ok(Expr::Literal(found))

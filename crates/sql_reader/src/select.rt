@@ -1,22 +1,23 @@
 ghost use Rattle.std.specs.Prelude.{◌≡◌};
 ghost use Rattle.std.specs.List.{list_all};
-ghost use Rattle.sql_reader.specs.Limits.{store_limits};
-ghost use Rattle.sql_reader.specs.Reading.{Does};
-ghost use Rattle.sql_reader.specs.Select as rules;
+ghost use Rattle.own_model.specs.declared.limit.TheConstants.{NESTING_LEVELS};
+ghost use Rattle.grammar_model.specs.Limits.{store_limits};
+ghost use Rattle.sql_reader.specs.reading.Reader.{Does};
+ghost use Rattle.sql_reader.specs.reading.Select as rules;
 
 use crate::condition::condition;
 use crate::cursor::Cursor;
-use crate::fault::Fault;
-use crate::list::{add, list_of_one};
-use crate::rule::{col, col_behind};
+use crate::fault::RuleFault;
+use crate::list::list_of_one;
+use crate::rule::{col, col_after};
 use own_base::{List, Name};
-use own_model::{ColRef, Item, Items, Join, Order, Select, What};
+use own_model::{ColRef, Item, Items, Join, Order, SELECT_ITEMS, Select, What};
 use std::alloc::Global;
 
-/// What stands behind COUNT, where a bracket comes.
-#[tactic(auto, unfolding(crate::specs::Select::count_behind))]
-fn count_behind(cursor: &mut Cursor) -> Result<What, Fault>
-    ensures { Does rules.count_behind cursor.old result cursor.new }
+/// What stands after COUNT, where a bracket comes.
+#[tactic(auto, unfolding(crate::specs::reading::Select::count_after))]
+fn count_after(cursor: &mut Cursor) -> Result<What, RuleFault>
+    ensures { Does rules.count_after cursor.old result cursor.new }
 {
     cursor.mark(b"(")?;
     cursor.mark(b"*")?;
@@ -24,10 +25,10 @@ fn count_behind(cursor: &mut Cursor) -> Result<What, Fault>
     Ok(What::Count)
 }
 
-/// What stands behind SUM, where a bracket comes.
-#[tactic(auto, unfolding(crate::specs::Select::sum_of_behind))]
-fn sum_of_behind(cursor: &mut Cursor, alloc: Global) -> Result<What, Fault>
-    ensures { Does (rules.sum_of_behind store_limits) cursor.old result cursor.new }
+/// What stands after SUM, where a bracket comes.
+#[tactic(auto, unfolding(crate::specs::reading::Select::sum_of_after))]
+fn sum_of_after(cursor: &mut Cursor, alloc: Global) -> Result<What, RuleFault>
+    ensures { Does (rules.sum_of_after store_limits) cursor.old result cursor.new }
 {
     cursor.mark(b"(")?;
     let column = col(cursor, alloc)?;
@@ -36,25 +37,25 @@ fn sum_of_behind(cursor: &mut Cursor, alloc: Global) -> Result<What, Fault>
 }
 
 /// What the item that begins with this name shows: COUNT and SUM are functions before a bracket.
-#[tactic(auto, unfolding(crate::specs::Select::what_behind))]
-fn what_behind(cursor: &mut Cursor, alloc: Global, first: Name) -> Result<What, Fault>
-    ensures { Does (rules.what_behind store_limits first) cursor.old result cursor.new }
+#[tactic(auto, unfolding(crate::specs::reading::Select::what_after))]
+fn what_after(cursor: &mut Cursor, alloc: Global, first: Name) -> Result<What, RuleFault>
+    ensures { Does (rules.what_after store_limits first) cursor.old result cursor.new }
 {
     let is_count = first.bytes() == b"count".as_slice();
     let is_sum = first.bytes() == b"sum".as_slice();
     if is_count && cursor.next_is_mark(b"(") {
-        return count_behind(cursor);
+        return count_after(cursor);
     }
     if !is_count && is_sum && cursor.next_is_mark(b"(") {
-        return sum_of_behind(cursor, alloc);
+        return sum_of_after(cursor, alloc);
     }
-    let column = col_behind(cursor, alloc, first)?;
+    let column = col_after(cursor, alloc, first)?;
     Ok(What::Column(column))
 }
 
 /// The AS name of an item, if one stands there.
-#[tactic(auto, unfolding(crate::specs::Select::alias))]
-fn alias(cursor: &mut Cursor, alloc: Global) -> Result<Option<Name>, Fault>
+#[tactic(auto, unfolding(crate::specs::reading::Select::alias))]
+fn alias(cursor: &mut Cursor, alloc: Global) -> Result<Option<Name>, RuleFault>
     ensures { Does (rules.alias store_limits) cursor.old result cursor.new }
 {
     if cursor.next_is_word(b"AS") {
@@ -66,49 +67,49 @@ fn alias(cursor: &mut Cursor, alloc: Global) -> Result<Option<Name>, Fault>
 }
 
 /// An item.
-#[tactic(auto, unfolding(crate::specs::Select::item))]
-fn item(cursor: &mut Cursor, alloc: Global) -> Result<Item, Fault>
+#[tactic(auto, unfolding(crate::specs::reading::Select::item))]
+fn item(cursor: &mut Cursor, alloc: Global) -> Result<Item, RuleFault>
     ensures { Does (rules.item store_limits) cursor.old result cursor.new }
 {
     let first = cursor.name(alloc)?;
-    let what = what_behind(cursor, alloc, first)?;
+    let what = what_after(cursor, alloc, first)?;
     let alias = alias(cursor, alloc)?;
     Ok(Item { what, alias })
 }
 
-/// An item behind so many others.
-#[tactic(auto, unfolding(crate::specs::Select::item_behind))]
-fn item_behind(cursor: &mut Cursor, alloc: Global, count: usize) -> Result<Item, Fault>
-    ensures { Does (rules.item_behind store_limits count) cursor.old result cursor.new }
+/// An item after that many others.
+#[tactic(auto, unfolding(crate::specs::reading::Select::item_after))]
+fn item_after(cursor: &mut Cursor, alloc: Global, count: usize) -> Result<Item, RuleFault>
+    ensures { Does (rules.item_after store_limits count) cursor.old result cursor.new }
 {
-    if count < 64 {
+    if count < SELECT_ITEMS {
         return item(cursor, alloc);
     }
     Err(cursor.no_item())
 }
 
 /// The items of a select.
-#[tactic(auto, unfolding(crate::specs::Select::listed))]
-fn listed(cursor: &mut Cursor, alloc: Global) -> Result<List<Item>, Fault>
+#[tactic(auto, unfolding(crate::specs::reading::Select::listed))]
+fn listed(cursor: &mut Cursor, alloc: Global) -> Result<List<Item>, RuleFault>
     ensures { Does (rules.listed store_limits) cursor.old result cursor.new }
 {
-    let first = item_behind(cursor, alloc, 0)?;
+    let first = item_after(cursor, alloc, 0)?;
     let mut items = list_of_one(alloc, first)?;
     while cursor.next_is_mark(b",") {
         cursor.mark(b",")?;
         let count = items.items().len();
-        let next = match item_behind(cursor, alloc, count) {
+        let next = match item_after(cursor, alloc, count) {
             Ok(next) => next,
             Err(fault) => return Err(fault),
         };
-        add(&mut items, next)?;
+        items.add(next)?;
     }
     Ok(items)
 }
 
 /// What a select shows.
-#[tactic(auto, unfolding(crate::specs::Select::items_rule))]
-fn items(cursor: &mut Cursor, alloc: Global) -> Result<Items, Fault>
+#[tactic(auto, unfolding(crate::specs::reading::Select::items_rule))]
+fn items(cursor: &mut Cursor, alloc: Global) -> Result<Items, RuleFault>
     ensures { Does (rules.items_rule store_limits) cursor.old result cursor.new }
 {
     if cursor.next_is_mark(b"*") {
@@ -157,8 +158,8 @@ fn is_listed(items: &Items) -> bool
 }
 
 /// A join.
-#[tactic(auto, unfolding(crate::specs::Select::join_rule))]
-fn join(cursor: &mut Cursor, alloc: Global) -> Result<Join, Fault>
+#[tactic(auto, unfolding(crate::specs::reading::Select::join_rule))]
+fn join(cursor: &mut Cursor, alloc: Global) -> Result<Join, RuleFault>
     ensures { Does (rules.join_rule store_limits) cursor.old result cursor.new }
 {
     if cursor.next_is_word(b"INNER") {
@@ -174,8 +175,8 @@ fn join(cursor: &mut Cursor, alloc: Global) -> Result<Join, Fault>
 }
 
 /// The join of a select, if one stands there: where COUNT or SUM does, none can.
-#[tactic(auto, unfolding(crate::specs::Select::joined))]
-fn joined(cursor: &mut Cursor, alloc: Global, items: &Items) -> Result<Option<Join>, Fault>
+#[tactic(auto, unfolding(crate::specs::reading::Select::joined))]
+fn joined(cursor: &mut Cursor, alloc: Global, items: &Items) -> Result<Option<Join>, RuleFault>
     ensures { Does (rules.joined store_limits items.now) cursor.old result cursor.new }
 {
     if is_plain(items) && (cursor.next_is_word(b"INNER") || cursor.next_is_word(b"JOIN")) {
@@ -185,14 +186,14 @@ fn joined(cursor: &mut Cursor, alloc: Global, items: &Items) -> Result<Option<Jo
     Ok(None)
 }
 
-/// The GROUP BY of a select, if one stands there: behind `*` and a join none can.
-#[tactic(auto, unfolding(crate::specs::Select::grouped_by))]
+/// The GROUP BY of a select, if one stands there: after `*` and a join none can.
+#[tactic(auto, unfolding(crate::specs::reading::Select::grouped_by))]
 fn grouped_by(
     cursor: &mut Cursor,
     alloc: Global,
     items: &Items,
     join: &Option<Join>,
-) -> Result<Option<ColRef>, Fault>
+) -> Result<Option<ColRef>, RuleFault>
     ensures { Does (rules.grouped_by store_limits items.now join.now) cursor.old result cursor.new }
 {
     if is_listed(items) && join.is_none() && cursor.next_is_word(b"GROUP") {
@@ -205,8 +206,8 @@ fn grouped_by(
 }
 
 /// Whether an order goes down.
-#[tactic(auto, unfolding(crate::specs::Select::direction))]
-fn direction(cursor: &mut Cursor) -> Result<bool, Fault>
+#[tactic(auto, unfolding(crate::specs::reading::Select::direction))]
+fn direction(cursor: &mut Cursor) -> Result<bool, RuleFault>
     ensures { Does rules.direction cursor.old result cursor.new }
 {
     if cursor.next_is_word(b"ASC") {
@@ -221,8 +222,8 @@ fn direction(cursor: &mut Cursor) -> Result<bool, Fault>
 }
 
 /// An order.
-#[tactic(auto, unfolding(crate::specs::Select::order_rule))]
-fn order(cursor: &mut Cursor, alloc: Global) -> Result<Order, Fault>
+#[tactic(auto, unfolding(crate::specs::reading::Select::order_rule))]
+fn order(cursor: &mut Cursor, alloc: Global) -> Result<Order, RuleFault>
     ensures { Does (rules.order_rule store_limits) cursor.old result cursor.new }
 {
     cursor.word(b"ORDER")?;
@@ -233,9 +234,9 @@ fn order(cursor: &mut Cursor, alloc: Global) -> Result<Order, Fault>
 }
 
 /// A select without its order.
-#[tactic(auto, unfolding(crate::specs::Select::query))]
-pub fn query(cursor: &mut Cursor, alloc: Global) -> Result<Select, Fault>
-    ensures { Does (rules.query store_limits 64) cursor.old result cursor.new }
+#[tactic(auto, unfolding(crate::specs::reading::Select::query))]
+pub fn query(cursor: &mut Cursor, alloc: Global) -> Result<Select, RuleFault>
+    ensures { Does (rules.query store_limits NESTING_LEVELS) cursor.old result cursor.new }
 {
     cursor.word(b"SELECT")?;
     let items = items(cursor, alloc)?;
@@ -255,8 +256,8 @@ pub fn query(cursor: &mut Cursor, alloc: Global) -> Result<Select, Fault>
 }
 
 /// The order of a select, if one stands there.
-#[tactic(auto, unfolding(crate::specs::Select::ordered))]
-fn ordered(cursor: &mut Cursor, alloc: Global) -> Result<Option<Order>, Fault>
+#[tactic(auto, unfolding(crate::specs::reading::Select::ordered))]
+fn ordered(cursor: &mut Cursor, alloc: Global) -> Result<Option<Order>, RuleFault>
     ensures { Does (rules.ordered store_limits) cursor.old result cursor.new }
 {
     if cursor.next_is_word(b"ORDER") {
@@ -267,9 +268,9 @@ fn ordered(cursor: &mut Cursor, alloc: Global) -> Result<Option<Order>, Fault>
 }
 
 /// A select.
-#[tactic(auto, unfolding(crate::specs::Select::select))]
-pub fn select(cursor: &mut Cursor, alloc: Global) -> Result<Select, Fault>
-    ensures { Does (rules.select store_limits 64) cursor.old result cursor.new }
+#[tactic(auto, unfolding(crate::specs::reading::Select::select))]
+pub fn select(cursor: &mut Cursor, alloc: Global) -> Result<Select, RuleFault>
+    ensures { Does (rules.select store_limits NESTING_LEVELS) cursor.old result cursor.new }
 {
     let Select {
         items,

@@ -1,13 +1,14 @@
 ghost use Rattle.std.specs.Prelude.{◌≡◌};
-ghost use Rattle.sql_reader.specs.Limits.{store_limits};
-ghost use Rattle.sql_reader.specs.Reading.{Does};
-ghost use Rattle.sql_reader.specs.Statements as rules;
+ghost use Rattle.own_model.specs.declared.limit.TheConstants.{NESTING_LEVELS};
+ghost use Rattle.grammar_model.specs.Limits.{store_limits};
+ghost use Rattle.sql_reader.specs.reading.Reader.{Does};
+ghost use Rattle.sql_reader.specs.reading.Statements as rules;
 
 use crate::condition::condition;
 use crate::create::create;
 use crate::cursor::Cursor;
-use crate::fault::Fault;
-use crate::list::{add, list_of_one};
+use crate::fault::RuleFault;
+use crate::list::list_of_one;
 use crate::rule::{bracketed_names, expr, int, tuple};
 use crate::select::select;
 use own_base::{Key, List, Name, Value};
@@ -15,8 +16,8 @@ use own_model::{Expr, Statement};
 use std::alloc::Global;
 
 /// Tuples, parted by commas.
-#[tactic(auto, unfolding(crate::specs::Statements::tuples))]
-fn tuples(cursor: &mut Cursor, alloc: Global) -> Result<List<List<Value>>, Fault>
+#[tactic(auto, unfolding(crate::specs::reading::Statements::tuples))]
+fn tuples(cursor: &mut Cursor, alloc: Global) -> Result<List<List<Value>>, RuleFault>
     ensures { Does (rules.tuples store_limits) cursor.old result cursor.new }
 {
     let first = tuple(cursor, alloc)?;
@@ -24,14 +25,14 @@ fn tuples(cursor: &mut Cursor, alloc: Global) -> Result<List<List<Value>>, Fault
     while cursor.next_is_mark(b",") {
         cursor.mark(b",")?;
         let row = tuple(cursor, alloc)?;
-        add(&mut rows, row)?;
+        rows.add(row)?;
     }
     Ok(rows)
 }
 
 /// The columns of an INSERT, if they stand there.
-#[tactic(auto, unfolding(crate::specs::Statements::columns))]
-fn columns(cursor: &mut Cursor, alloc: Global) -> Result<Option<List<Name>>, Fault>
+#[tactic(auto, unfolding(crate::specs::reading::Statements::columns))]
+fn columns(cursor: &mut Cursor, alloc: Global) -> Result<Option<List<Name>>, RuleFault>
     ensures { Does (rules.columns store_limits) cursor.old result cursor.new }
 {
     if cursor.next_is_mark(b"(") {
@@ -42,8 +43,8 @@ fn columns(cursor: &mut Cursor, alloc: Global) -> Result<Option<List<Name>>, Fau
 }
 
 /// An INSERT.
-#[tactic(auto, unfolding(crate::specs::Statements::insert))]
-fn insert(cursor: &mut Cursor, alloc: Global) -> Result<Statement, Fault>
+#[tactic(auto, unfolding(crate::specs::reading::Statements::insert))]
+fn insert(cursor: &mut Cursor, alloc: Global) -> Result<Statement, RuleFault>
     ensures { Does (rules.insert store_limits) cursor.old result cursor.new }
 {
     cursor.word(b"INSERT")?;
@@ -60,8 +61,8 @@ fn insert(cursor: &mut Cursor, alloc: Global) -> Result<Statement, Fault>
 }
 
 /// What a column is set to.
-#[tactic(auto, unfolding(crate::specs::Statements::set))]
-fn set(cursor: &mut Cursor, alloc: Global) -> Result<(Name, Expr), Fault>
+#[tactic(auto, unfolding(crate::specs::reading::Statements::set))]
+fn set(cursor: &mut Cursor, alloc: Global) -> Result<(Name, Expr), RuleFault>
     ensures { Does (rules.set store_limits) cursor.old result cursor.new }
 {
     let column = cursor.name(alloc)?;
@@ -71,8 +72,8 @@ fn set(cursor: &mut Cursor, alloc: Global) -> Result<(Name, Expr), Fault>
 }
 
 /// What columns are set to.
-#[tactic(auto, unfolding(crate::specs::Statements::sets))]
-fn sets(cursor: &mut Cursor, alloc: Global) -> Result<List<(Name, Expr)>, Fault>
+#[tactic(auto, unfolding(crate::specs::reading::Statements::sets))]
+fn sets(cursor: &mut Cursor, alloc: Global) -> Result<List<(Name, Expr)>, RuleFault>
     ensures { Does (rules.sets store_limits) cursor.old result cursor.new }
 {
     let first = set(cursor, alloc)?;
@@ -80,15 +81,15 @@ fn sets(cursor: &mut Cursor, alloc: Global) -> Result<List<(Name, Expr)>, Fault>
     while cursor.next_is_mark(b",") {
         cursor.mark(b",")?;
         let next = set(cursor, alloc)?;
-        add(&mut sets, next)?;
+        sets.add(next)?;
     }
     Ok(sets)
 }
 
 /// An UPDATE.
-#[tactic(auto, unfolding(crate::specs::Statements::update))]
-fn update(cursor: &mut Cursor, alloc: Global) -> Result<Statement, Fault>
-    ensures { Does (rules.update store_limits 64) cursor.old result cursor.new }
+#[tactic(auto, unfolding(crate::specs::reading::Statements::update))]
+fn update(cursor: &mut Cursor, alloc: Global) -> Result<Statement, RuleFault>
+    ensures { Does (rules.update store_limits NESTING_LEVELS) cursor.old result cursor.new }
 {
     cursor.word(b"UPDATE")?;
     let table = cursor.name(alloc)?;
@@ -99,9 +100,9 @@ fn update(cursor: &mut Cursor, alloc: Global) -> Result<Statement, Fault>
 }
 
 /// A DELETE.
-#[tactic(auto, unfolding(crate::specs::Statements::delete))]
-fn delete(cursor: &mut Cursor, alloc: Global) -> Result<Statement, Fault>
-    ensures { Does (rules.delete store_limits 64) cursor.old result cursor.new }
+#[tactic(auto, unfolding(crate::specs::reading::Statements::delete))]
+fn delete(cursor: &mut Cursor, alloc: Global) -> Result<Statement, RuleFault>
+    ensures { Does (rules.delete store_limits NESTING_LEVELS) cursor.old result cursor.new }
 {
     cursor.word(b"DELETE")?;
     cursor.word(b"FROM")?;
@@ -111,8 +112,8 @@ fn delete(cursor: &mut Cursor, alloc: Global) -> Result<Statement, Fault>
 }
 
 /// A transaction's statement that begins with CTX.
-#[tactic(auto, unfolding(crate::specs::Statements::context))]
-fn context(cursor: &mut Cursor) -> Result<Statement, Fault>
+#[tactic(auto, unfolding(crate::specs::reading::Statements::context))]
+fn context(cursor: &mut Cursor) -> Result<Statement, RuleFault>
     ensures { Does rules.context cursor.old result cursor.new }
 {
     cursor.word(b"CTX")?;
@@ -129,8 +130,8 @@ fn context(cursor: &mut Cursor) -> Result<Statement, Fault>
 }
 
 /// A BEGIN.
-#[tactic(auto, unfolding(crate::specs::Statements::begin))]
-fn begin(cursor: &mut Cursor) -> Result<Statement, Fault>
+#[tactic(auto, unfolding(crate::specs::reading::Statements::begin))]
+fn begin(cursor: &mut Cursor) -> Result<Statement, RuleFault>
     ensures { Does rules.begin cursor.old result cursor.new }
 {
     cursor.word(b"BEGIN")?;
@@ -141,8 +142,8 @@ fn begin(cursor: &mut Cursor) -> Result<Statement, Fault>
 }
 
 /// A statement that names no table.
-#[tactic(auto, unfolding(crate::specs::Statements::control))]
-fn control(cursor: &mut Cursor) -> Result<Statement, Fault>
+#[tactic(auto, unfolding(crate::specs::reading::Statements::control))]
+fn control(cursor: &mut Cursor) -> Result<Statement, RuleFault>
     ensures { Does rules.control cursor.old result cursor.new }
 {
     if cursor.next_is_word(b"BEGIN") {
@@ -169,8 +170,8 @@ fn control(cursor: &mut Cursor) -> Result<Statement, Fault>
 }
 
 /// A key.
-#[tactic(auto, unfolding(crate::specs::Statements::key_rule))]
-fn key(cursor: &mut Cursor, alloc: Global) -> Result<Key, Fault>
+#[tactic(auto, unfolding(crate::specs::reading::Statements::key_rule))]
+fn key(cursor: &mut Cursor, alloc: Global) -> Result<Key, RuleFault>
     ensures { Does (rules.key_rule store_limits) cursor.old result cursor.new }
 {
     if cursor.next_is_quoted() {
@@ -182,8 +183,8 @@ fn key(cursor: &mut Cursor, alloc: Global) -> Result<Key, Fault>
 }
 
 /// A GDPR call.
-#[tactic(auto, unfolding(crate::specs::Statements::gdpr))]
-fn gdpr(cursor: &mut Cursor, alloc: Global) -> Result<Statement, Fault>
+#[tactic(auto, unfolding(crate::specs::reading::Statements::gdpr))]
+fn gdpr(cursor: &mut Cursor, alloc: Global) -> Result<Statement, RuleFault>
     ensures { Does (rules.gdpr store_limits) cursor.old result cursor.new }
 {
     cursor.word(b"GDPR")?;
@@ -200,9 +201,9 @@ fn gdpr(cursor: &mut Cursor, alloc: Global) -> Result<Statement, Fault>
 }
 
 /// A statement.
-#[tactic(auto, unfolding(crate::specs::Statements::statement_rule))]
-pub fn statement(cursor: &mut Cursor, alloc: Global) -> Result<Statement, Fault>
-    ensures { Does (rules.statement_rule store_limits 64) cursor.old result cursor.new }
+#[tactic(auto, unfolding(crate::specs::reading::Statements::statement_rule))]
+pub fn statement(cursor: &mut Cursor, alloc: Global) -> Result<Statement, RuleFault>
+    ensures { Does (rules.statement_rule store_limits NESTING_LEVELS) cursor.old result cursor.new }
 {
     if cursor.next_is_word(b"CREATE") {
         return create(cursor, alloc);

@@ -1,7 +1,7 @@
 ghost use Rattle.std.specs.Prelude.{◌≡◌, ◌<◌, ◌^◌, length, map, IfOk};
-ghost use Rattle.sql_reader.specs.Cut.{Cut, AreTokens};
-ghost use Rattle.sql_reader.specs.Reading.{Tokens};
-ghost use Rattle.sql_reader.specs.Token.{token_of};
+ghost use Rattle.grammar_model.specs.Terminals.{IsCutInto, AreTerminals};
+ghost use Rattle.grammar_model.specs.Terminal.{Terminals};
+ghost use Rattle.grammar_model.specs.Terminal.{terminal_of};
 
 use sql_lex::{Lexer, SyntaxAt, Token, TokenKind};
 use std::alloc::{AllocError, Global};
@@ -9,9 +9,9 @@ use std::alloc::{AllocError, Global};
 /// The tokens of a text, in order. Where no token begins at a byte, a mark without bytes stands last.
 pub fn tokens(alloc: Global, text: &str) -> Result<Vec<Token<'_>>, AllocError>
     requires { length text.now < 2 ^ 32 }
-    ensures cut { IfOk result (λ tokens. Cut (record { text = text.now; at = 0 }) tokens.items) }
+    ensures cut { IfOk result (λ tokens. IsCutInto (record { text = text.now; at = 0 }) tokens.items) }
     // The text has no other tokens, as the grammar sees them.
-    ensures only { IfOk result (λ tokens. (other : Tokens) → AreTokens text.now other → other ≡ map token_of tokens.items) }
+    ensures only { IfOk result (λ tokens. (other : Terminals) → AreTerminals text.now other → other ≡ map terminal_of tokens.items) }
 {
     let mut tokens = Vec::new(alloc);
     let mut lexer = Lexer::new(text);

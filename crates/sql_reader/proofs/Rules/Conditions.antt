@@ -5,17 +5,17 @@ use Rattle.own_model.specs.declared.condition.Cond.{Cond}
 use Rattle.own_model.specs.declared.condition.Operand.TheVariants as Operand
 use Rattle.own_model.specs.declared.limit.LimitName.{LimitName}
 use Rattle.own_model.specs.declared.select.ColRef.{ColRef}
-use Rattle.sql_reader.specs.Grammar as grammar
-use Rattle.sql_reader.specs.Language.{◌>>=◌, ◌or◌}
-use Rattle.sql_reader.specs.Limits.{Limits}
-use Rattle.sql_reader.specs.Condition as condition_rules
+use Rattle.grammar_model.specs.Grammar as grammar
+use Rattle.grammar_model.specs.Language.{◌>>=◌, ◌or◌}
+use Rattle.grammar_model.specs.Limits.{Limits}
+use Rattle.sql_reader.specs.reading.Condition as condition_rules
 use Rattle.sql_reader.proofs.Changes.{in_words, Into}
 use Rattle.sql_reader.proofs.Choices.{or_else, or_nothing, word_right, mark_right, pure_right, word_tests, mark_tests, name_tests}
 use Rattle.sql_reader.proofs.Heads.{AWord, AMark, AName, ANumber, AQuoted}
 use Rattle.sql_reader.proofs.Joins.{and_then}
-use Rattle.sql_reader.proofs.Right.{Right}
+use Rattle.sql_reader.proofs.ReaderRight.{Right}
 use Rattle.sql_reader.proofs.Rules.Values.{col_right, literal_right}
-use Rattle.sql_reader.specs.Made.{is_there}
+use Rattle.grammar_model.specs.Parts.{is_there}
 use Rattle.sql_reader.proofs.Lifts.{lift, Fair}
 
 module _ (lifts : LimitName → Bool) (limits : Limits) (fair : Fair limits) where
@@ -51,7 +51,7 @@ module _ (lifts : LimitName → Bool) (limits : Limits) (fair : Fair limits) whe
       (and_then (col_right lifts limits fair) (λ found. pure_right (Operand.Column found)) refl)
       (and_then (literal_right lifts limits fair) (λ found. pure_right (Operand.Literal found)) refl) refl
 
-  -- cmp (col | literal) | IS [NOT] NULL, behind a column
+  -- cmp (col | literal) | IS [NOT] NULL, after a column
   pub compared_right : (column : ColRef) →
       Right lifts (condition_rules.compared limits column) (condition_rules.compared (lift lifts limits) column)
       (grammar.tested column or grammar.compared limits column)
@@ -73,9 +73,9 @@ module _ (lifts : LimitName → Bool) (limits : Limits) (fair : Fair limits) whe
   comparison_right = in_words (grammar.comparison limits) to from (and_then (col_right lifts limits fair) (λ column. compared_right column) refl)
     where
       to : Into (grammar.col limits >>= λ column. grammar.tested column or grammar.compared limits column) (grammar.comparison limits)
-      to value tokens rest (column, middle, text, inl behind) = inr (column, middle, text, behind)
-      to value tokens rest (column, middle, text, inr behind) = inl (column, middle, text, behind)
+      to value terminals rest (column, middle, text, inl behind) = inr (column, middle, text, behind)
+      to value terminals rest (column, middle, text, inr behind) = inl (column, middle, text, behind)
 
       from : Into (grammar.comparison limits) (grammar.col limits >>= λ column. grammar.tested column or grammar.compared limits column)
-      from value tokens rest (inl (column, middle, text, behind)) = (column, middle, text, inr behind)
-      from value tokens rest (inr (column, middle, text, behind)) = (column, middle, text, inl behind)
+      from value terminals rest (inl (column, middle, text, behind)) = (column, middle, text, inr behind)
+      from value terminals rest (inr (column, middle, text, behind)) = (column, middle, text, inl behind)

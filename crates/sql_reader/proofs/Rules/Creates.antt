@@ -7,33 +7,33 @@ use Rattle.own_model.specs.declared.limit.LimitName.{LimitName}
 use Rattle.own_model.specs.declared.schema.Kind.TheVariants as Kind
 use Rattle.own_model.specs.declared.schema.RefKind.TheVariants as RefKind
 use Rattle.own_model.specs.declared.create.CreateTable.{CreateTable}
-use Rattle.sql_reader.specs.Create.{begins_attr}
-use Rattle.sql_reader.specs.Grammar as grammar
-use Rattle.sql_reader.specs.Language as language
-use Rattle.sql_reader.specs.Language.{Language, ◌>>=◌, ◌>>◌, ◌or◌}
-use Rattle.sql_reader.specs.Limits.{Limits}
-use Rattle.sql_reader.specs.Create as create_rules
-use Rattle.sql_reader.specs.Token.{Token, is_word}
+use Rattle.sql_reader.specs.reading.Create.{begins_attr}
+use Rattle.grammar_model.specs.Grammar as grammar
+use Rattle.grammar_model.specs.Language as language
+use Rattle.grammar_model.specs.Language.{Language, ◌>>=◌, ◌>>◌, ◌or◌}
+use Rattle.grammar_model.specs.Limits.{Limits}
+use Rattle.sql_reader.specs.reading.Create as create_rules
+use Rattle.grammar_model.specs.Terminal.{Terminal, is_word}
 use Rattle.sql_reader.proofs.Changes.{as_often, with_more}
 use Rattle.sql_reader.proofs.Choices.{or_else, or_nothing, word_right, mark_right, pure_right, word_tests, mark_tests, name_tests, or_none}
 use Rattle.sql_reader.proofs.Heads.{Head, AWord, AMark, AName, among}
 use Rattle.sql_reader.proofs.Joins.{and_then}
 use Rattle.sql_reader.proofs.Leaves.{name_right}
-use Rattle.sql_reader.proofs.Right.{Right}
+use Rattle.sql_reader.proofs.ReaderRight.{Right}
 use Rattle.sql_reader.proofs.Rules.Values.{one_name_right, bracketed_names_right}
-use Rattle.sql_reader.specs.Made.{is_there}
+use Rattle.grammar_model.specs.Parts.{is_there}
 use Rattle.sql_reader.proofs.Lifts.{lift, Fair}
 
--- [DATA_SUBJECT] TABLE name ( part {, part} ), behind CREATE
-abbrev pub table_behind : Limits → Language CreateTable
-table_behind limits = do
+-- [DATA_SUBJECT] TABLE name ( part {, part} ), after CREATE
+abbrev pub table_after : Limits → Language CreateTable
+table_after limits = do
   subject ← language.optional (language.word (codes "DATA_SUBJECT"))
   language.word (codes "TABLE")
   found ← grammar.name limits
   all ← language.bracketed (language.listed (grammar.part limits))
   language.pure (record { name = found; subject = is_there subject; parts = all })
 
--- the tokens at which an attribute begins
+-- the terminals at which an attribute begins
 abbrev attr_heads : List Head
 attr_heads =
     AWord (codes "PRIMARY") ∷ AWord (codes "NOT") ∷ AWord (codes "UNIQUE")
@@ -44,11 +44,11 @@ module _ (lifts : LimitName → Bool) (limits : Limits) (fair : Fair limits) whe
   or_last true b = refl
   or_last false b = or_none b
 
-  -- what tests the token at which an attribute begins
-  attr_tests : (token : Token) → begins_attr token ≡ among attr_heads token
-  attr_tests token =
-      ap (λ b. is_word (codes "PRIMARY") token || (is_word (codes "NOT") token || (is_word (codes "UNIQUE") token || (is_word (codes "REFERENCES") token || (is_word (codes "OWNED_BY") token || (is_word (codes "OWNS") token || b))))))
-      (or_last (is_word (codes "ACCESSED_BY") token) (is_word (codes "ACCESSES") token))
+  -- what tests the terminal at which an attribute begins
+  attr_tests : (terminal : Terminal) → begins_attr terminal ≡ among attr_heads terminal
+  attr_tests terminal =
+      ap (λ b. is_word (codes "PRIMARY") terminal || (is_word (codes "NOT") terminal || (is_word (codes "UNIQUE") terminal || (is_word (codes "REFERENCES") terminal || (is_word (codes "OWNED_BY") terminal || (is_word (codes "OWNS") terminal || b))))))
+      (or_last (is_word (codes "ACCESSED_BY") terminal) (is_word (codes "ACCESSES") terminal))
 
   -- REFERENCES [ONLY] | OWNED_BY | OWNS | ACCESSED_BY | ACCESSES
   pub ref_kind_right :
@@ -206,7 +206,7 @@ module _ (lifts : LimitName → Bool) (limits : Limits) (fair : Fair limits) whe
   -- [DATA_SUBJECT] TABLE name ( part {, part} )
   pub table_right :
       Right lifts (create_rules.table limits) (create_rules.table (lift lifts limits))
-      (table_behind limits)
+      (table_after limits)
       (AWord (codes "DATA_SUBJECT") ∷ AWord (codes "TABLE") ∷ []) false []
   unfolding create_rules.table
   table_right =

@@ -4,73 +4,73 @@ use Rattle.std.proofs.lemmas.Slice.Eq.{bytes_eq-Decides}
 use Rattle.std.specs.Str.{bytes_eq}
 use Rattle.own_model.specs.declared.limit.LimitName.{LimitName}
 use Rattle.own_model.specs.declared.select.What.{What}
-use Rattle.sql_reader.specs.Grammar as grammar
-use Rattle.sql_reader.specs.Language as language
-use Rattle.sql_reader.specs.Language.{Language, ◌>>=◌, ◌>>◌, ◌or◌}
-use Rattle.sql_reader.specs.Limits.{Limits}
-use Rattle.sql_reader.specs.Reading.{Tokens}
-use Rattle.sql_reader.specs.Select as select_rules
-use Rattle.sql_reader.specs.Select.{is_plain, is_listed}
+use Rattle.grammar_model.specs.Grammar as grammar
+use Rattle.grammar_model.specs.Language as language
+use Rattle.grammar_model.specs.Language.{Language, ◌>>=◌, ◌>>◌, ◌or◌}
+use Rattle.grammar_model.specs.Limits.{Limits}
+use Rattle.grammar_model.specs.Terminal.{Terminals}
+use Rattle.sql_reader.specs.reading.Select as select_rules
+use Rattle.sql_reader.specs.reading.Select.{is_plain, is_listed}
 use Rattle.sql_reader.proofs.Changes.{decided, with_more, in_words, Into}
 use Rattle.sql_reader.proofs.Choices.{or_else, or_nothing, word_right, mark_right, pure_right, word_tests, mark_tests}
 use Rattle.sql_reader.proofs.Heads.{AWord, AMark, AName}
 use Rattle.sql_reader.proofs.Joins.{and_then}
 use Rattle.sql_reader.proofs.Leaves.{name_right}
-use Rattle.sql_reader.proofs.Right.{Right}
+use Rattle.sql_reader.proofs.ReaderRight.{Right}
 use Rattle.sql_reader.proofs.Rules.Values.{col_behind_right, col_right}
 use Rattle.sql_reader.proofs.Lifts.{lift, Fair}
 
--- ( * ), behind COUNT
-abbrev count_behind : Language What
-count_behind = do
+-- ( * ), after COUNT
+abbrev count_after : Language What
+count_after = do
   language.mark (codes "(")
   language.mark (codes "*")
   language.mark (codes ")")
   language.pure What.Count
 
--- ( col ), behind SUM
-abbrev sum_of_behind : Limits → Language What
-sum_of_behind limits = do
+-- ( col ), after SUM
+abbrev sum_of_after : Limits → Language What
+sum_of_after limits = do
   language.mark (codes "(")
   found ← grammar.col limits
   language.mark (codes ")")
   language.pure (What.SumOf found)
 
--- a column, behind its first name
+-- a column, after its first name
 abbrev col_what : Limits → List ℕ → Language What
-col_what limits first = grammar.col_behind limits first >>= λ column. language.pure (What.Column column)
+col_what limits first = grammar.col_after limits first >>= λ column. language.pure (What.Column column)
 
--- what may come behind the first name of an item
-abbrev pub what_behind : Limits → List ℕ → Language What
-what_behind limits first =
-    language.whether (bytes_eq first (codes "count")) (count_behind or col_what limits first)
-    (language.whether (bytes_eq first (codes "sum")) (sum_of_behind limits or col_what limits first)
+-- what may come after the first name of an item
+abbrev pub what_after : Limits → List ℕ → Language What
+what_after limits first =
+    language.whether (bytes_eq first (codes "count")) (count_after or col_what limits first)
+    (language.whether (bytes_eq first (codes "sum")) (sum_of_after limits or col_what limits first)
     (col_what limits first))
 
 module _ (lifts : LimitName → Bool) (limits : Limits) (fair : Fair limits) where
-  -- ( * ), behind COUNT
-  pub count_behind_right : Right lifts select_rules.count_behind select_rules.count_behind count_behind (AMark (codes "(") ∷ []) false []
-  unfolding select_rules.count_behind
+  -- ( * ), after COUNT
+  pub count_behind_right : Right lifts select_rules.count_after select_rules.count_after count_after (AMark (codes "(") ∷ []) false []
+  unfolding select_rules.count_after
   count_behind_right =
       and_then (mark_right (codes "(")) (λ _.
       and_then (mark_right (codes "*")) (λ _. and_then (mark_right (codes ")")) (λ _. pure_right What.Count) refl) refl) refl
 
-  -- ( col ), behind SUM
+  -- ( col ), after SUM
   pub sum_of_behind_right :
-      Right lifts (select_rules.sum_of_behind limits) (select_rules.sum_of_behind (lift lifts limits))
-      (sum_of_behind limits)
+      Right lifts (select_rules.sum_of_after limits) (select_rules.sum_of_after (lift lifts limits))
+      (sum_of_after limits)
       (AMark (codes "(") ∷ []) false []
-  unfolding select_rules.sum_of_behind
+  unfolding select_rules.sum_of_after
   sum_of_behind_right =
       and_then (mark_right (codes "(")) (λ _.
       and_then (col_right lifts limits fair) (λ column. and_then (mark_right (codes ")")) (λ _. pure_right (What.SumOf column)) refl) refl) refl
 
-  -- what an item is, behind its first name
+  -- what an item is, after its first name
   pub what_behind_right : (first : List ℕ) →
-      Right lifts (select_rules.what_behind limits first) (select_rules.what_behind (lift lifts limits) first)
-      (what_behind limits first)
+      Right lifts (select_rules.what_after limits first) (select_rules.what_after (lift lifts limits) first)
+      (what_after limits first)
       (AMark (codes "(") ∷ AMark (codes ".") ∷ []) true (AMark (codes ".") ∷ AMark (codes "(") ∷ [])
-  unfolding select_rules.what_behind
+  unfolding select_rules.what_after
   what_behind_right first =
       decided (bytes_eq first (codes "count"))
       (with_more (AMark (codes "(") ∷ AMark (codes ".") ∷ []) true (AMark (codes ".") ∷ AMark (codes "(") ∷ [])
@@ -92,43 +92,43 @@ module _ (lifts : LimitName → Bool) (limits : Limits) (fair : Fair limits) whe
   alias_right = or_nothing (word_tests (codes "AS")) (and_then (word_right (codes "AS")) (λ _. name_right lifts limits fair) refl)
 
   -- what an item is, as its rule says it
-  what_to : (first : List ℕ) (value : What) (tokens middle rest : Tokens) → grammar.name limits first tokens middle → what_behind limits first value middle rest → (grammar.column limits or (grammar.count limits or grammar.sum limits)) value tokens rest
+  what_to : (first : List ℕ) (value : What) (terminals middle rest : Terminals) → grammar.name limits first terminals middle → what_after limits first value middle rest → (grammar.column limits or (grammar.count limits or grammar.sum limits)) value terminals rest
   unfolding grammar.col
-  what_to first value tokens middle rest named behind = by_count (bytes_eq first (codes "count")) refl behind
+  what_to first value terminals middle rest named behind = by_count (bytes_eq first (codes "count")) refl behind
     where
-      a_column : col_what limits first value middle rest → (grammar.column limits or (grammar.count limits or grammar.sum limits)) value tokens rest
+      a_column : col_what limits first value middle rest → (grammar.column limits or (grammar.count limits or grammar.sum limits)) value terminals rest
       a_column (column, end, text, made) = inl (column, end, (first, middle, named, text), made)
 
-      called : (wanted : List ℕ) → bytes_eq first wanted ≡ true → grammar.function limits wanted tt tokens middle
-      called wanted is = subst (λ n. grammar.name limits n tokens middle) ((bytes_eq-Decides first wanted).0 is) named
+      called : (wanted : List ℕ) → bytes_eq first wanted ≡ true → grammar.function limits wanted tt terminals middle
+      called wanted is = subst (λ n. grammar.name limits n terminals middle) ((bytes_eq-Decides first wanted).0 is) named
 
-      by_sum : (answer : Bool) → bytes_eq first (codes "sum") ≡ answer → language.whether answer (sum_of_behind limits or col_what limits first) (col_what limits first) value middle rest → (grammar.column limits or (grammar.count limits or grammar.sum limits)) value tokens rest
+      by_sum : (answer : Bool) → bytes_eq first (codes "sum") ≡ answer → language.whether answer (sum_of_after limits or col_what limits first) (col_what limits first) value middle rest → (grammar.column limits or (grammar.count limits or grammar.sum limits)) value terminals rest
       by_sum true is (inl text) = inr (inr (tt, middle, called (codes "sum") is, text))
       by_sum true is (inr text) = a_column text
       by_sum false is text = a_column text
 
-      by_count : (answer : Bool) → bytes_eq first (codes "count") ≡ answer → language.whether answer (count_behind or col_what limits first) (language.whether (bytes_eq first (codes "sum")) (sum_of_behind limits or col_what limits first) (col_what limits first)) value middle rest → (grammar.column limits or (grammar.count limits or grammar.sum limits)) value tokens rest
+      by_count : (answer : Bool) → bytes_eq first (codes "count") ≡ answer → language.whether answer (count_after or col_what limits first) (language.whether (bytes_eq first (codes "sum")) (sum_of_after limits or col_what limits first) (col_what limits first)) value middle rest → (grammar.column limits or (grammar.count limits or grammar.sum limits)) value terminals rest
       by_count true is (inl text) = inr (inl (tt, middle, called (codes "count") is, text))
       by_count true is (inr text) = a_column text
       by_count false is text = by_sum (bytes_eq first (codes "sum")) refl text
 
-  -- a column may stand behind each first name
-  what_column : (first : List ℕ) (value : What) (middle rest : Tokens) → col_what limits first value middle rest → what_behind limits first value middle rest
+  -- a column may stand after each first name
+  what_column : (first : List ℕ) (value : What) (middle rest : Terminals) → col_what limits first value middle rest → what_after limits first value middle rest
   what_column first value middle rest text = by_count (bytes_eq first (codes "count"))
     where
-      by_sum : (answer : Bool) → language.whether answer (sum_of_behind limits or col_what limits first) (col_what limits first) value middle rest
+      by_sum : (answer : Bool) → language.whether answer (sum_of_after limits or col_what limits first) (col_what limits first) value middle rest
       by_sum true = inr text
       by_sum false = text
 
-      by_count : (answer : Bool) → language.whether answer (count_behind or col_what limits first) (language.whether (bytes_eq first (codes "sum")) (sum_of_behind limits or col_what limits first) (col_what limits first)) value middle rest
+      by_count : (answer : Bool) → language.whether answer (count_after or col_what limits first) (language.whether (bytes_eq first (codes "sum")) (sum_of_after limits or col_what limits first) (col_what limits first)) value middle rest
       by_count true = inr text
       by_count false = by_sum (bytes_eq first (codes "sum"))
 
-  what_from : (value : What) (tokens rest : Tokens) → (grammar.column limits or (grammar.count limits or grammar.sum limits)) value tokens rest → (grammar.name limits >>= what_behind limits) value tokens rest
+  what_from : (value : What) (terminals rest : Terminals) → (grammar.column limits or (grammar.count limits or grammar.sum limits)) value terminals rest → (grammar.name limits >>= what_after limits) value terminals rest
   unfolding grammar.col
-  what_from value tokens rest (inl (column, end, (first, middle, named, text), made)) = (first, middle, named, what_column first value middle rest (column, end, text, made))
-  what_from value tokens rest (inr (inl (found, middle, named, text))) = (codes "count", middle, named, inl text)
-  what_from value tokens rest (inr (inr (found, middle, named, text))) = (codes "sum", middle, named, inl text)
+  what_from value terminals rest (inl (column, end, (first, middle, named, text), made)) = (first, middle, named, what_column first value middle rest (column, end, text, made))
+  what_from value terminals rest (inr (inl (found, middle, named, text))) = (codes "count", middle, named, inl text)
+  what_from value terminals rest (inr (inr (found, middle, named, text))) = (codes "sum", middle, named, inl text)
 
   -- gitem = (col | COUNT ( * ) | SUM ( col )) [AS name]
   pub item_right :
@@ -142,8 +142,8 @@ module _ (lifts : LimitName → Bool) (limits : Limits) (fair : Fair limits) whe
       and_then (what_behind_right first) (λ found.
       and_then alias_right (λ called. pure_right (record { what = found; alias = called })) refl) refl) refl)
     where
-      to : Into (grammar.name limits >>= λ first. what_behind limits first >>= λ found. grammar.alias limits >>= λ called. language.pure (record { what = found; alias = called })) (grammar.gitem limits)
-      to value tokens rest (first, middle, named, (found, end, what, called)) = (found, end, what_to first found tokens middle end named what, called)
+      to : Into (grammar.name limits >>= λ first. what_after limits first >>= λ found. grammar.alias limits >>= λ called. language.pure (record { what = found; alias = called })) (grammar.gitem limits)
+      to value terminals rest (first, middle, named, (found, end, what, called)) = (found, end, what_to first found terminals middle end named what, called)
 
-      from : Into (grammar.gitem limits) (grammar.name limits >>= λ first. what_behind limits first >>= λ found. grammar.alias limits >>= λ called. language.pure (record { what = found; alias = called }))
-      from value tokens rest (found, end, what, called) = let text = what_from found tokens end what in (text.0, text.1, text.2, (found, end, text.3, called))
+      from : Into (grammar.gitem limits) (grammar.name limits >>= λ first. what_after limits first >>= λ found. grammar.alias limits >>= λ called. language.pure (record { what = found; alias = called }))
+      from value terminals rest (found, end, what, called) = let text = what_from found terminals end what in (text.0, text.1, text.2, (found, end, text.3, called))

@@ -3,17 +3,17 @@ use Rattle.std.proofs.Common.{Bool, false, [], ◌∷◌, refl, codes}
 use Rattle.own_model.specs.declared.condition.Cond.{Cond}
 use Rattle.own_model.specs.declared.condition.Cond.TheVariants as Cond
 use Rattle.own_model.specs.declared.limit.LimitName.{LimitName}
-use Rattle.sql_reader.specs.Grammar as grammar
-use Rattle.sql_reader.specs.Language as languages
-use Rattle.sql_reader.specs.Language.{Language, ◌>>=◌, ◌>>◌, ◌or◌}
-use Rattle.sql_reader.specs.Reading.{Reader}
-use Rattle.sql_reader.specs.Condition as condition_rules
+use Rattle.grammar_model.specs.Grammar as grammar
+use Rattle.grammar_model.specs.Language as languages
+use Rattle.grammar_model.specs.Language.{Language, ◌>>=◌, ◌>>◌, ◌or◌}
+use Rattle.sql_reader.specs.reading.Reader.{Reader}
+use Rattle.sql_reader.specs.reading.Condition as condition_rules
 use Rattle.sql_reader.proofs.Changes.{as_often, with_more}
 use Rattle.sql_reader.proofs.Choices.{word_right, pure_right, word_tests}
 use Rattle.sql_reader.proofs.Heads.{AWord, AMark, AName}
 use Rattle.sql_reader.proofs.Joins.{and_then}
-use Rattle.sql_reader.proofs.Right.{Right}
-use Rattle.sql_reader.specs.Made.{list_of}
+use Rattle.sql_reader.proofs.ReaderRight.{Right}
+use Rattle.grammar_model.specs.Parts.{list_of}
 
 module _ (lifts : LimitName → Bool) (reader other : Reader Cond) (language : Language Cond) (neg : Right lifts reader other language (AWord (codes "NOT") ∷ AMark (codes "(") ∷ AName ∷ []) false (AMark (codes ".") ∷ [])) where
   -- neg {AND neg}

@@ -4,23 +4,23 @@ use Rattle.std.specs.Prelude.{◌||◌, ◌&&◌, not, Option, None}
 use Rattle.own_model.specs.declared.limit.LimitName.{LimitName}
 use Rattle.own_model.specs.declared.select.Items.{Items}
 use Rattle.own_model.specs.declared.select.Join.{Join}
-use Rattle.sql_reader.specs.Grammar as grammar
-use Rattle.sql_reader.specs.Language as language
-use Rattle.sql_reader.specs.Language.{Language, ◌>>=◌, ◌>>◌, ◌or◌}
-use Rattle.sql_reader.specs.Limits.{Limits}
-use Rattle.sql_reader.specs.Select as select_rules
-use Rattle.sql_reader.specs.Select.{is_plain, is_listed}
-use Rattle.sql_reader.specs.Token.{Token, is_word}
+use Rattle.grammar_model.specs.Grammar as grammar
+use Rattle.grammar_model.specs.Language as language
+use Rattle.grammar_model.specs.Language.{Language, ◌>>=◌, ◌>>◌, ◌or◌}
+use Rattle.grammar_model.specs.Limits.{Limits}
+use Rattle.sql_reader.specs.reading.Select as select_rules
+use Rattle.sql_reader.specs.reading.Select.{is_plain, is_listed}
+use Rattle.grammar_model.specs.Terminal.{Terminal, is_word}
 use Rattle.sql_reader.proofs.Changes.{decided, with_more}
 use Rattle.sql_reader.proofs.Choices.{or_else, or_nothing, word_right, mark_right, pure_right, word_tests, mark_tests, or_none}
 use Rattle.sql_reader.proofs.Heads.{AWord, AMark, AName, ASlot, among}
 use Rattle.sql_reader.proofs.Joins.{and_then}
 use Rattle.sql_reader.proofs.Leaves.{name_right}
-use Rattle.sql_reader.proofs.Right.{Right}
+use Rattle.sql_reader.proofs.ReaderRight.{Right}
 use Rattle.sql_reader.proofs.Rules.Queries.{items_or_all}
 use Rattle.sql_reader.proofs.Rules.Values.{col_right}
 use Rattle.sql_reader.proofs.Rules.Slots.{item_behind_right, all_items_right}
-use Rattle.sql_reader.specs.Made.{is_there}
+use Rattle.grammar_model.specs.Parts.{is_there}
 use Rattle.sql_reader.proofs.Lifts.{lift, Fair}
 
 module _ (lifts : LimitName → Bool) (limits : Limits) (fair : Fair limits) where
@@ -28,9 +28,9 @@ module _ (lifts : LimitName → Bool) (limits : Limits) (fair : Fair limits) whe
   or_last true b = refl
   or_last false b = or_none b
 
-  -- what tests the token at which a join begins
-  join_tests : (token : Token) → (is_word (codes "INNER") token || is_word (codes "JOIN") token) ≡ among (AWord (codes "INNER") ∷ AWord (codes "JOIN") ∷ []) token
-  join_tests token = or_last (is_word (codes "INNER") token) (is_word (codes "JOIN") token)
+  -- what tests the terminal at which a join begins
+  join_tests : (terminal : Terminal) → (is_word (codes "INNER") terminal || is_word (codes "JOIN") terminal) ≡ among (AWord (codes "INNER") ∷ AWord (codes "JOIN") ∷ []) terminal
+  join_tests terminal = or_last (is_word (codes "INNER") terminal) (is_word (codes "JOIN") terminal)
 
   -- gitem {, gitem}
   pub gitems_right :

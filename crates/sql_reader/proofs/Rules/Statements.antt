@@ -4,35 +4,35 @@ use Rattle.std.specs.Prelude.{None}
 use Rattle.own_base.specs.declared.value.Key.TheVariants as Key
 use Rattle.own_model.specs.declared.limit.LimitName.{LimitName}
 use Rattle.own_model.specs.declared.statement.Statement.TheVariants as Statement
-use Rattle.sql_reader.specs.Grammar as grammar
-use Rattle.sql_reader.specs.Language as language
-use Rattle.sql_reader.specs.Language.{Language, ◌>>=◌, ◌>>◌, ◌or◌}
-use Rattle.sql_reader.specs.Limits.{Limits}
-use Rattle.sql_reader.specs.Condition as condition_rules
-use Rattle.sql_reader.specs.Create as create_rules
-use Rattle.sql_reader.specs.Select as select_rules
-use Rattle.sql_reader.specs.Statements as statement_rules
-use Rattle.sql_reader.specs.Select.{is_plain, is_listed}
+use Rattle.grammar_model.specs.Grammar as grammar
+use Rattle.grammar_model.specs.Language as language
+use Rattle.grammar_model.specs.Language.{Language, ◌>>=◌, ◌>>◌, ◌or◌}
+use Rattle.grammar_model.specs.Limits.{Limits}
+use Rattle.sql_reader.specs.reading.Condition as condition_rules
+use Rattle.sql_reader.specs.reading.Create as create_rules
+use Rattle.sql_reader.specs.reading.Select as select_rules
+use Rattle.sql_reader.specs.reading.Statements as statement_rules
+use Rattle.sql_reader.specs.reading.Select.{is_plain, is_listed}
 use Rattle.sql_reader.proofs.Changes.{as_often, with_more, in_words}
 use Rattle.sql_reader.proofs.Choices.{or_else, or_nothing, word_right, mark_right, pure_right, word_tests, mark_tests, quoted_tests}
 use Rattle.sql_reader.proofs.Heads.{Head, AWord, AMark, AName, ANumber, AQuoted}
 use Rattle.sql_reader.proofs.Joins.{and_then}
 use Rattle.sql_reader.proofs.Leaves.{name_right, text_right}
-use Rattle.sql_reader.proofs.Right.{Right}
+use Rattle.sql_reader.proofs.ReaderRight.{Right}
 use Rattle.sql_reader.proofs.Rules.Queries.{query_to, query_from}
-use Rattle.sql_reader.proofs.Rules.Kinds.{view_behind, create_either, statement_to, statement_from}
+use Rattle.sql_reader.proofs.Rules.Kinds.{view_after, create_either, statement_to, statement_from}
 use Rattle.sql_reader.proofs.Rules.Values.{int_right, bracketed_names_right, tuple_right, expr_right}
 use Rattle.sql_reader.proofs.Rules.Lists.{cond_over_right}
 use Rattle.sql_reader.proofs.Rules.Creates.{table_right}
 use Rattle.sql_reader.proofs.Rules.Selects.{items_rule_right, joined_right, grouped_by_right, ordered_right}
 use Rattle.sql_reader.proofs.Lifts.{lift, Fair}
 
--- the tokens at which a statement begins, and what might go on with it
+-- the terminals at which a statement begins, and what might go on with it
 abbrev pub begins_statement : List Head
 begins_statement = AWord (codes "CREATE") ∷ AWord (codes "SELECT") ∷ AWord (codes "INSERT") ∷ AWord (codes "UPDATE") ∷ AWord (codes "DELETE") ∷ AWord (codes "GDPR") ∷ AWord (codes "BEGIN") ∷ AWord (codes "COMMIT") ∷ AWord (codes "ROLLBACK") ∷ AWord (codes "CTX") ∷ AWord (codes "CHECKPOINT") ∷ AWord (codes "EXPLAIN") ∷ []
 
-abbrev pub behind_statement : List Head
-behind_statement = AMark (codes ".") ∷ AWord (codes "GROUP") ∷ AWord (codes "OR") ∷ AWord (codes "AND") ∷ AWord (codes "WHERE") ∷ AWord (codes "INNER") ∷ AWord (codes "JOIN") ∷ AWord (codes "DESC") ∷ AWord (codes "ASC") ∷ AWord (codes "ORDER") ∷ AMark (codes ",") ∷ AMark (codes "-") ∷ AMark (codes "+") ∷ AWord (codes "TRANSACTION") ∷ []
+abbrev pub after_statement : List Head
+after_statement = AMark (codes ".") ∷ AWord (codes "GROUP") ∷ AWord (codes "OR") ∷ AWord (codes "AND") ∷ AWord (codes "WHERE") ∷ AWord (codes "INNER") ∷ AWord (codes "JOIN") ∷ AWord (codes "DESC") ∷ AWord (codes "ASC") ∷ AWord (codes "ORDER") ∷ AMark (codes ",") ∷ AMark (codes "-") ∷ AMark (codes "+") ∷ AWord (codes "TRANSACTION") ∷ []
 
 module _ (lifts : LimitName → Bool) (limits : Limits) (fair : Fair limits) (levels deep : ℕ) (neg : Right lifts (condition_rules.neg limits levels) (condition_rules.neg (lift lifts limits) deep) (grammar.neg limits levels) (AWord (codes "NOT") ∷ AMark (codes "(") ∷ AName ∷ []) false (AMark (codes ".") ∷ [])) where
   -- a condition
@@ -82,7 +82,7 @@ module _ (lifts : LimitName → Bool) (limits : Limits) (fair : Fair limits) (le
   -- VIEW name AS (plain | grouped)
   pub view_right :
       Right lifts (create_rules.view limits levels) (create_rules.view (lift lifts limits) deep)
-      (view_behind limits levels)
+      (view_after limits levels)
       (AWord (codes "VIEW") ∷ []) false (AMark (codes ".") ∷ AWord (codes "GROUP") ∷ AWord (codes "OR") ∷ AWord (codes "AND") ∷ AWord (codes "WHERE") ∷ AWord (codes "INNER") ∷ AWord (codes "JOIN") ∷ [])
   unfolding create_rules.view
   view_right =
@@ -252,11 +252,11 @@ module _ (lifts : LimitName → Bool) (limits : Limits) (fair : Fair limits) (le
   pub statement_rule_right :
       Right lifts (statement_rules.statement_rule limits levels) (statement_rules.statement_rule (lift lifts limits) deep)
       (grammar.statement limits levels)
-      begins_statement false behind_statement
+      begins_statement false after_statement
   unfolding statement_rules.statement_rule
   statement_rule_right =
       in_words (grammar.statement limits levels) (statement_to limits levels) (statement_from limits levels)
-      (with_more begins_statement false behind_statement
+      (with_more begins_statement false after_statement
       (or_else (word_tests (codes "CREATE")) create_right
       (or_else (word_tests (codes "SELECT"))
       (and_then select_right (λ found. pure_right (Statement.Select found)) refl)

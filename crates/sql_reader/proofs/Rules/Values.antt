@@ -3,21 +3,21 @@ use Rattle.std.proofs.Common.{ℕ, Bool, true, false, List, [], ◌∷◌, refl,
 use Rattle.own_base.specs.declared.value.Value.{Value}
 use Rattle.own_model.specs.declared.limit.LimitName.{LimitName}
 use Rattle.own_model.specs.declared.expression.Expr.{Expr}
-use Rattle.sql_reader.specs.Grammar as grammar
-use Rattle.sql_reader.specs.Language as language
-use Rattle.sql_reader.specs.Language.{Language, ◌>>=◌, ◌>>◌, ◌or◌}
-use Rattle.sql_reader.specs.Limits.{Limits}
-use Rattle.sql_reader.specs.Rules as rules
+use Rattle.grammar_model.specs.Grammar as grammar
+use Rattle.grammar_model.specs.Language as language
+use Rattle.grammar_model.specs.Language.{Language, ◌>>=◌, ◌>>◌, ◌or◌}
+use Rattle.grammar_model.specs.Limits.{Limits}
+use Rattle.sql_reader.specs.reading.Rules as rules
 use Rattle.sql_reader.proofs.Changes.{as_often, in_words, Into}
 use Rattle.sql_reader.proofs.Choices.{or_else, or_nothing, word_right, mark_right, pure_right, word_tests, mark_tests, name_tests, quoted_tests}
 use Rattle.sql_reader.proofs.Heads.{AWord, AMark, AName, ANumber, AQuoted}
 use Rattle.sql_reader.proofs.Joins.{and_then}
 use Rattle.sql_reader.proofs.Leaves.{name_right, text_right, number_right}
-use Rattle.sql_reader.proofs.Right.{Right}
-use Rattle.sql_reader.specs.Made.{col_of}
+use Rattle.sql_reader.proofs.ReaderRight.{Right}
+use Rattle.grammar_model.specs.Parts.{col_of}
 use Rattle.sql_reader.proofs.Lifts.{lift, Fair}
 
--- what may come behind the name of an expression
+-- what may come after the name of an expression
 abbrev sum_lang : List ℕ → Language Expr
 sum_lang column =
     (language.mark (codes "+") >> grammar.int >>= λ more. language.pure (Expr.Plus column more))
@@ -61,12 +61,12 @@ module _ (lifts : LimitName → Bool) (limits : Limits) (fair : Fair limits) whe
       and_then (mark_right (codes "(")) (λ _.
       and_then names_right (λ found. and_then (mark_right (codes ")")) (λ _. pure_right found) refl) refl) refl
 
-  -- [. name], behind a name
+  -- [. name], after a name
   pub col_behind_right : (first : List ℕ) →
-      Right lifts (rules.col_behind limits first) (rules.col_behind (lift lifts limits) first)
-      (grammar.col_behind limits first)
+      Right lifts (rules.col_after limits first) (rules.col_after (lift lifts limits) first)
+      (grammar.col_after limits first)
       (AMark (codes ".") ∷ []) true (AMark (codes ".") ∷ [])
-  unfolding rules.col_behind grammar.col_behind
+  unfolding rules.col_after grammar.col_after
   col_behind_right first =
       and_then (or_nothing (mark_tests (codes ".")) (and_then (mark_right (codes ".")) (λ _. name_right lifts limits fair) refl)) (λ second.
       pure_right (col_of first second)) refl
@@ -107,12 +107,12 @@ module _ (lifts : LimitName → Bool) (limits : Limits) (fair : Fair limits) whe
       and_then (mark_right (codes "(")) (λ _.
       and_then values_right (λ found. and_then (mark_right (codes ")")) (λ _. pure_right found) refl) refl) refl
 
-  -- name | name + int | name - int, behind the name
+  -- name | name + int | name - int, after the name
   pub sum_behind_right : (column : List ℕ) →
-      Right lifts (rules.sum_behind column) (rules.sum_behind column)
+      Right lifts (rules.sum_after column) (rules.sum_after column)
       (sum_lang column)
       (AMark (codes "+") ∷ AMark (codes "-") ∷ []) true (AMark (codes "-") ∷ AMark (codes "+") ∷ [])
-  unfolding rules.sum_behind
+  unfolding rules.sum_after
   sum_behind_right column =
       or_else (mark_tests (codes "+"))
       (and_then (and_then (mark_right (codes "+")) (λ _. int_right) refl) (λ more. pure_right (Expr.Plus column more)) refl)
@@ -132,13 +132,13 @@ module _ (lifts : LimitName → Bool) (limits : Limits) (fair : Fair limits) whe
       (and_then literal_right (λ found. pure_right (Expr.Literal found)) refl) refl)
     where
       to : Into ((grammar.name limits >>= sum_lang) or (grammar.literal limits >>= λ found. language.pure (Expr.Literal found))) (grammar.expr limits)
-      to value tokens rest (inl (column, middle, text, inl more)) = inr (inr (inl (column, middle, text, more)))
-      to value tokens rest (inl (column, middle, text, inr (inl fewer))) = inr (inr (inr (column, middle, text, fewer)))
-      to value tokens rest (inl (column, middle, text, inr (inr alone))) = inr (inl (column, middle, text, alone))
-      to value tokens rest (inr text) = inl text
+      to value terminals rest (inl (column, middle, text, inl more)) = inr (inr (inl (column, middle, text, more)))
+      to value terminals rest (inl (column, middle, text, inr (inl fewer))) = inr (inr (inr (column, middle, text, fewer)))
+      to value terminals rest (inl (column, middle, text, inr (inr alone))) = inr (inl (column, middle, text, alone))
+      to value terminals rest (inr text) = inl text
 
       from : Into (grammar.expr limits) ((grammar.name limits >>= sum_lang) or (grammar.literal limits >>= λ found. language.pure (Expr.Literal found)))
-      from value tokens rest (inl text) = inr text
-      from value tokens rest (inr (inl (column, middle, text, alone))) = inl (column, middle, text, inr (inr alone))
-      from value tokens rest (inr (inr (inl (column, middle, text, more)))) = inl (column, middle, text, inl more)
-      from value tokens rest (inr (inr (inr (column, middle, text, fewer)))) = inl (column, middle, text, inr (inl fewer))
+      from value terminals rest (inl text) = inr text
+      from value terminals rest (inr (inl (column, middle, text, alone))) = inl (column, middle, text, inr (inr alone))
+      from value terminals rest (inr (inr (inl (column, middle, text, more)))) = inl (column, middle, text, inl more)
+      from value terminals rest (inr (inr (inr (column, middle, text, fewer)))) = inl (column, middle, text, inr (inl fewer))

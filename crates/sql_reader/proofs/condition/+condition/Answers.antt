@@ -1,9 +1,9 @@
 use Rattle.std.proofs.Common.{codes, arith, sym, ap, ◌∙◌, subst}
-use Rattle.sql_reader.specs.Limits.{store_limits}
-use Rattle.sql_reader.specs.Condition as rules
-use Rattle.sql_reader.specs.Reading.{then_read, ◌>>◌}
-use Rattle.sql_reader.specs.Rules.{word}
-use Rattle.sql_reader.specs.Token.{is_word}
+use Rattle.grammar_model.specs.Limits.{store_limits}
+use Rattle.sql_reader.specs.reading.Condition as rules
+use Rattle.sql_reader.specs.reading.Reader.{then_read, ◌>>◌}
+use Rattle.sql_reader.specs.reading.Rules.{word}
+use Rattle.grammar_model.specs.Terminal.{is_word}
 use Rattle.sql_reader.proofs.Conditions.{neg-comparison, Does-same}
 use Rattle.sql_reader.proofs.Listing.{Listing, Listing-step}
 use Rattle.sql_reader.proofs.condition.+condition.Goals as goal

@@ -1,6 +1,6 @@
 use Rattle.std.proofs.Common.{arith, sym, ◌∙◌, subst}
-use Rattle.sql_reader.specs.Limits.{store_limits}
-use Rattle.sql_reader.specs.Create as rules
+use Rattle.grammar_model.specs.Limits.{store_limits}
+use Rattle.sql_reader.specs.reading.Create as rules
 use Rattle.sql_reader.proofs.Listing.{Listing, Listing-step, Listing-end, Listing-does}
 use Rattle.sql_reader.proofs.create.attrs.Goals as goal
 

@@ -1,9 +1,9 @@
 use Rattle.std.proofs.Common.{◌≤◌, length, codes}
-use Rattle.sql_reader.specs.Limits.{store_limits}
-use Rattle.sql_reader.specs.Reading.{◌>>◌}
-use Rattle.sql_reader.specs.Create as rules
-use Rattle.sql_reader.specs.Token.{is_mark}
-use Rattle.sql_reader.specs.Rules.{mark}
+use Rattle.grammar_model.specs.Limits.{store_limits}
+use Rattle.sql_reader.specs.reading.Reader.{◌>>◌}
+use Rattle.sql_reader.specs.reading.Create as rules
+use Rattle.grammar_model.specs.Terminal.{is_mark}
+use Rattle.sql_reader.specs.reading.Rules.{mark}
 use Rattle.sql_reader.proofs.Listing.{Listing}
 use Rattle.sql_reader.proofs.create.listed_parts.Given as goal
 

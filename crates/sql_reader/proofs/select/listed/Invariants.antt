@@ -1,6 +1,6 @@
 use Rattle.std.proofs.Common.{◌≤◌, length}
-use Rattle.sql_reader.specs.Limits.{store_limits}
-use Rattle.sql_reader.specs.Select as rules
+use Rattle.grammar_model.specs.Limits.{store_limits}
+use Rattle.sql_reader.specs.reading.Select as rules
 use Rattle.sql_reader.proofs.Itemizing.{Itemizing}
 use Rattle.sql_reader.proofs.select.listed.Given as goal
 

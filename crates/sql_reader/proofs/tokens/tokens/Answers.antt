@@ -1,10 +1,10 @@
 use Rattle.std.proofs.Common.{◌≡◌, ◌++◌, ◌∷◌, [], Ok, refl, sym, ap, ◌∙◌, subst}
 use Rattle.std.specs.Prelude.{MatchOption, map}
 use Rattle.sql_lex.specs.Lexing.{Lexing}
-use Rattle.sql_reader.specs.Cut.{Cut, AreTokens}
-use Rattle.sql_reader.specs.Reading.{Tokens}
-use Rattle.sql_reader.specs.Token.{token_of}
-use Rattle.sql_reader.proofs.Cuts.{Chain, Chain-push, Chain-end, Chain-lost, IsTheAnswer, AreTokens-end, AreTokens-lost}
+use Rattle.grammar_model.specs.Terminals.{IsCutInto, AreTerminals}
+use Rattle.grammar_model.specs.Terminal.{Terminals}
+use Rattle.grammar_model.specs.Terminal.{terminal_of}
+use Rattle.sql_reader.proofs.CutTexts.{Chain, Chain-push, Chain-end, Chain-lost, IsTheAnswer, AreTerminals-end, AreTerminals-lost}
 use Rattle.sql_reader.proofs.tokens.tokens.Goals as goal
 
 pub loop-token-preserved : goal.loop-token-preserved
@@ -28,7 +28,7 @@ returns-in-Ok-None c =
     let ends = subst (λ o. IsTheAnswer lexer (Ok o)) none.field-0-is (record { right = none.ensures.answer; only = none.ensures.only }) in
     record {
       cut = Chain-end (record { text = c.args.text.now; at = 0 }) found lexer c.loop-token.invariant.chain ends.right;
-      only = AreTokens-end c.args.text.now found lexer c.loop-token.invariant.chain ends;
+      only = AreTerminals-end c.args.text.now found lexer c.loop-token.invariant.chain ends;
     }
 
 pub returns-in-Err : goal.returns-in-Err
@@ -39,8 +39,8 @@ returns-in-Err c =
     let pushed = sym c.in_ok-push-in-Err.ensures.items in
     let fault = c.in-Err.ensures in
     record {
-      cut = subst (Cut (record { text = text; at = 0 })) pushed
+      cut = subst (IsCutInto (record { text = text; at = 0 })) pushed
           (Chain-lost (record { text = text; at = 0 }) found lexer _ c.loop-token.invariant.chain (record { fault = fault.answer; kind = refl; bytes = refl }));
-      only = subst (λ l. (other : Tokens) → AreTokens text other → other ≡ map token_of l) pushed
-          (AreTokens-lost text found lexer _ c.loop-token.invariant.chain (record { fault = fault.answer; kind = refl; bytes = refl }) (record { right = fault.answer; only = fault.only }));
+      only = subst (λ l. (other : Terminals) → AreTerminals text other → other ≡ map terminal_of l) pushed
+          (AreTerminals-lost text found lexer _ c.loop-token.invariant.chain (record { fault = fault.answer; kind = refl; bytes = refl }) (record { right = fault.answer; only = fault.only }));
     }

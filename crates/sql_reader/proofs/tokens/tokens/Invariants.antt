@@ -1,5 +1,5 @@
 use Rattle.std.proofs.Common.{◌≡◌, ◌-◌, length}
-use Rattle.sql_reader.proofs.Cuts.{Chain}
+use Rattle.sql_reader.proofs.CutTexts.{Chain}
 use Rattle.sql_reader.proofs.tokens.tokens.Given as goal
 
 abbrev pub invariant-loop-token : goal.invariant-loop-token

@@ -1,0 +1,10 @@
+pub mod Answer
+pub mod Continues
+pub mod Grammar
+pub mod Language
+pub mod Limits
+pub mod Parts
+pub mod Readable
+pub mod Terminal
+pub mod Terminals
+pub mod Values

@@ -1,0 +1,10 @@
+//! What follows from the definitions in `specs/`: the function does nothing, and what it ensures holds of every text.
+ghost use Rattle.std.specs.Prelude.{◌≤◌, ℕ, List, length};
+ghost use Rattle.own_model.specs.declared.limit.TheConstants.{STATEMENT_BYTES};
+ghost use Rattle.grammar_model.specs.Answer.{Answer, IsAnswer};
+ghost use Rattle.grammar_model.specs.Readable.{IsReadable, request_of};
+
+/// What a short text is answered by can stand in a history: its statement, its byte or its limit.
+pub fn answer_is_readable()
+    ensures { (text : List ℕ) (answer : Answer) → length text ≤ STATEMENT_BYTES → IsAnswer text answer → IsReadable (request_of answer) }
+{}
