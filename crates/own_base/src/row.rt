@@ -64,7 +64,7 @@ impl Row {
         self.values().get(column.0 as usize)
     }
 
-    /// The size, in the unit of the weight limit: 64, and for each value 32 and a text's bytes. Takes no memory.
+    /// The size, in the unit of the weight limit: `ROW_SIZE`, and that of each value. Takes no memory.
     pub fn size(&self) -> u64
         requires { row_size self.now < 2 ^ 64 }
         ensures { result ≡ row_size self.now }

@@ -119,7 +119,7 @@ impl PartialOrd for Text {
 pub const NAME_BYTES: usize = 64;
 
 /// The name of a table, a view or a column, which contracts see as its bytes: a letter or `_`, then letters, digits
-/// or `_`, in lower case and at most 64 of them.
+/// or `_`, in lower case and at most `NAME_BYTES` of them.
 #[derive(Debug, Drop, PartialEq, Eq, PartialOrd, Ord)]
 pub struct Name {
     text: Text,

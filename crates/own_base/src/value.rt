@@ -27,7 +27,7 @@ pub enum Key {
 pub const VALUE_SIZE: u64 = 32;
 
 impl Value {
-    /// The size, in the unit of the weight limit: 32, and a text's bytes besides. Takes no memory.
+    /// The size, in the unit of the weight limit: `VALUE_SIZE`, and a text's bytes besides. Takes no memory.
     pub fn size(&self) -> u64
         ensures { result ≡ value_size self.now }
     {
