@@ -8,7 +8,6 @@ mod condition;
 mod create;
 mod expression;
 mod history;
-pub mod laws;
 mod limit;
 mod refusal;
 mod reply;

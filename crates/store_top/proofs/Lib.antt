@@ -1,6 +1,6 @@
 pub mod CallTexts
 pub mod Cutting
-pub mod FrontTokens
+pub mod FrontLexemes
 pub mod Numbering
 pub mod Placed
 pub mod Put
@@ -9,5 +9,5 @@ pub mod RuleSteps
 pub mod Runs
 pub mod Scripts
 pub mod Serving
-pub mod Tokens
+pub mod Lexemes
 pub mod Unquoting

@@ -3,9 +3,9 @@ use Rattle.std.specs.Prelude.{◌≡◌, ℕ, ◌+◌, ◌<◌, List, [], ◌∷
 use Rattle.std.specs.Io.KnownBytes.{Appends}
 use Rattle.own_model.specs.declared.script.ScriptCall.{ScriptCall}
 use Rattle.own_model.specs.Db.{empty}
-use Rattle.own_model.specs.History.{History}
-use Rattle.own_model.specs.Made.{Want, Unmade, added, entry_of}
-use Rattle.own_model.specs.Ran.{HasRun, text_of_call}
+use Rattle.history_model.specs.History.{History}
+use Rattle.history_model.specs.Made.{Want, Unmade, added, entry_of}
+use Rattle.script_model.specs.Transcript.{IsTranscript, text_of_call}
 use Rattle.store_top.specs.Engine.{TakesMemory}
 use Rattle.store_top.specs.declared.steps.RunFault.{RunFault}
 use Rattle.store_top.specs.declared.steps.RunFault.TheVariants.{Write, Memory}
@@ -25,7 +25,7 @@ TellsCall (Err Write) old new text = ToldInPart old new [] text
 TellsCall (Err Memory) old new text = ToldBefore old new [] text
 
 -- the call's entry is behind the history, unless memory refused it, and the text, where there is one, is the call's
-pub record Serves {T E : Type 0} (bytes_of : T → List ℕ) (call : ScriptCall) (before after : History) (result : Result T E) : Type 0 where
+pub record MakesCall {T E : Type 0} (bytes_of : T → List ℕ) (call : ScriptCall) (before after : History) (result : Result T E) : Type 0 where
   pub want : Want
   pub history_is : after ≡ before ++ added (entry_of empty before call) want
   pub spared : want ≡ Unmade → TakesMemory (entry_of empty before call).request
@@ -33,7 +33,7 @@ pub record Serves {T E : Type 0} (bytes_of : T → List ℕ) (call : ScriptCall)
 
 -- the call's entry is behind the history, unless memory refused it, and the sink has what the result says of the call's
 -- text
-pub record ServesTo (call : ScriptCall) (before after : History) (old new : Option (List ℕ)) (result : Result (Unit {0}) RunFault) : Type 0 where
+pub record MakesCallTo (call : ScriptCall) (before after : History) (old new : Option (List ℕ)) (result : Result (Unit {0}) RunFault) : Type 0 where
   pub want : Want
   pub history_is : after ≡ before ++ added (entry_of empty before call) want
   pub spared : want ≡ Unmade → TakesMemory (entry_of empty before call).request
@@ -42,7 +42,7 @@ pub record ServesTo (call : ScriptCall) (before after : History) (old new : Opti
 -- these calls were made in a run, and known bytes grew by its text
 pub record RunsTo (calls : List ScriptCall) (history : History) (old new : Option (List ℕ)) : Type 0 where
   pub text : List ℕ
-  pub run : HasRun empty calls history text
+  pub run : IsTranscript empty calls history text
   pub written : Appends old new text
 
 -- A run stopped at one of the calls: those before it were made and told, no call behind it was made, and its own entry
@@ -55,12 +55,12 @@ pub record StopsAtCall (calls : List ScriptCall) (history : History) (Told : Lis
   -- the run of the calls before it
   pub before : History
   pub text : List ℕ
-  pub run : HasRun empty done before text
+  pub run : IsTranscript empty done before text
   -- and with it
   pub want : Want
   pub history_is : history ≡ before ++ added (entry_of empty before last) want
   pub spared : want ≡ Unmade → TakesMemory (entry_of empty before last).request
-  pub made : HasRun empty (done ++ last ∷ []) history (text ++ text_of_call empty before last want)
+  pub made : IsTranscript empty (done ++ last ∷ []) history (text ++ text_of_call empty before last want)
   pub told : Told text (text_of_call empty before last want)
 
 -- the calls are numbered one after another, from here on

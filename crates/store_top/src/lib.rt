@@ -11,7 +11,7 @@ mod running;
 mod script;
 mod served;
 mod steps;
-mod token;
+mod lexeme;
 
 pub use running::run;
 pub use served::{Served, TopFault};

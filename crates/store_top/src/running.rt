@@ -3,8 +3,8 @@ ghost use Rattle.std.specs.Vec.{vec_capacity};
 ghost use Rattle.outer_world.specs.FaultCount.{CountRose};
 ghost use Rattle.own_model.specs.declared.script.InputFault.{InputFault as InputFaultSeen};
 ghost use Rattle.own_model.specs.Db.{empty};
-ghost use Rattle.own_model.specs.Serial.{Serial};
-ghost use Rattle.store_top.specs.Engine.{Stands};
+ghost use Rattle.history_model.specs.Serial.{Serial};
+ghost use Rattle.store_top.specs.Engine.{HoldsFlat};
 ghost use Rattle.store_top.specs.Status.{status_of};
 ghost use Rattle.store_top.specs.Steps.{IsNumbered, ToldBefore, ToldInPart};
 ghost use Rattle.store_top.specs.Top.{is_step, IsBeforeCalls, IsWithoutDisk, ReadsAtMost, RefusesInput, RunsInPart, RunsWhole, ServesBytes, ServesCalls};
@@ -75,7 +75,7 @@ fn serve_engine<W: Sink>(
     calls: Vec<ScriptCall>,
     sink: &mut W,
 ) -> Ended
-    requires stands { Stands engine }
+    requires stands { HoldsFlat engine }
     requires fresh { engine.history.items ≡ [] }
     requires room { vec_len calls ≤ vec_capacity engine.history }
     requires numbered { IsNumbered 1 calls.items }

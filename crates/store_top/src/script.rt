@@ -1,12 +1,12 @@
 ghost use Rattle.std.specs.Prelude.{◌≡◌, ◌+◌, ◌∷◌, [], ◌++◌, ◌≤◌, ◌<◌, Ok, IfOk, IfErr, OnOk, OnErr, length, vec_len, vec_capacity};
 ghost use Rattle.own_model.specs.declared.request.Request.TheVariants as request;
-ghost use Rattle.own_model.specs.Script.{script, request_of as request_in, requests_of, numbered, call_texts};
+ghost use Rattle.script_model.specs.first.Script.{script, request_of as request_in, requests_of, numbered, call_texts};
 ghost use Rattle.store_top.specs.CallText.{shown};
 ghost use Rattle.store_top.specs.Input.{IsFaultOf, IsManyOf, numbered_call};
 
 use crate::call_text::{CallText, next_call};
 use crate::grammar::statement_of;
-use crate::token::ReadFault;
+use crate::lexeme::LexemeFault;
 use own_base::{List, SessionNo};
 use own_model::{InputFault, Request, Script, ScriptCall};
 use std::alloc::{AllocError, Global};
@@ -21,7 +21,7 @@ const CALL_BYTES: usize = 65_536;
 const CALLS: u32 = 200_000;
 
 /// What a call's text asks for.
-#[tactic(auto, unfolding(own_model::specs::Script::request_of))]
+#[tactic(auto, unfolding(script_model::specs::first::Script::request_of))]
 fn request_of(alloc: Global, call: CallText) -> Result<Request, AllocError>
     ensures { IfOk result (λ request. request ≡ request_in (shown call.entry)) }
 {
@@ -30,8 +30,8 @@ fn request_of(alloc: Global, call: CallText) -> Result<Request, AllocError>
     }
     match statement_of(alloc, call.text) {
         Ok(statement) => Ok(Request::Run(statement)),
-        Err(ReadFault::Syntax) => Ok(Request::Syntax(0)),
-        Err(ReadFault::Memory) => Err(AllocError),
+        Err(LexemeFault::Syntax) => Ok(Request::Syntax(0)),
+        Err(LexemeFault::Memory) => Err(AllocError),
     }
 }
 

@@ -1,5 +1,5 @@
 use Rattle.std.proofs.Common.{append_assoc}
-use Rattle.own_model.specs.Printed.{refusal_text}
+use Rattle.script_model.specs.Printed.{refusal_text}
 use Rattle.store_top.proofs.print.push_refusal.Goals as goal
 
 -- each piece goes behind those before it

@@ -1,8 +1,8 @@
 use Rattle.std.proofs.Common.{◌≡◌, ◌+◌, ◌-◌, length, take, vec_len, ap, arith, sym, ◌∙◌}
 use Rattle.own_model.specs.Db.{empty}
-use Rattle.own_model.specs.History.{flat, left_by}
-use Rattle.own_model.proofs.Histories.{flat-by_last, reply-by_last}
-use Rattle.own_model.proofs.Ordered.{ordered-empty, ordered-flat}
+use Rattle.history_model.specs.History.{flat, left_by}
+use Rattle.history_model.proofs.HistoryLemmas.{flat-by_last, reply-by_last}
+use Rattle.history_model.proofs.RisingKeys.{ordered-empty, ordered-flat}
 use Rattle.store_top.proofs.engine.Engine.answer_last.Goals as goal
 
 pub answer-requires : goal.answer-requires

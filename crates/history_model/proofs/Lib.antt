@@ -1,0 +1,5 @@
+pub mod HistoryLemmas
+pub mod NamedLemmas
+pub mod RefusalLemmas
+pub mod RisingKeys
+pub mod TableLemmas

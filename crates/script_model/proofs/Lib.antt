@@ -1,0 +1,4 @@
+pub mod FirstScripts
+pub mod FirstStatements
+pub mod SerialLemmas
+pub mod TranscriptLemmas
