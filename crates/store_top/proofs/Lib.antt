@@ -1,13 +1,13 @@
 pub mod CallTexts
 pub mod Cutting
 pub mod FrontLexemes
+pub mod LexemeLemmas
 pub mod Numbering
 pub mod Placed
 pub mod Put
 pub mod Results
 pub mod RuleSteps
 pub mod Runs
-pub mod Scripts
+pub mod ScriptLemmas
 pub mod Serving
-pub mod Lexemes
 pub mod Unquoting

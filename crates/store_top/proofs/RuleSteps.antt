@@ -67,31 +67,31 @@ pub mark_front : (wanted : ℕ) → wanted < 128 → ReadsFront (mark wanted)
 unfolding mark
 mark_front wanted low = reads_front (mark wanted) (record { nothing = refl; far = λ byte rest high. rw (ne_eqb byte wanted (λ is. omega arith)) refl; great = λ number rest high. refl })
 
-abbrev IsNoWord : held_lexeme.Lexeme → Type 0
+abbrev IsNoWord : held_lexeme.HeldLexeme → Type 0
 IsNoWord lexeme = (found : _) → lexeme ≡ held.Word found → ⊥
 
-pub word_none : (wanted : List ℕ) (lexeme : held_lexeme.Lexeme) (rest : List Lexeme) → IsNoWord lexeme → word wanted (seen lexeme ∷ rest) ≡ None
+pub word_none : (wanted : List ℕ) (lexeme : held_lexeme.HeldLexeme) (rest : List Lexeme) → IsNoWord lexeme → word wanted (seen lexeme ∷ rest) ≡ None
 unfolding word
 word_none wanted (held.Word found) rest other = absurd (other found refl)
 word_none wanted (held.Number number) rest other = refl
 word_none wanted (held.Quoted value) rest other = refl
 word_none wanted (held.Mark byte) rest other = refl
 
-pub name_none : (lexeme : held_lexeme.Lexeme) (rest : List Lexeme) → IsNoWord lexeme → name (seen lexeme ∷ rest) ≡ None
+pub name_none : (lexeme : held_lexeme.HeldLexeme) (rest : List Lexeme) → IsNoWord lexeme → name (seen lexeme ∷ rest) ≡ None
 unfolding name
 name_none (held.Word found) rest other = absurd (other found refl)
 name_none (held.Number number) rest other = refl
 name_none (held.Quoted value) rest other = refl
 name_none (held.Mark byte) rest other = refl
 
-pub mark_none : (wanted : ℕ) (lexeme : held_lexeme.Lexeme) (rest : List Lexeme) → ((found : ℕ) → lexeme ≡ held.Mark found → ⊥) → mark wanted (seen lexeme ∷ rest) ≡ None
+pub mark_none : (wanted : ℕ) (lexeme : held_lexeme.HeldLexeme) (rest : List Lexeme) → ((found : ℕ) → lexeme ≡ held.Mark found → ⊥) → mark wanted (seen lexeme ∷ rest) ≡ None
 unfolding mark
 mark_none wanted (held.Mark byte) rest other = absurd (other byte refl)
 mark_none wanted (held.Number number) rest other = refl
 mark_none wanted (held.Quoted value) rest other = refl
 mark_none wanted (held.Word found) rest other = refl
 
-pub text_none : (lexeme : held_lexeme.Lexeme) (rest : List Lexeme) → ((value : _) → lexeme ≡ held.Quoted value → ⊥) → text (seen lexeme ∷ rest) ≡ None
+pub text_none : (lexeme : held_lexeme.HeldLexeme) (rest : List Lexeme) → ((value : _) → lexeme ≡ held.Quoted value → ⊥) → text (seen lexeme ∷ rest) ≡ None
 unfolding text
 text_none (held.Quoted value) rest other = absurd (other value refl)
 text_none (held.Number number) rest other = refl
@@ -188,7 +188,7 @@ pub below_front : ReadsFront below
 unfolding int
 below_front = reads_front below (record { nothing = refl; far = λ byte rest high. refl; great = λ number rest high. below_great number rest (omega arith) })
 
-pub below_none : (lexeme : held_lexeme.Lexeme) (rest : List Lexeme) → ((number : ℕ) → lexeme ≡ held.Number number → ⊥) → below (seen lexeme ∷ rest) ≡ None
+pub below_none : (lexeme : held_lexeme.HeldLexeme) (rest : List Lexeme) → ((number : ℕ) → lexeme ≡ held.Number number → ⊥) → below (seen lexeme ∷ rest) ≡ None
 unfolding int
 below_none (held.Number number) rest other = absurd (other number refl)
 below_none (held.Mark byte) rest other = refl
@@ -203,7 +203,7 @@ int_sign sign (Mark byte ∷ rest) other = refl
 int_sign sign (Word found ∷ rest) other = refl
 int_sign sign (Quoted value ∷ rest) other = refl
 
-pub int_none : (lexeme : held_lexeme.Lexeme) (rest : List Lexeme) → ((sign : ℕ) → lexeme ≡ held.Mark sign → ⊥) → ((number : ℕ) → lexeme ≡ held.Number number → ⊥) → int (seen lexeme ∷ rest) ≡ None
+pub int_none : (lexeme : held_lexeme.HeldLexeme) (rest : List Lexeme) → ((sign : ℕ) → lexeme ≡ held.Mark sign → ⊥) → ((number : ℕ) → lexeme ≡ held.Number number → ⊥) → int (seen lexeme ∷ rest) ≡ None
 unfolding int
 int_none (held.Number number) rest unsigned other = absurd (other number refl)
 int_none (held.Mark byte) rest unsigned other = absurd (unsigned byte refl)

@@ -5,20 +5,20 @@ use Rattle.own_base.specs.Name.{is_spelled}
 use Rattle.script_model.specs.first.Lexeme.{quoted_value, Word, Number, Quoted, Mark}
 use Rattle.script_model.specs.first.Lexeme as spec
 use Rattle.script_model.specs.first.Grammar.{Rule}
-use Rattle.store_top.specs.declared.lexeme.HeldLexeme.{Lexeme}
+use Rattle.store_top.specs.declared.lexeme.HeldLexeme.{HeldLexeme}
 use Rattle.store_top.specs.declared.lexeme.HeldLexeme.TheVariants as held
 use Rattle.store_top.specs.declared.lexeme.LexemeFault.{LexemeFault}
 use Rattle.store_top.specs.declared.lexeme.LexemeFault.TheVariants.{Syntax, Memory}
 
 -- the lexeme that is held
-abbrev pub seen : Lexeme → spec.Lexeme
+abbrev pub seen : HeldLexeme → spec.Lexeme
 seen (held.Word word) = Word (map to_ascii_lowercase word.now)
 seen (held.Number number) = Number number
 seen (held.Quoted value) = Quoted (string_bytes value)
 seen (held.Mark byte) = Mark byte
 
 -- a word that is held is spelled as a name, but for its case
-abbrev pub IsSpelled : Lexeme → Type 0
+abbrev pub IsSpelled : HeldLexeme → Type 0
 IsSpelled (held.Word word) = IsTrue (is_spelled (map to_ascii_lowercase word.now))
 IsSpelled (held.Number number) = Unit {0}
 IsSpelled (held.Quoted value) = Unit {0}

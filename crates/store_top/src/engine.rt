@@ -30,7 +30,7 @@ impl Engine {
     /// No table and no history, with room for so many entries.
     #[tactic(auto, unfolding(history_model::specs::History::flat, history_model::specs::History::world))]
     pub(crate) fn with_room(alloc: Global, entries: usize) -> Result<Engine, AllocError>
-        ensures stands { IfOk result HoldsFlat }
+        ensures holds { IfOk result HoldsFlat }
         ensures history { IfOk result (λ engine. engine.history.items ≡ []) }
         ensures room { IfOk result (λ engine. entries ≤ vec_capacity engine.history) }
     {
@@ -53,9 +53,9 @@ impl Engine {
     /// Serves a call: its entry comes into the history, and the tables change by it. Where memory is refused, nothing
     /// changes; where it is refused for the rows of a SELECT alone, the entry is made and `Memory` is told.
     pub(crate) fn step(&mut self, alloc: Global, call: ScriptCall) -> Result<Answered, AllocError>
-        requires stands { HoldsFlat self.old }
+        requires holds { HoldsFlat self.old }
         requires room { vec_len self.old.history < vec_capacity self.old.history }
-        ensures stands { HoldsFlat self.new }
+        ensures holds { HoldsFlat self.new }
         ensures made { OnOk result (self.new.history.items ≡ self.old.history.items ++ entry_of empty self.old.history.items call ∷ []) }
         ensures told { IfOk result (λ answered. (answered.place.0 ≡ length self.old.history.items)
             × Tells answered.reply (reply empty self.new.history.items (length self.old.history.items))) }
@@ -90,7 +90,7 @@ impl Engine {
     fn answer_last(&mut self, alloc: Global) -> Result<Answered, AllocError>
         requires before { HoldsFlatBeforeLast self.old }
         requires some { 0 < vec_len self.old.history }
-        ensures stands { HoldsFlat self.new }
+        ensures holds { HoldsFlat self.new }
         ensures made { OnOk result (self.new.history.items ≡ self.old.history.items) }
         ensures told { IfOk result (λ answered. (answered.place.0 + 1 ≡ vec_len self.old.history)
             × Tells answered.reply (reply empty self.old.history.items (vec_len self.old.history - 1))) }

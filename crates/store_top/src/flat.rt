@@ -165,7 +165,7 @@ fn copied(alloc: Global, rows: &[Row]) -> Result<List<Row>, AllocError>
 {
     let mut copied = List::new(alloc);
     for row in rows {
-        copied.push(row.copy(alloc)?).map_err(|refused| refused.0)?;
+        copied.add(row.copy(alloc)?)?;
     }
     Ok(copied)
 }

@@ -9,9 +9,9 @@ ghost use Rattle.script_model.specs.first.Grammar as grammar;
 ghost use Rattle.store_top.specs.Read.{Gives};
 ghost use Rattle.store_top.specs.Whole.{WholeOf};
 
-use crate::lexeme::{LexemeFault, HeldLexeme, is_end, next_lexeme};
+use crate::lexeme::{HeldLexeme, LexemeFault, is_end, next_lexeme};
 use own_base::{List, Name, Text, Value};
-use own_model::{Attr, ColumnDef, CreateTable, Items, Kind, Part, Select, Statement};
+use own_model::{Attr, ColumnDef, CreateTable, Items, Kind, NAME_BYTES, Part, Select, Statement, TEXT_BYTES};
 use std::alloc::{AllocError, Global};
 
 /// The words that can't be names.
@@ -116,7 +116,7 @@ fn mark(alloc: Global, wanted: u8, text: &str) -> Result<&str, LexemeFault>
     Ok(rest)
 }
 
-/// A name, in lower case: a word of at most 64 bytes that is no keyword. What is behind it.
+/// A name, in lower case: a word of at most `NAME_BYTES` bytes that is no keyword. What is behind it.
 fn name(alloc: Global, text: &str) -> Result<(Name, &str), LexemeFault>
     ensures { Gives (λ read. (read.0, lexemes read.1.now)) result (grammar.name (lexemes text.now)) }
 {
@@ -124,7 +124,7 @@ fn name(alloc: Global, text: &str) -> Result<(Name, &str), LexemeFault>
     let HeldLexeme::Word(found) = lexeme else {
         return Err(LexemeFault::Syntax);
     };
-    if found.len() > 64 {
+    if found.len() > NAME_BYTES {
         return Err(LexemeFault::Syntax);
     }
     let mut word = String::from_str(alloc, found)?;
@@ -135,7 +135,7 @@ fn name(alloc: Global, text: &str) -> Result<(Name, &str), LexemeFault>
     Ok((Name::from_str(alloc, word.as_str())?, rest))
 }
 
-/// A text of at most 4,096 bytes. What is behind it.
+/// A text of at most `TEXT_BYTES` bytes. What is behind it.
 fn text(alloc: Global, text: &str) -> Result<(Text, &str), LexemeFault>
     ensures { Gives (λ read. (read.0, lexemes read.1.now)) result (grammar.text (lexemes text.now)) }
 {
@@ -143,7 +143,7 @@ fn text(alloc: Global, text: &str) -> Result<(Text, &str), LexemeFault>
     let HeldLexeme::Quoted(value) = lexeme else {
         return Err(LexemeFault::Syntax);
     };
-    if value.len() > 4_096 {
+    if value.len() > TEXT_BYTES {
         return Err(LexemeFault::Syntax);
     }
     Ok((Text::from_string(value), rest))
@@ -200,7 +200,7 @@ fn create_of(alloc: Global, table: Name, key: Name, column: Name) -> Result<Stat
     ensures { IfOk result (λ made. made ≡ grammar.create_of table key column) }
 {
     let mut attrs = List::new(alloc);
-    attrs.push(Attr::Key).map_err(|refused| refused.0)?;
+    attrs.add(Attr::Key)?;
     let key = Part::Column(ColumnDef {
         name: key,
         kind: Kind::Int,
@@ -212,8 +212,8 @@ fn create_of(alloc: Global, table: Name, key: Name, column: Name) -> Result<Stat
         attrs: List::new(alloc),
     });
     let mut parts = List::new(alloc);
-    parts.push(key).map_err(|refused| refused.0)?;
-    parts.push(column).map_err(|refused| refused.0)?;
+    parts.add(key)?;
+    parts.add(column)?;
     Ok(Statement::CreateTable(CreateTable {
         name: table,
         subject: true,
@@ -250,10 +250,10 @@ fn insert_of(alloc: Global, table: Name, key: i64, column: Text) -> Result<State
     ensures { IfOk result (λ made. made ≡ statement.Insert table None ((value.Int key ∷ value.Text column ∷ []) ∷ [])) }
 {
     let mut row = List::new(alloc);
-    row.push(Value::Int(key)).map_err(|refused| refused.0)?;
-    row.push(Value::Text(column)).map_err(|refused| refused.0)?;
+    row.add(Value::Int(key))?;
+    row.add(Value::Text(column))?;
     let mut rows = List::new(alloc);
-    rows.push(row).map_err(|refused| refused.0)?;
+    rows.add(row)?;
     Ok(Statement::Insert {
         table,
         columns: None,

@@ -24,7 +24,7 @@ pub enum HeldLexeme<'a> {
 
 /// Why nothing was read.
 #[derive(Clone, Copy, Debug, PartialEq, Eq)]
-pub enum HeldLexemeFault {
+pub enum LexemeFault {
     /// The text isn't what was asked for.
     Syntax,
     /// Memory was refused.

@@ -6,12 +6,12 @@ mod engine;
 mod flat;
 mod grammar;
 mod key_ref;
+mod lexeme;
 mod print;
 mod running;
 mod script;
 mod served;
 mod steps;
-mod lexeme;
 
 pub use running::run;
 pub use served::{Served, TopFault};

@@ -1,4 +1,4 @@
-ghost use Rattle.std.specs.Prelude.{◌≡◌, ◌≢◌, ◌≤◌, ◌↔◌, ◌⊎◌, [], map, Some, None, false, string_bytes, vec_len};
+ghost use Rattle.std.specs.Prelude.{◌≡◌, ◌≢◌, ◌+◌, ◌≤◌, ◌↔◌, ◌⊎◌, [], map, Some, None, false, string_bytes, vec_len};
 ghost use Rattle.std.specs.Vec.{vec_capacity};
 ghost use Rattle.outer_world.specs.FaultCount.{CountRose};
 ghost use Rattle.own_model.specs.declared.script.InputFault.{InputFault as InputFaultSeen};
@@ -15,14 +15,11 @@ use crate::served::{Served, TopFault, status};
 use crate::steps::{RunFault, serve_calls};
 use outer_world::{Disk, Gate, ReadAllFault, Sink, Source, read_all};
 use own_base::List;
-use own_model::{Entry, InputFault, ScriptCall};
+use own_model::{Entry, INPUT_BYTES, InputFault, ScriptCall};
 use std::alloc::{AllocError, Global};
 use std::mem::drop;
 use std::sync::Wait;
 use std::thread::Threads;
-
-/// One byte more than an input may have.
-const MOST_BYTES: usize = 67_108_865;
 
 /// How a run ended, without its disk.
 #[derive(Debug)]
@@ -75,7 +72,7 @@ fn serve_engine<W: Sink>(
     calls: Vec<ScriptCall>,
     sink: &mut W,
 ) -> Ended
-    requires stands { HoldsFlat engine }
+    requires holds { HoldsFlat engine }
     requires fresh { engine.history.items ≡ [] }
     requires room { vec_len calls ≤ vec_capacity engine.history }
     requires numbered { IsNumbered 1 calls.items }
@@ -122,10 +119,10 @@ fn serve_source<R: Source, W: Sink>(alloc: Global, source: &mut R, sink: &mut W)
     ensures silent { IsBeforeCalls result.fault → (sink.new ≡ sink.old) × (result.history ≡ []) }
     ensures possible { IsWithoutDisk result.fault }
     ensures lawful { result.fault ≢ Some TopFault.Usage }
-    ensures at_most { ReadsAtMost (R.remaining source.old) (R.remaining source.new) 67108865 }
+    ensures at_most { ReadsAtMost (R.remaining source.old) (R.remaining source.new) (INPUT_BYTES + 1) }
     ensures serial { Serial empty result.history }
 {
-    match read_all(alloc, source, MOST_BYTES) {
+    match read_all(alloc, source, INPUT_BYTES + 1) {
         Ok(bytes) => serve_bytes(alloc, &bytes, sink),
         Err(ReadAllFault::Failed) => without_calls(alloc, TopFault::Read),
         Err(ReadAllFault::Memory) => without_calls(alloc, TopFault::Memory),
@@ -174,7 +171,7 @@ pub fn run<Rt: Threads + Wait + Sync, R: Source, W: Sink, D: Disk + Send, G: Gat
     // Any other fault comes before any call, and nothing is written; none tells of a disk.
     ensures silent { IsBeforeCalls result.fault → (sink.new ≡ sink.old) × (result.history ≡ []) }
     ensures possible { IsWithoutDisk result.fault }
-    ensures at_most { ReadsAtMost (R.remaining source.old) (R.remaining source.new) 67108865 }
+    ensures at_most { ReadsAtMost (R.remaining source.old) (R.remaining source.new) (INPUT_BYTES + 1) }
 
     // The history has one order, and leaves no bad state at any of its places.
     ensures serial { Serial empty result.history }

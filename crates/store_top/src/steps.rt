@@ -26,9 +26,9 @@ fn lines_of_call(
     alloc: Global,
     call: ScriptCall,
 ) -> Result<Vec<u8>, AllocError>
-    requires stands { HoldsFlat engine.old }
+    requires holds { HoldsFlat engine.old }
     requires room { vec_len engine.old.history < vec_capacity engine.old.history }
-    ensures stands { HoldsFlat engine.new }
+    ensures holds { HoldsFlat engine.new }
     ensures makes { MakesCall (λ text. text.items) call engine.old.history.items engine.new.history.items result }
     ensures room { vec_capacity engine.old.history ≤ vec_capacity engine.new.history }
 {
@@ -62,9 +62,9 @@ fn serve_call<W: Sink>(
     call: ScriptCall,
     sink: &mut W,
 ) -> Result<(), RunFault>
-    requires stands { HoldsFlat engine.old }
+    requires holds { HoldsFlat engine.old }
     requires room { vec_len engine.old.history < vec_capacity engine.old.history }
-    ensures stands { HoldsFlat engine.new }
+    ensures holds { HoldsFlat engine.new }
     ensures makes { MakesCallTo call engine.old.history.items engine.new.history.items (W.written sink.old) (W.written sink.new) result }
     ensures room { vec_capacity engine.old.history ≤ vec_capacity engine.new.history }
     ensures fault { result ≡ Err RunFault.Write → CountRose (W.faults sink.old) (W.faults sink.new) }
@@ -83,7 +83,7 @@ pub(crate) fn serve_calls<W: Sink>(
     calls: Vec<ScriptCall>,
     sink: &mut W,
 ) -> Result<(), RunFault>
-    requires stands { HoldsFlat engine.old }
+    requires holds { HoldsFlat engine.old }
     requires fresh { engine.old.history.items ≡ [] }
     requires room { vec_len calls ≤ vec_capacity engine.old.history }
     requires numbered { IsNumbered 1 calls.items }

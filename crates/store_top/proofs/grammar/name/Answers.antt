@@ -16,8 +16,8 @@ pub returns-in_default : goal.returns-in_default
 returns-in_default c = steps name (lexemes c.args.text.now) (lexemes c.in_ok-lexeme.rest.now) (seen c.in_ok-lexeme.lexeme) name_front c.in_ok-lexeme.ensures.read
     ∙ name_none c.in_ok-lexeme.lexeme (lexemes c.in_ok-lexeme.rest.now) c.in_default.not-Word
 
-pub returns-then-found-gt64 : goal.returns-then-found-gt64
-returns-then-found-gt64 c =
+pub returns-then-found-gt-NAME_BYTES : goal.returns-then-found-gt-NAME_BYTES
+returns-then-found-gt-NAME_BYTES c =
     let word = map to_ascii_lowercase c.in-Word.found.now in
     let long : NAME_BYTES < length word = omega (arith, length-map c.in-Word.found.now to_ascii_lowercase) in
     steps name (lexemes c.args.text.now) (lexemes c.in_ok-lexeme.rest.now) (seen c.in_ok-lexeme.lexeme) name_front c.in_ok-lexeme.ensures.read

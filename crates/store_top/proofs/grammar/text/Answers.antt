@@ -14,8 +14,8 @@ pub returns-in_default : goal.returns-in_default
 returns-in_default c = steps text (lexemes c.args.text.now) (lexemes c.in_ok-lexeme.rest.now) (seen c.in_ok-lexeme.lexeme) text_front c.in_ok-lexeme.ensures.read
     ∙ text_none c.in_ok-lexeme.lexeme (lexemes c.in_ok-lexeme.rest.now) c.in_default.not-Quoted
 
-pub returns-then-len-gt4096 : goal.returns-then-len-gt4096
-returns-then-len-gt4096 c =
+pub returns-then-len-gt-TEXT_BYTES : goal.returns-then-len-gt-TEXT_BYTES
+returns-then-len-gt-TEXT_BYTES c =
     let long : TEXT_BYTES < length (string_bytes c.in-Quoted.value) = omega (arith, c.len.ensures) in
     steps text (lexemes c.args.text.now) (lexemes c.in_ok-lexeme.rest.now) (seen c.in_ok-lexeme.lexeme) text_front c.in_ok-lexeme.ensures.read
     ∙ ap (λ lexeme. text (seen lexeme ∷ lexemes c.in_ok-lexeme.rest.now)) c.in-Quoted.is

@@ -13,8 +13,8 @@ not_unmade entry Spared none is = cc
 not_unmade entry Unshown none is = cc
 
 -- what is told at the call's place is the text of the call
-pub returns-in-Ok-clause-serves : goal.returns-in-Ok-clause-serves
-returns-in-Ok-clause-serves c =
+pub returns-in-Ok-clause-makes : goal.returns-in-Ok-clause-makes
+returns-in-Ok-clause-makes c =
     let history = c.args.engine.now.history.items in
     let told = c.in-Ok.ensures.told in
     let last = told-last empty history c.args.call c.in-Ok.answered.reply (rw c.in-Ok.ensures.made at told.1) in

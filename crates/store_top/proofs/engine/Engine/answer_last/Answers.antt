@@ -9,8 +9,8 @@ pub answer-requires : goal.answer-requires
 answer-requires c = rw c.requires.before (ordered-flat empty _ ordered-empty)
 
 -- the tables were the flat database before the last entry, and take it in
-pub returns-in-Ok-clause-stands : goal.returns-in-Ok-clause-stands
-returns-in-Ok-clause-stands c =
+pub returns-in-Ok-clause-holds : goal.returns-in-Ok-clause-holds
+returns-in-Ok-clause-holds c =
     let history = c.args.self.now.history.items in
     let last = c.len-last.result - 1 in
     let entry = c.index.result.now in

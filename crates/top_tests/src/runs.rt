@@ -1,10 +1,12 @@
-use outer_world::{MemDisk, MemSink, MemSource, NowGate};
+use outer_world::{Gate, Gone, MemDisk, MemSink, MemSource, NowGate};
+use own_base::SessionNo;
 use std::alloc::Global;
 use std::mem::drop;
 use std::sync::Wait;
+use std::sync::atomic::{AtomicU64, Ordering};
 use std::test::Fail;
 use std::thread::Threads;
-use store_top::{Served, run};
+use store_top::{Served, run, step};
 
 /// A run over sources and sinks in memory: the words, the input, the calls of the source and of the sink that fail,
 /// and then the status, the number of entries and the output that are wanted.
@@ -107,5 +109,78 @@ fn runs(rt: HostRuntime) -> Result<(), Fail> {
         let wanted = format!(in rt.alloc(); "{} {} {}", case.status, case.entries, case.output)?;
         assert_eq!(rt; told(&rt, rt.alloc(), case)?.as_str(), wanted.as_str());
     }
+    Ok(())
+}
+
+/// A gate that lets every call pass, and counts how often it is called.
+struct CountingGate {
+    calls: AtomicU64,
+}
+
+impl Gate for CountingGate {
+    fn before(&self, _session: SessionNo, _call: u32) -> Gone {
+        self.calls.fetch_add(1, Ordering::SeqCst);
+        Gone::Passed
+    }
+
+    fn after(&self, _session: SessionNo, _call: u32) {
+        self.calls.fetch_add(1, Ordering::SeqCst);
+    }
+}
+
+#[test]
+fn mode_step_asks_the_gate_nothing(rt: HostRuntime) -> Result<(), Fail> {
+    let gate = CountingGate {
+        calls: AtomicU64::new(0),
+    };
+    let words = vec![in rt.alloc(); String::from_str(rt.alloc(), "step")?]?;
+    let mut source = MemSource::new(rt.alloc(), FIRST.as_bytes(), &[])?;
+    let mut sink = MemSink::new(rt.alloc(), &[])?;
+    let disk = MemDisk::new(rt.alloc(), &[])?;
+    let Served {
+        status,
+        fault,
+        history,
+        disk,
+    } = run(
+        &rt,
+        rt.alloc(),
+        &words,
+        &mut source,
+        &mut sink,
+        disk,
+        &gate,
+    );
+    let entries = history.items().len();
+    drop(history);
+    drop(fault);
+    drop(disk);
+    assert_eq!(rt; status, 0);
+    assert_eq!(rt; entries, 4);
+    assert_eq!(rt; gate.calls.load(Ordering::SeqCst), 0);
+    assert_eq!(rt; gate.before(SessionNo(1), 1), Gone::Passed);
+    gate.after(SessionNo(1), 1);
+    assert_eq!(rt; gate.calls.load(Ordering::SeqCst), 2);
+    Ok(())
+}
+
+#[test]
+fn steps_without_words_and_gate(rt: HostRuntime) -> Result<(), Fail> {
+    let mut source = MemSource::new(rt.alloc(), FIRST.as_bytes(), &[])?;
+    let mut sink = MemSink::new(rt.alloc(), &[])?;
+    let Served {
+        status,
+        fault,
+        history,
+        disk,
+    } = step(rt.alloc(), &mut source, &mut sink, 7);
+    let entries = history.items().len();
+    drop(history);
+    drop(fault);
+    assert_eq!(rt; status, 0);
+    assert_eq!(rt; entries, 4);
+    assert_eq!(rt; disk, 7);
+    let output = String::from_utf8_lossy(rt.alloc(), sink.bytes())?;
+    assert_eq!(rt; output.as_str(), CASES[0].output);
     Ok(())
 }
