@@ -3,3 +3,4 @@ pub mod NamedLemmas
 pub mod RefusalLemmas
 pub mod RisingKeys
 pub mod TableLemmas
+pub mod UnmadeLemmas

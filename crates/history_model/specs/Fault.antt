@@ -17,7 +17,7 @@ row_count db = sum_by length db.rows
 abbrev pub weight : Db → ℕ
 weight db = sum_by (sum_by row_size) db.rows
 
--- The first fault: more than 1,000,000 rows, else a weight of more than 1,073,741,824. The faults of UNIQUE columns, of
+-- The first fault: more than STORE_ROWS rows, else a weight of more than STORE_WEIGHT. The faults of UNIQUE columns, of
 -- references and of rows without an owner come before these, with their columns.
 unfoldable pub fault : Db → Option Refusal
 fault db = if nat_lt STORE_ROWS (row_count db) then Some (Limit limit.Rows)

@@ -3,6 +3,7 @@ pub mod Create
 pub mod Fault
 pub mod History
 pub mod Made
+pub mod MayBeUnmade
 pub mod Named
 pub mod Run
 pub mod Serial

@@ -18,7 +18,7 @@ IsOfKind of (Int number) = of ≡ kind.Int
 IsOfKind of (Text bytes) = of ≡ kind.Text
 IsOfKind of (Sum number) = of ≡ kind.Sum
 
--- no text of more than 4,096 bytes
+-- no text of more than TEXT_BYTES bytes
 abbrev pub IsShort : Value → Type 0
 IsShort (Text bytes) = length bytes ≤ TEXT_BYTES
 IsShort Null = Unit {0}

@@ -15,7 +15,7 @@ use Rattle.script_model.specs.first.FirstRequest.{IsFirstStatement}
 use Rattle.history_model.specs.Sound.{IsRowOf}
 use Rattle.script_model.specs.first.Lexeme.{Lexeme, Word, Number, Quoted, Mark, lexemes}
 
--- a number and a text of at most 4,096 bytes
+-- a number and a text of at most TEXT_BYTES bytes
 pub record IsPair (tuple : Row) : Type 0 where
   pub number : ℤ
   pub bytes : List ℕ
@@ -69,7 +69,7 @@ create-plain lexemes =
     behind IsPlain _ (name rest) (λ column rest. behind IsPlain _ (word (codes "text") rest) (λ _ rest.
     behind IsPlain _ (mark 41 rest) (λ _ rest. created table key column _ rest)))))))))))))
 
--- a text of the grammar has at most 4,096 bytes
+-- a text of the grammar has at most TEXT_BYTES bytes
 text_step : (found : List ℕ) (rest : List Lexeme) (holds : Bool) → nat_le (length found) TEXT_BYTES ≡ holds
     → Reads (λ bytes. length bytes ≤ TEXT_BYTES) (if holds then Some (found, rest) else None)
 text_step found rest true is = leb-true _ _ is

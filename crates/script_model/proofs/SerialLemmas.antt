@@ -117,7 +117,7 @@ few-left_by : (db : Db) (request : Request) (most : ℕ) → IsFirstRequest requ
 unfolding left_by
 few-left_by db (Run statement) most readable few = few-run db statement most (plain-written statement readable) few
 few-left_by db (Syntax byte) most readable few = more db most few
-few-left_by db (Limit passed) most readable few = absurd readable
+few-left_by db (Limit passed) most readable few = more db most few
 few-left_by db End most readable few = more db most few
 
 few-fold : (before : World) (history : History) (most : ℕ) → AllByRecursion HasFirstRequest history → HasFew before.flat most
@@ -149,7 +149,7 @@ all-take P xs zero all = tt
 all-take P [] (suc n) all = tt
 all-take P (x ∷ xs) (suc n) all = (all.0, all-take P xs n all.1)
 
--- every history of at most 200,001 entries that can be read is Serial over the empty database
+-- every history of at most INPUT_CALLS + 1 entries that can be read is Serial over the empty database
 pub serial-few : (history : History) → length history ≤ INPUT_CALLS + 1 → AllByRecursion HasFirstRequest history → Serial empty history
 serial-few history short readable = record {
   sound = λ place within.

@@ -9,6 +9,7 @@ ghost use Rattle.history_model.specs.History.{History};
 ghost use Rattle.history_model.specs.Made.{Called, made};
 ghost use Rattle.history_model.specs.Serial.{Serial};
 ghost use Rattle.script_model.specs.Printed.{printed};
+ghost use Rattle.script_model.specs.TellsMemory.{TellsMemory};
 ghost use Rattle.script_model.specs.Transcript.{IsSpared, IsTranscript, spared};
 ghost use Rattle.script_model.specs.first.FirstRequest.{HasFirstRequest};
 
@@ -30,4 +31,11 @@ pub fn calls_print_one_behind_the_other()
 pub fn spared_run_is_a_function_of_its_calls()
     ensures { (base : Db) (calls : List ScriptCall) (history : History) (text : List ℕ) (transcript : IsTranscript base calls history text)
         → IsSpared transcript.called → (history ≡ made base (spared calls)) × (text ≡ printed base (made base (spared calls)) (spared calls)) }
+{}
+
+/// The same is so of every transcript whose history has an entry for each call, and whose text tells of memory at no place.
+pub fn full_run_that_tells_no_memory_is_a_function_of_its_calls()
+    ensures { (base : Db) (calls : List ScriptCall) (history : History) (text : List ℕ) → IsTranscript base calls history text
+        → length history ≡ length calls → (TellsMemory text → ⊥)
+        → (history ≡ made base (spared calls)) × (text ≡ printed base (made base (spared calls)) (spared calls)) }
 {}

@@ -62,7 +62,7 @@ mark wanted [] = None
 mark wanted (Mark found ∷ rest) = if found == wanted then Some (found, rest) else None
 mark wanted (_ ∷ rest) = None
 
--- a word of at most 64 bytes that is no keyword
+-- a word of at most NAME_BYTES bytes that is no keyword
 unfoldable pub name : Rule (List ℕ)
 name [] = None
 name (Word found ∷ rest) = if not (is_keyword found) && nat_le (length found) NAME_BYTES then Some (found, rest) else None
@@ -80,7 +80,7 @@ int (Number number ∷ rest) = if nat_lt number (2 ^ 63) then Some (pos number, 
 int (Mark sign ∷ Number number ∷ rest) = if sign == 45 && nat_le number (2 ^ 63) then Some (negative number, rest) else None
 int (_ ∷ rest) = None
 
--- a text of at most 4,096 bytes
+-- a text of at most TEXT_BYTES bytes
 unfoldable pub text : Rule (List ℕ)
 text [] = None
 text (Quoted found ∷ rest) = if nat_le (length found) TEXT_BYTES then Some (found, rest) else None

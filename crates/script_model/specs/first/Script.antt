@@ -34,7 +34,7 @@ unfoldable pub from_first : List ℕ → List ℕ
 from_first [] = []
 from_first (byte ∷ bytes) = if is_white byte then from_first bytes else byte ∷ bytes
 
--- without the white space in front and behind
+-- without the white space in front and at the end
 abbrev pub trimmed : List ℕ → List ℕ
 trimmed bytes = reverse (from_first (reverse (from_first bytes)))
 
@@ -52,11 +52,11 @@ abbrev pub run_or_syntax : Option Statement → Request
 run_or_syntax None = Syntax 0
 run_or_syntax (Some statement) = Run statement
 
--- What a call's text asks for: a statement where a `;` closes it, it has at most 65,536 bytes, and its lexemes are one.
+-- What a call's text asks for: a statement where a `;` closes it, it has at most STATEMENT_BYTES bytes, and its lexemes are one.
 unfoldable pub request_of : Piece → Request
 request_of text = if text.closed && nat_le (length text.bytes) STATEMENT_BYTES then run_or_syntax (statement_of (lexemes text.bytes)) else Syntax 0
 
--- the requests of the texts, and End behind them where there is a call
+-- the requests of the texts, and End after them where there is a call
 abbrev pub requests_of : List Piece → List Request
 requests_of [] = []
 requests_of (text ∷ texts) = request_of text ∷ (map request_of texts ++ End ∷ [])
@@ -66,8 +66,8 @@ unfoldable pub numbered : ℕ → List Request → List ScriptCall
 numbered number [] = []
 numbered number (request ∷ requests) = record { session = record { 0 = 1 }; call = number; request = request } ∷ numbered (number + 1) requests
 
--- The calls of an input, in its order, or why it has none: 67,108,865 bytes or more; else bytes that aren't UTF-8; else
--- more than 200,000 calls, End not counted.
+-- The calls of an input, in its order, or why it has none: more than INPUT_BYTES bytes; else bytes that aren't UTF-8; else
+-- more than INPUT_CALLS calls, End not counted.
 unfoldable pub script : List ℕ → Result (List ScriptCall) InputFault
 script bytes =
     if nat_lt INPUT_BYTES (length bytes) then Err TooLong
