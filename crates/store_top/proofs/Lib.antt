@@ -1,6 +1,7 @@
 pub mod CallTexts
 pub mod Cutting
 pub mod FrontLexemes
+pub mod LastEntry
 pub mod LexemeLemmas
 pub mod Numbering
 pub mod Placed

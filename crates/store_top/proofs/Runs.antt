@@ -17,7 +17,7 @@ use Rattle.store_top.specs.declared.served.TopFault.{TopFault}
 use Rattle.store_top.specs.declared.served.TopFault.TheVariants.{Usage, Read, Write, Disk, Damaged, Input, Memory}
 use Rattle.store_top.specs.Steps.{IsNumbered, StopsAtCall, ToldBefore, ToldInPart}
 use Rattle.store_top.proofs.ScriptLemmas.{has_calls_text}
-use Rattle.store_top.specs.Top.{RefusesInput, RunsInPart, RunsWhole, ServesBytes, ServesCalls}
+use Rattle.store_top.specs.Top.{ReadsAtMost, RefusesInput, RunsInPart, RunsWhole, ServesBytes, ServesCalls}
 
 -- numbered calls are numbered
 numbered-is : (number : ℕ) (requests : List Request) → IsNumbered number (numbered number requests)
@@ -59,7 +59,7 @@ unfolding script
 long_choice bytes short true is = absurd (short (rw is refl))
 long_choice bytes short false is = ltb-false INPUT_BYTES (length bytes) is
 
--- an input that isn't too long has at most 67,108,864 bytes
+-- an input that isn't too long has at most INPUT_BYTES bytes
 pub not_long : (bytes : List ℕ) → (script bytes ≡ Err input.TooLong → ⊥) → length bytes ≤ INPUT_BYTES
 not_long bytes short = long_choice bytes short _ refl
 
@@ -89,6 +89,12 @@ module _ (remaining_old remaining_new written_old written_new : Option (List ℕ
         | inr some ↦ inr (record { bytes = bytes; calls = some.0; read = read; ends = at_end some.0 some.1; script_is = some.1; stops = some.2 })
       ]
 
+  -- memory is taken only for an input that isn't too long
+  pub run_short : fault ≡ Some Memory → ReadsAtMost remaining_old remaining_new INPUT_BYTES
+  run_short is =
+      let by : ServesBytes bytes history written_old written_new rose silent (Some Memory) = rw is at serves in
+      record { bytes = bytes; read = read; few = not_long bytes by.0.0 }
+
   pub refuses_input : (why : InputFault) → fault ≡ Some (Input why) → RefusesInput remaining_old remaining_new why
   refuses_input why is =
       let by : ServesBytes bytes history written_old written_new rose silent (Some (Input why)) = rw is at serves in
@@ -114,7 +120,7 @@ serial_stopped bytes calls history Told is stops =
 pub serial-bytes : (bytes : List ℕ) (history : History) (old new : Option (List ℕ)) (rose silent : Type 0) → (silent → history ≡ []) → (fault : Option TopFault)
     → ServesBytes bytes history old new rose silent fault → Serial empty history
 serial-bytes bytes history old new rose silent none None serves =
-    serial-ran bytes serves.0 serves.0 [] history serves.2.text serves.1 (append-nil serves.0) serves.2.run
+    serial-ran bytes serves.0 serves.0 [] history serves.2.text serves.1 (append-nil serves.0) serves.2.transcript
 serial-bytes bytes history old new rose silent none (Some Write) serves = serial_stopped bytes serves.0 history _ serves.1 serves.3
 serial-bytes bytes history old new rose silent none (Some Memory) (is_text, inl nothing) = serial-none history (none nothing)
 serial-bytes bytes history old new rose silent none (Some Memory) (is_text, inr some) = serial_stopped bytes some.0 history _ some.1 some.2

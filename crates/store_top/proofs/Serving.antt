@@ -8,7 +8,8 @@ use Rattle.own_model.specs.Db.{empty}
 use Rattle.history_model.specs.History.{History}
 use Rattle.history_model.specs.Made.{Want, Spared, Unshown, Unmade, added, entry_of}
 use Rattle.script_model.specs.Transcript.{text_of_call}
-use Rattle.script_model.proofs.TranscriptLemmas.{CallsBelow, EntriesBelow, calls_below-more, entries_below-more, transcript-more, transcript-none}
+use Rattle.script_model.proofs.PrintedLemmas.{CallsBelow, EntriesBelow}
+use Rattle.script_model.proofs.TranscriptLemmas.{calls_below-more, entries_below-more, transcript-more, transcript-none}
 use Rattle.store_top.specs.declared.steps.RunFault.{RunFault}
 use Rattle.store_top.specs.declared.steps.RunFault.TheVariants.{Write, Memory}
 use Rattle.store_top.specs.Steps.{IsNumbered, RunsTo, MakesCallTo, StopsAtCall, TellsCall, ToldBefore, ToldInPart}
@@ -51,7 +52,7 @@ few_added history call Unmade = rw append-nil (omega arith)
 pub serving-none : (calls : List ScriptCall) (old : Option (List ℕ)) → IsNumbered 1 calls → Serving calls [] calls [] old old
 serving-none calls old numbered = record {
   whole = refl;
-  runs = record { text = []; run = transcript-none empty; written = appends-nothing old };
+  runs = record { text = []; transcript = transcript-none empty; written = appends-nothing old };
   numbered = numbered;
   calls_below = tt;
   entries_below = tt;
@@ -69,7 +70,7 @@ serving-more calls done call rest history after old mid new before served step =
       whole = append_assoc done (call ∷ []) rest ∙ before.whole;
       runs = record {
         text = _;
-        run = rw step.history_is (transcript-more empty done history before.runs.text call step.want before.runs.run (rw number before.calls_below) (rw number before.entries_below));
+        transcript = rw step.history_is (transcript-more empty done history before.runs.text call step.want before.runs.transcript (rw number before.calls_below) (rw number before.entries_below) step.spared);
         written = appends-more old mid new _ _ before.runs.written step.written;
       };
       numbered = rw long before.numbered.1;
@@ -92,11 +93,11 @@ module _ (calls done : List ScriptCall) (call : ScriptCall) (rest : List ScriptC
         parts = sym before.whole;
         before = history;
         text = before.runs.text;
-        run = before.runs.run;
+        transcript = before.runs.transcript;
         want = step.want;
         history_is = step.history_is;
         spared = step.spared;
-        made = rw step.history_is (transcript-more empty done history before.runs.text call step.want before.runs.run (rw number before.calls_below) (rw number before.entries_below));
+        made = rw step.history_is (transcript-more empty done history before.runs.text call step.want before.runs.transcript (rw number before.calls_below) (rw number before.entries_below) step.spared);
         told = told;
       }
 

@@ -1,7 +1,5 @@
--- What an engine stands for.
+-- What an engine holds.
 use Rattle.std.specs.Prelude.{◌≡◌, ◌-◌, length, take}
-use Rattle.own_model.specs.declared.request.Request.{Request}
-use Rattle.own_model.specs.declared.request.Request.TheVariants.{Run, Syntax, Limit, End}
 use Rattle.own_model.specs.Db.{empty}
 use Rattle.history_model.specs.History.{flat}
 use Rattle.store_top.specs.declared.engine.Engine.{Engine}
@@ -14,10 +12,3 @@ HoldsFlat engine = db_of engine.flat ≡ flat empty engine.history.items
 -- its tables are the flat database before the last entry
 abbrev pub HoldsFlatBeforeLast : Engine → Type 0
 HoldsFlatBeforeLast engine = db_of engine.flat ≡ flat empty (take (length engine.history.items - 1) engine.history.items)
-
--- a request that memory is taken for: any other is always answered
-abbrev pub TakesMemory : Request → Type 0
-TakesMemory (Run statement) = Unit {0}
-TakesMemory (Syntax byte) = ⊥
-TakesMemory (Limit passed) = ⊥
-TakesMemory End = ⊥

@@ -1,10 +1,11 @@
 ghost use Rattle.std.specs.Prelude.{◌≡◌, ◌+◌, ◌-◌, ◌<◌, ◌≤◌, ◌++◌, ◌∷◌, [], length, take, vec_len, slice_index_or, IfOk, OnOk, OnErr};
 ghost use Rattle.std.specs.Vec.{vec_capacity};
 ghost use Rattle.own_model.specs.Db.{empty};
-ghost use Rattle.history_model.specs.History.{reply};
+ghost use Rattle.history_model.specs.History.{flat, reply};
 ghost use Rattle.history_model.specs.Made.{entry_of};
+ghost use Rattle.history_model.specs.MayBeUnmade.{MayBeUnmade};
 ghost use Rattle.script_model.specs.Printed.{Tells};
-ghost use Rattle.store_top.specs.Engine.{HoldsFlat, HoldsFlatBeforeLast, TakesMemory};
+ghost use Rattle.store_top.specs.Engine.{HoldsFlat, HoldsFlatBeforeLast};
 
 use crate::flat::Flat;
 use own_base::{List, Place};
@@ -27,7 +28,7 @@ pub(crate) struct Answered {
 }
 
 impl Engine {
-    /// No table and no history, with room for so many entries.
+    /// No table and no history, with room for that many entries.
     #[tactic(auto, unfolding(history_model::specs::History::flat, history_model::specs::History::world))]
     pub(crate) fn with_room(alloc: Global, entries: usize) -> Result<Engine, AllocError>
         ensures holds { IfOk result HoldsFlat }
@@ -60,7 +61,7 @@ impl Engine {
         ensures told { IfOk result (λ answered. (answered.place.0 ≡ length self.old.history.items)
             × Tells answered.reply (reply empty self.new.history.items (length self.old.history.items))) }
         ensures err { OnErr result (self.new.history.items ≡ self.old.history.items) }
-        ensures spared { OnErr result (TakesMemory (entry_of empty self.old.history.items call).request) }
+        ensures spared { OnErr result (MayBeUnmade (flat empty self.old.history.items) (entry_of empty self.old.history.items call).request) }
         ensures room { vec_capacity self.old.history ≤ vec_capacity self.new.history }
     {
         let entry = self.entry_of(call);
@@ -95,7 +96,7 @@ impl Engine {
         ensures told { IfOk result (λ answered. (answered.place.0 + 1 ≡ vec_len self.old.history)
             × Tells answered.reply (reply empty self.old.history.items (vec_len self.old.history - 1))) }
         ensures err { OnErr result (self.new.history.items ≡ take (vec_len self.old.history - 1) self.old.history.items) }
-        ensures spared { OnErr result ((default : _) → TakesMemory (slice_index_or self.old.history.items (vec_len self.old.history - 1) default).request) }
+        ensures spared { OnErr result ((default : _) → MayBeUnmade (flat empty (take (vec_len self.old.history - 1) self.old.history.items)) (slice_index_or self.old.history.items (vec_len self.old.history - 1) default).request) }
         ensures room { vec_capacity self.old.history ≤ vec_capacity self.new.history }
     {
         let last = self.history.len() - 1;

@@ -8,8 +8,8 @@ ghost use Rattle.history_model.specs.Create.{create, has_key as attrs_have_key};
 ghost use Rattle.own_model.specs.Db.{as_key, empty, key_of, table_of, IsOrdered, IsRising};
 ghost use Rattle.history_model.specs.History.{answer_to, left_by};
 ghost use Rattle.script_model.specs.Printed.{MayTell};
+ghost use Rattle.history_model.specs.MayBeUnmade.{IsWithoutRows, MayBeUnmade};
 ghost use Rattle.history_model.specs.Run.{insert, run, select, with_tuple};
-ghost use Rattle.store_top.specs.Engine.{TakesMemory};
 ghost use Rattle.store_top.specs.Flat.{after_put, db_of, definition, rows_of, seen_at};
 ghost use Rattle.store_top.specs.Gap.{IsGap};
 ghost use Rattle.store_top.specs.KeyRef.{key_seen};
@@ -87,7 +87,8 @@ impl Flat {
     /// SELECT * FROM the table. Where memory is refused for the rows, `Memory` is told in their place.
     #[tactic(auto, unfolding(history_model::specs::Run::select))]
     fn select(&self, alloc: Global, name: &Name) -> Result<Reply, AllocError>
-        ensures { IfOk result (λ reply. MayTell reply (select (db_of self.now) name.now)) }
+        ensures told { IfOk result (λ reply. MayTell reply (select (db_of self.now) name.now)) }
+        ensures spared { OnErr result (IsWithoutRows (select (db_of self.now) name.now)) }
     {
         match self.position(name) {
             Some(number) => match copied(alloc, &self.tables[number].rows) {
@@ -108,6 +109,7 @@ impl Flat {
         ensures left { OnOk result (db_of self.new ≡ (run (db_of self.old) statement.now).db) }
         ensures told { IfOk result (λ reply. MayTell reply (run (db_of self.old) statement.now).reply) }
         ensures err { OnErr result (db_of self.new ≡ db_of self.old) }
+        ensures spared { OnErr result (IsWithoutRows (run (db_of self.old) statement.now).reply) }
     {
         match statement {
             Statement::CreateTable(table) => {
@@ -148,7 +150,7 @@ impl Flat {
         ensures told { IfOk result (λ reply. MayTell reply (answer_to (db_of self.old) request.now)) }
         ensures left { OnOk result (db_of self.new ≡ left_by (db_of self.old) request.now) }
         ensures err { OnErr result (db_of self.new ≡ db_of self.old) }
-        ensures spared { OnErr result (TakesMemory request.now) }
+        ensures spared { OnErr result (MayBeUnmade (db_of self.old) request.now) }
     {
         match request {
             Request::Run(statement) => self.run(alloc, statement),

@@ -1,4 +1,5 @@
-//! The store's one public call: from the words and the bytes of an input to the bytes of its replies.
+//! The store's public calls: `step`, from the bytes of an input to the bytes of its replies, and `run`, which takes the
+//! words of the program too.
 #![tactic(auto)]
 
 mod call_text;
@@ -13,5 +14,5 @@ mod script;
 mod served;
 mod steps;
 
-pub use running::run;
+pub use running::{run, step};
 pub use served::{Served, TopFault};
