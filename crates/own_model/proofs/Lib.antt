@@ -1,10 +1,1 @@
-pub mod Histories
 pub mod KeyOrder
-pub mod Names
-pub mod Ordered
-pub mod Printing
-pub mod Readings
-pub mod Refusals
-pub mod Scripts
-pub mod Serials
-pub mod Tables

@@ -1,6 +1,6 @@
-//! What the store speaks of: statements and requests as they are read, the schema that they make, what a name in
-//! them is bound to, histories, replies and refusals. The definitions by which contracts say what is true of them
-//! stand in `specs/`.
+//! What the store speaks of, as plain types: statements and requests as they are read, the schema that they make, what
+//! a name in them is bound to, entries, replies and refusals; and the limits. What is true of them is said by the
+//! crates whose names end in `_model`; here `specs/` says what a database is.
 #![tactic(auto)]
 
 mod bound;
@@ -8,7 +8,6 @@ mod condition;
 mod create;
 mod expression;
 mod history;
-pub mod laws;
 mod limit;
 mod refusal;
 mod reply;

@@ -39,7 +39,7 @@ impl fmt::Display for InputFault {
     }
 }
 
-/// The calls of an input, in its order, and the End call of each session behind them.
+/// The calls of an input, in its order, and the End call of each session after them.
 #[derive(Debug, Drop)]
 pub struct Script {
     pub calls: List<ScriptCall>,

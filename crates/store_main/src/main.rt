@@ -64,7 +64,7 @@ fn words_of<R: Env + AllocGlobal>(rt: &R) -> Result<Vec<String>, Ending>
     }
 }
 
-/// Serves the words behind the program's name. The one store that there is yet is `-`, an empty disk in memory.
+/// Serves the words after the program's name. The one store that there is yet is `-`, an empty disk in memory.
 fn serve<R: Input + Print + AllocGlobal + Threads + Wait + Sync>(rt: &R, words: &[String]) -> Ending
     ensures status { result.status ≡ status_of result.fault }
     ensures usage { result.fault ≡ Some TopFault.Usage → is_served (map string_bytes words.now) ≡ false }
@@ -123,6 +123,3 @@ fn main(rt: HostRuntime) -> ExitCode {
     }
     ExitCode::from(ending.status)
 }
-
-#[cfg(test)]
-mod tests;

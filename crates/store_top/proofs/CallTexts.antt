@@ -2,7 +2,7 @@
 use Rattle.std.proofs.Common.{◌≡◌, ℕ, ◌<◌, List, ◌∷◌, length, false, Option, None, Some, refl, ◌∙◌, cond, lt-ltb}
 use Rattle.std.specs.Prelude.{is_some, nat_lt, map, filter}
 use denote.Ref.{Bor}
-use Rattle.own_model.specs.Script.{Piece, pieces, trimmed, trimmed_piece, has_bytes, call_texts}
+use Rattle.script_model.specs.first.Script.{Piece, pieces, trimmed, trimmed_piece, has_bytes, call_texts}
 use Rattle.store_top.specs.Reading.{pieces_of, call_texts_of}
 
 -- the calls of a text are those of its pieces

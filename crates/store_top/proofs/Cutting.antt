@@ -13,8 +13,8 @@ use Rattle.std.proofs.lemmas.Str.{IsCharBoundary-end, IsCharBoundary-start, IsCh
 use Rattle.std.proofs.lemmas.List.Sums.{prefix_len-le-length, prefix_len_passes}
 use Rattle.std.proofs.lemmas.List.Folds.{length-prefix_len}
 use denote.Ref.{Bor}
-use Rattle.own_model.specs.Token.{is_white}
-use Rattle.own_model.specs.Script.{pieces, onto_first, from_first, trimmed}
+use Rattle.script_model.specs.first.Lexeme.{is_white}
+use Rattle.script_model.specs.first.Script.{pieces, onto_first, from_first, trimmed}
 use Rattle.store_top.specs.Reading.{piece_len, pieces_of}
 
 -- how the length goes on at a byte

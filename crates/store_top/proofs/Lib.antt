@@ -1,13 +1,14 @@
 pub mod CallTexts
 pub mod Cutting
-pub mod FrontTokens
+pub mod FrontLexemes
+pub mod LastEntry
+pub mod LexemeLemmas
 pub mod Numbering
 pub mod Placed
 pub mod Put
 pub mod Results
 pub mod RuleSteps
 pub mod Runs
-pub mod Scripts
+pub mod ScriptLemmas
 pub mod Serving
-pub mod Tokens
 pub mod Unquoting

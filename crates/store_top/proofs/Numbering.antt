@@ -4,7 +4,7 @@ use Rattle.std.proofs.lemmas.List.{append-nil, length-map}
 use Rattle.own_model.specs.declared.request.Request.{Request}
 use Rattle.own_model.specs.declared.request.Request.TheVariants.{End}
 use Rattle.own_model.specs.declared.script.ScriptCall.{ScriptCall}
-use Rattle.own_model.specs.Script.{Piece, request_of, requests_of, numbered}
+use Rattle.script_model.specs.first.Script.{Piece, request_of, requests_of, numbered}
 use Rattle.store_top.specs.Input.{numbered_call}
 
 pub numbered-nil : (number : ℕ) → numbered number [] ≡ []

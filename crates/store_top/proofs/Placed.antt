@@ -13,7 +13,7 @@ use Rattle.own_base.specs.declared.value.Key.{Key}
 use Rattle.own_model.specs.declared.schema.TableDef.{TableDef}
 use Rattle.own_model.proofs.KeyOrder.{key_order}
 use Rattle.own_model.specs.Db.{Row, key_of, IsRising, AreRising}
-use Rattle.own_model.specs.Run.{with_row, with_tuple, has_key}
+use Rattle.history_model.specs.Run.{with_row, with_tuple, has_key}
 use Rattle.store_top.specs.declared.flat.Table.{Table}
 use Rattle.store_top.specs.Flat.{definition, rows_of}
 use Rattle.store_top.specs.Gap.{IsGap}

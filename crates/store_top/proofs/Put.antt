@@ -6,8 +6,8 @@ use Rattle.std.specs.Prelude.{Result, Ok, Err, Some, slice_index_or, slice_set}
 use Rattle.own_base.specs.declared.value.Key.{Key}
 use Rattle.own_model.specs.declared.reply.Reply.{Reply}
 use Rattle.own_model.specs.Db as model
-use Rattle.own_model.specs.Create.{definition_of, create_text}
-use Rattle.own_model.specs.Run.{Outcome, insert, put, with_tuple}
+use Rattle.history_model.specs.Create.{definition_of, create_text}
+use Rattle.history_model.specs.Run.{Outcome, insert, put, with_tuple}
 use Rattle.store_top.specs.declared.flat.Table.{Table}
 use Rattle.store_top.specs.Flat.{after_put, db_of_tables, definition, rows_of, seen_at, text_of}
 

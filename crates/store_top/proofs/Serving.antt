@@ -5,13 +5,14 @@ use Rattle.std.specs.Io.KnownBytes.{Appends}
 use Rattle.std.proofs.lemmas.List.{length-append}
 use Rattle.own_model.specs.declared.script.ScriptCall.{ScriptCall}
 use Rattle.own_model.specs.Db.{empty}
-use Rattle.own_model.specs.History.{History}
-use Rattle.own_model.specs.Made.{Want, Spared, Unshown, Unmade, added, entry_of}
-use Rattle.own_model.specs.Ran.{text_of_call}
-use Rattle.own_model.proofs.Printing.{CallsBelow, EntriesBelow, calls_below-more, entries_below-more, has_run-more, has_run-none}
+use Rattle.history_model.specs.History.{History}
+use Rattle.history_model.specs.Made.{Want, Spared, Unshown, Unmade, added, entry_of}
+use Rattle.script_model.specs.Transcript.{text_of_call}
+use Rattle.script_model.proofs.PrintedLemmas.{CallsBelow, EntriesBelow}
+use Rattle.script_model.proofs.TranscriptLemmas.{calls_below-more, entries_below-more, transcript-more, transcript-none}
 use Rattle.store_top.specs.declared.steps.RunFault.{RunFault}
 use Rattle.store_top.specs.declared.steps.RunFault.TheVariants.{Write, Memory}
-use Rattle.store_top.specs.Steps.{IsNumbered, RunsTo, ServesTo, StopsAtCall, TellsCall, ToldBefore, ToldInPart}
+use Rattle.store_top.specs.Steps.{IsNumbered, RunsTo, MakesCallTo, StopsAtCall, TellsCall, ToldBefore, ToldInPart}
 
 -- bytes that were appended one after another
 pub appends-more : (old mid new : Option (List ℕ)) (first second : List ℕ) → Appends old mid first → Appends mid new second → Appends old new (first ++ second)
@@ -51,7 +52,7 @@ few_added history call Unmade = rw append-nil (omega arith)
 pub serving-none : (calls : List ScriptCall) (old : Option (List ℕ)) → IsNumbered 1 calls → Serving calls [] calls [] old old
 serving-none calls old numbered = record {
   whole = refl;
-  runs = record { text = []; run = has_run-none empty; written = appends-nothing old };
+  runs = record { text = []; transcript = transcript-none empty; written = appends-nothing old };
   numbered = numbered;
   calls_below = tt;
   entries_below = tt;
@@ -60,7 +61,7 @@ serving-none calls old numbered = record {
 
 -- one more is served
 pub serving-more : (calls done : List ScriptCall) (call : ScriptCall) (rest : List ScriptCall) (history after : History) (old mid new : Option (List ℕ))
-    → Serving calls done (call ∷ rest) history old mid → (served : Unit {0}) → ServesTo call history after mid new (Ok served)
+    → Serving calls done (call ∷ rest) history old mid → (served : Unit {0}) → MakesCallTo call history after mid new (Ok served)
     → Serving calls (done ++ call ∷ []) rest after old new
 serving-more calls done call rest history after old mid new before served step =
     let number = before.numbered.0 in
@@ -69,7 +70,7 @@ serving-more calls done call rest history after old mid new before served step =
       whole = append_assoc done (call ∷ []) rest ∙ before.whole;
       runs = record {
         text = _;
-        run = rw step.history_is (has_run-more empty done history before.runs.text call step.want before.runs.run (rw number before.calls_below) (rw number before.entries_below));
+        transcript = rw step.history_is (transcript-more empty done history before.runs.text call step.want before.runs.transcript (rw number before.calls_below) (rw number before.entries_below) step.spared);
         written = appends-more old mid new _ _ before.runs.written step.written;
       };
       numbered = rw long before.numbered.1;
@@ -81,7 +82,7 @@ serving-more calls done call rest history after old mid new before served step =
 -- a fault comes at one more
 module _ (calls done : List ScriptCall) (call : ScriptCall) (rest : List ScriptCall) (history after : History) (old mid new : Option (List ℕ))
     (before : Serving calls done (call ∷ rest) history old mid) where
-  stops_at : (result : Result (Unit {0}) RunFault) (step : ServesTo call history after mid new result) (Told : List ℕ → List ℕ → Type 0)
+  stops_at : (result : Result (Unit {0}) RunFault) (step : MakesCallTo call history after mid new result) (Told : List ℕ → List ℕ → Type 0)
       → Told before.runs.text (text_of_call empty history call step.want) → StopsAtCall calls after Told
   stops_at result step Told told =
       let number = before.numbered.0 in
@@ -92,23 +93,23 @@ module _ (calls done : List ScriptCall) (call : ScriptCall) (rest : List ScriptC
         parts = sym before.whole;
         before = history;
         text = before.runs.text;
-        run = before.runs.run;
+        transcript = before.runs.transcript;
         want = step.want;
         history_is = step.history_is;
         spared = step.spared;
-        made = rw step.history_is (has_run-more empty done history before.runs.text call step.want before.runs.run (rw number before.calls_below) (rw number before.entries_below));
+        made = rw step.history_is (transcript-more empty done history before.runs.text call step.want before.runs.transcript (rw number before.calls_below) (rw number before.entries_below) step.spared);
         told = told;
       }
 
   -- a write fault
-  pub serving-breaks : (result : Result (Unit {0}) RunFault) → ServesTo call history after mid new result → result ≡ Err Write
+  pub serving-breaks : (result : Result (Unit {0}) RunFault) → MakesCallTo call history after mid new result → result ≡ Err Write
       → StopsAtCall calls after (ToldInPart old new)
   serving-breaks result step is =
       stops_at result step (ToldInPart old new)
       (told_in_part old mid new before.runs.text (text_of_call empty history call step.want) before.runs.written (subst (λ r. TellsCall r mid new (text_of_call empty history call step.want)) is step.written))
 
   -- want of memory
-  pub serving-refused : (result : Result (Unit {0}) RunFault) → ServesTo call history after mid new result → result ≡ Err Memory
+  pub serving-refused : (result : Result (Unit {0}) RunFault) → MakesCallTo call history after mid new result → result ≡ Err Memory
       → StopsAtCall calls after (ToldBefore old new)
   serving-refused result step is =
       stops_at result step (ToldBefore old new)

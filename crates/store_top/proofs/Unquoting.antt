@@ -2,7 +2,7 @@
 use Rattle.std.proofs.Common.{◌≡◌, ◌≢◌, ℕ, suc, ◌+◌, ◌<◌, List, [], ◌∷◌, ◌++◌, length, get_or, false, Option, None, Some, arith, refl, sym, ap, ◌∙◌, append_assoc, append-nil, add-one}
 use Rattle.std.specs.Prelude.{◌==◌}
 use Rattle.std.proofs.lemmas.Bool.{ne_eqb}
-use Rattle.own_model.specs.Token.{quoted_value, with_byte}
+use Rattle.script_model.specs.first.Lexeme.{quoted_value, with_byte}
 use Rattle.store_top.specs.Read.{unquoted, value_and_rest, onto_value}
 
 -- a byte in front that is no quote

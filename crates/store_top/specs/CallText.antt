@@ -1,5 +1,5 @@
 -- What a call's text shows.
-use Rattle.own_model.specs.Script.{Piece}
+use Rattle.script_model.specs.first.Script.{Piece}
 use Rattle.store_top.specs.declared.call_text.CallText.{CallText}
 
 -- its bytes, and whether a `;` closes them

@@ -1,23 +1,14 @@
--- What an engine stands for.
+-- What an engine holds.
 use Rattle.std.specs.Prelude.{◌≡◌, ◌-◌, length, take}
-use Rattle.own_model.specs.declared.request.Request.{Request}
-use Rattle.own_model.specs.declared.request.Request.TheVariants.{Run, Syntax, Limit, End}
 use Rattle.own_model.specs.Db.{empty}
-use Rattle.own_model.specs.History.{flat}
+use Rattle.history_model.specs.History.{flat}
 use Rattle.store_top.specs.declared.engine.Engine.{Engine}
 use Rattle.store_top.specs.Flat.{db_of}
 
 -- its tables are the flat database of its history
-abbrev pub Stands : Engine → Type 0
-Stands engine = db_of engine.flat ≡ flat empty engine.history.items
+abbrev pub HoldsFlat : Engine → Type 0
+HoldsFlat engine = db_of engine.flat ≡ flat empty engine.history.items
 
 -- its tables are the flat database before the last entry
-abbrev pub StandsBeforeLast : Engine → Type 0
-StandsBeforeLast engine = db_of engine.flat ≡ flat empty (take (length engine.history.items - 1) engine.history.items)
-
--- a request that memory is taken for: any other is always answered
-abbrev pub TakesMemory : Request → Type 0
-TakesMemory (Run statement) = Unit {0}
-TakesMemory (Syntax byte) = ⊥
-TakesMemory (Limit passed) = ⊥
-TakesMemory End = ⊥
+abbrev pub HoldsFlatBeforeLast : Engine → Type 0
+HoldsFlatBeforeLast engine = db_of engine.flat ≡ flat empty (take (length engine.history.items - 1) engine.history.items)

@@ -4,7 +4,7 @@ use Rattle.own_base.specs.declared.value.Key.{Key}
 use Rattle.own_model.specs.declared.refusal.Refusal.TheVariants.{Duplicate}
 use Rattle.own_model.specs.declared.reply.Reply.{Reply}
 use Rattle.own_model.specs.declared.reply.Reply.TheVariants.{Counted, Refused}
-use Rattle.own_model.specs.Create.{create_text, definition_of}
+use Rattle.history_model.specs.Create.{create_text, definition_of}
 use Rattle.own_model.specs.Db as model
 use Rattle.own_model.specs.declared.schema.CreateText.{CreateText}
 use Rattle.own_model.specs.declared.schema.TableDef.{TableDef}

@@ -1,5 +1,6 @@
 -- What the reader of an input answers.
 use Rattle.std.specs.Prelude.{◌≡◌, ◌≢◌, ℕ, ◌<◌, List, Result, Err}
+use Rattle.own_model.specs.declared.limit.TheConstants.{INPUT_CALLS}
 use Rattle.own_model.specs.declared.request.Request.{Request}
 use Rattle.own_model.specs.declared.script.InputFault.{InputFault}
 use Rattle.own_model.specs.declared.script.InputFault.TheVariants.{TooLong, NotText, BadSession, TooManyCalls, Memory}
@@ -24,7 +25,7 @@ IsFaultOf read (TooManyCalls byte) = read ≡ Err (TooManyCalls byte)
 -- memory ran out, or there are too many calls
 abbrev pub IsManyOf : ℕ → InputFault → Type 0
 IsManyOf calls Memory = Unit {0}
-IsManyOf calls (TooManyCalls byte) = (200000 < calls) × (byte ≡ 0)
+IsManyOf calls (TooManyCalls byte) = (INPUT_CALLS < calls) × (byte ≡ 0)
 IsManyOf calls TooLong = ⊥
 IsManyOf calls (NotText byte) = ⊥
 IsManyOf calls (BadSession byte) = ⊥

@@ -1,7 +1,7 @@
 -- What the parts of the reader give, in the words of the definitions of an input.
 use Rattle.std.specs.Prelude.{ℕ, suc, List, [], ◌∷◌, Bool, false, not, ◌==◌, ◌&&◌, Option, None, Some, if◌then◌else◌}
 use denote.Ref.{Bor}
-use Rattle.own_model.specs.Script.{Piece, pieces, call_texts}
+use Rattle.script_model.specs.first.Script.{Piece, pieces, call_texts}
 
 -- how many bytes stand in front of the first `;` outside quotes, or how many there are
 unfoldable pub piece_len : Bool → List ℕ → ℕ

@@ -3,10 +3,10 @@ use Rattle.std.specs.Prelude.{◌≡◌, ℕ, ◌+◌, ◌<◌, List, [], ◌∷
 use Rattle.std.specs.Io.KnownBytes.{Appends}
 use Rattle.own_model.specs.declared.script.ScriptCall.{ScriptCall}
 use Rattle.own_model.specs.Db.{empty}
-use Rattle.own_model.specs.History.{History}
-use Rattle.own_model.specs.Made.{Want, Unmade, added, entry_of}
-use Rattle.own_model.specs.Ran.{HasRun, text_of_call}
-use Rattle.store_top.specs.Engine.{TakesMemory}
+use Rattle.history_model.specs.History.{History, flat}
+use Rattle.history_model.specs.Made.{Want, Unmade, added, entry_of}
+use Rattle.history_model.specs.MayBeUnmade.{MayBeUnmade}
+use Rattle.script_model.specs.Transcript.{IsTranscript, text_of_call}
 use Rattle.store_top.specs.declared.steps.RunFault.{RunFault}
 use Rattle.store_top.specs.declared.steps.RunFault.TheVariants.{Write, Memory}
 
@@ -24,43 +24,45 @@ TellsCall (Ok _) old new text = Appends old new text
 TellsCall (Err Write) old new text = ToldInPart old new [] text
 TellsCall (Err Memory) old new text = ToldBefore old new [] text
 
--- the call's entry is behind the history, unless memory refused it, and the text, where there is one, is the call's
-pub record Serves {T E : Type 0} (bytes_of : T → List ℕ) (call : ScriptCall) (before after : History) (result : Result T E) : Type 0 where
+-- The history grew by the call's entry, unless memory kept it from being made, and the text, where there is one, is the
+-- call's.
+pub record MakesCall {T E : Type 0} (bytes_of : T → List ℕ) (call : ScriptCall) (before after : History) (result : Result T E) : Type 0 where
   pub want : Want
   pub history_is : after ≡ before ++ added (entry_of empty before call) want
-  pub spared : want ≡ Unmade → TakesMemory (entry_of empty before call).request
+  pub spared : want ≡ Unmade → MayBeUnmade (flat empty before) (entry_of empty before call).request
   pub text_is : IfOk result (λ text. bytes_of text ≡ text_of_call empty before call want)
 
--- the call's entry is behind the history, unless memory refused it, and the sink has what the result says of the call's
--- text
-pub record ServesTo (call : ScriptCall) (before after : History) (old new : Option (List ℕ)) (result : Result (Unit {0}) RunFault) : Type 0 where
+-- The history grew by the call's entry, unless memory kept it from being made, and the sink has what the result says of
+-- the call's text.
+pub record MakesCallTo (call : ScriptCall) (before after : History) (old new : Option (List ℕ)) (result : Result (Unit {0}) RunFault) : Type 0 where
   pub want : Want
   pub history_is : after ≡ before ++ added (entry_of empty before call) want
-  pub spared : want ≡ Unmade → TakesMemory (entry_of empty before call).request
+  pub spared : want ≡ Unmade → MayBeUnmade (flat empty before) (entry_of empty before call).request
   pub written : TellsCall result old new (text_of_call empty before call want)
 
 -- these calls were made in a run, and known bytes grew by its text
 pub record RunsTo (calls : List ScriptCall) (history : History) (old new : Option (List ℕ)) : Type 0 where
   pub text : List ℕ
-  pub run : HasRun empty calls history text
+  pub transcript : IsTranscript empty calls history text
   pub written : Appends old new text
 
--- A run stopped at one of the calls: those before it were made and told, no call behind it was made, and its own entry
--- is the last, unless memory refused it. What is told is said of the text of the calls before it and of its own.
+-- A run stopped at one of the calls: those before it were made and told, no call after it was made, and its own entry is
+-- the last, unless memory kept it from being made. What is told is said of the text of the calls before it and of its
+-- own.
 pub record StopsAtCall (calls : List ScriptCall) (history : History) (Told : List ℕ → List ℕ → Type 0) : Type 0 where
   pub done : List ScriptCall
   pub last : ScriptCall
   pub rest : List ScriptCall
   pub parts : calls ≡ done ++ last ∷ rest
-  -- the run of the calls before it
+  -- what the calls before it left
   pub before : History
   pub text : List ℕ
-  pub run : HasRun empty done before text
+  pub transcript : IsTranscript empty done before text
   -- and with it
   pub want : Want
   pub history_is : history ≡ before ++ added (entry_of empty before last) want
-  pub spared : want ≡ Unmade → TakesMemory (entry_of empty before last).request
-  pub made : HasRun empty (done ++ last ∷ []) history (text ++ text_of_call empty before last want)
+  pub spared : want ≡ Unmade → MayBeUnmade (flat empty before) (entry_of empty before last).request
+  pub made : IsTranscript empty (done ++ last ∷ []) history (text ++ text_of_call empty before last want)
   pub told : Told text (text_of_call empty before last want)
 
 -- the calls are numbered one after another, from here on

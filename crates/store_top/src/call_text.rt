@@ -1,7 +1,7 @@
 ghost use Rattle.std.specs.Prelude.{◌≡◌, is_some, ◌∷◌, MatchOption, [], false, length, reverse};
 ghost use Rattle.std.specs.List.{take_while};
-ghost use Rattle.own_model.specs.Token.{is_white as is_white_byte};
-ghost use Rattle.own_model.specs.Script.{pieces, trimmed};
+ghost use Rattle.script_model.specs.first.Lexeme.{is_white as is_white_byte};
+ghost use Rattle.script_model.specs.first.Script.{pieces, trimmed};
 ghost use Rattle.store_top.specs.CallText.{shown};
 ghost use Rattle.store_top.specs.Reading.{piece_len as cut_place, pieces_of, call_texts_of};
 

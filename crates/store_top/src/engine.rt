@@ -1,10 +1,11 @@
 ghost use Rattle.std.specs.Prelude.{◌≡◌, ◌+◌, ◌-◌, ◌<◌, ◌≤◌, ◌++◌, ◌∷◌, [], length, take, vec_len, slice_index_or, IfOk, OnOk, OnErr};
 ghost use Rattle.std.specs.Vec.{vec_capacity};
 ghost use Rattle.own_model.specs.Db.{empty};
-ghost use Rattle.own_model.specs.History.{reply};
-ghost use Rattle.own_model.specs.Made.{entry_of};
-ghost use Rattle.own_model.specs.Printed.{Tells};
-ghost use Rattle.store_top.specs.Engine.{Stands, StandsBeforeLast, TakesMemory};
+ghost use Rattle.history_model.specs.History.{flat, reply};
+ghost use Rattle.history_model.specs.Made.{entry_of};
+ghost use Rattle.history_model.specs.MayBeUnmade.{MayBeUnmade};
+ghost use Rattle.script_model.specs.Printed.{Tells};
+ghost use Rattle.store_top.specs.Engine.{HoldsFlat, HoldsFlatBeforeLast};
 
 use crate::flat::Flat;
 use own_base::{List, Place};
@@ -27,10 +28,10 @@ pub(crate) struct Answered {
 }
 
 impl Engine {
-    /// No table and no history, with room for so many entries.
-    #[tactic(auto, unfolding(own_model::specs::History::flat, own_model::specs::History::world))]
+    /// No table and no history, with room for that many entries.
+    #[tactic(auto, unfolding(history_model::specs::History::flat, history_model::specs::History::world))]
     pub(crate) fn with_room(alloc: Global, entries: usize) -> Result<Engine, AllocError>
-        ensures stands { IfOk result Stands }
+        ensures holds { IfOk result HoldsFlat }
         ensures history { IfOk result (λ engine. engine.history.items ≡ []) }
         ensures room { IfOk result (λ engine. entries ≤ vec_capacity engine.history) }
     {
@@ -53,14 +54,14 @@ impl Engine {
     /// Serves a call: its entry comes into the history, and the tables change by it. Where memory is refused, nothing
     /// changes; where it is refused for the rows of a SELECT alone, the entry is made and `Memory` is told.
     pub(crate) fn step(&mut self, alloc: Global, call: ScriptCall) -> Result<Answered, AllocError>
-        requires stands { Stands self.old }
+        requires holds { HoldsFlat self.old }
         requires room { vec_len self.old.history < vec_capacity self.old.history }
-        ensures stands { Stands self.new }
+        ensures holds { HoldsFlat self.new }
         ensures made { OnOk result (self.new.history.items ≡ self.old.history.items ++ entry_of empty self.old.history.items call ∷ []) }
         ensures told { IfOk result (λ answered. (answered.place.0 ≡ length self.old.history.items)
             × Tells answered.reply (reply empty self.new.history.items (length self.old.history.items))) }
         ensures err { OnErr result (self.new.history.items ≡ self.old.history.items) }
-        ensures spared { OnErr result (TakesMemory (entry_of empty self.old.history.items call).request) }
+        ensures spared { OnErr result (MayBeUnmade (flat empty self.old.history.items) (entry_of empty self.old.history.items call).request) }
         ensures room { vec_capacity self.old.history ≤ vec_capacity self.new.history }
     {
         let entry = self.entry_of(call);
@@ -70,7 +71,7 @@ impl Engine {
 
     /// The entry that a call makes.
     fn entry_of(&self, call: ScriptCall) -> Entry
-        requires { Stands self.now }
+        requires { HoldsFlat self.now }
         ensures { result ≡ entry_of empty self.now.history.items call }
     {
         let ScriptCall {
@@ -88,14 +89,14 @@ impl Engine {
 
     /// Answers the last entry of the history, which the tables don't have yet. Where memory is refused, the entry goes.
     fn answer_last(&mut self, alloc: Global) -> Result<Answered, AllocError>
-        requires before { StandsBeforeLast self.old }
+        requires before { HoldsFlatBeforeLast self.old }
         requires some { 0 < vec_len self.old.history }
-        ensures stands { Stands self.new }
+        ensures holds { HoldsFlat self.new }
         ensures made { OnOk result (self.new.history.items ≡ self.old.history.items) }
         ensures told { IfOk result (λ answered. (answered.place.0 + 1 ≡ vec_len self.old.history)
             × Tells answered.reply (reply empty self.old.history.items (vec_len self.old.history - 1))) }
         ensures err { OnErr result (self.new.history.items ≡ take (vec_len self.old.history - 1) self.old.history.items) }
-        ensures spared { OnErr result ((default : _) → TakesMemory (slice_index_or self.old.history.items (vec_len self.old.history - 1) default).request) }
+        ensures spared { OnErr result ((default : _) → MayBeUnmade (flat empty (take (vec_len self.old.history - 1) self.old.history.items)) (slice_index_or self.old.history.items (vec_len self.old.history - 1) default).request) }
         ensures room { vec_capacity self.old.history ≤ vec_capacity self.new.history }
     {
         let last = self.history.len() - 1;

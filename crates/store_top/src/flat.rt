@@ -3,13 +3,13 @@ ghost use Rattle.std.specs.List.{HoldsAt};
 ghost use Rattle.std.specs.declared.cmp.Ordering.TheVariants.{Equal};
 ghost use Rattle.own_base.specs.Key.{key_cmp};
 ghost use Rattle.own_base.specs.declared.value.Value.TheVariants.{Null};
-ghost use Rattle.own_model.specs.Built.{built};
-ghost use Rattle.own_model.specs.Create.{create, has_key as attrs_have_key};
+ghost use Rattle.history_model.specs.Built.{built};
+ghost use Rattle.history_model.specs.Create.{create, has_key as attrs_have_key};
 ghost use Rattle.own_model.specs.Db.{as_key, empty, key_of, table_of, IsOrdered, IsRising};
-ghost use Rattle.own_model.specs.History.{answer_to, left_by};
-ghost use Rattle.own_model.specs.Printed.{MayTell};
-ghost use Rattle.own_model.specs.Run.{insert, run, select, with_tuple};
-ghost use Rattle.store_top.specs.Engine.{TakesMemory};
+ghost use Rattle.history_model.specs.History.{answer_to, left_by};
+ghost use Rattle.script_model.specs.Printed.{MayTell};
+ghost use Rattle.history_model.specs.MayBeUnmade.{IsWithoutRows, MayBeUnmade};
+ghost use Rattle.history_model.specs.Run.{insert, run, select, with_tuple};
 ghost use Rattle.store_top.specs.Flat.{after_put, db_of, definition, rows_of, seen_at};
 ghost use Rattle.store_top.specs.Gap.{IsGap};
 ghost use Rattle.store_top.specs.KeyRef.{key_seen};
@@ -57,7 +57,7 @@ impl Flat {
     }
 
     /// The number of the table that has this name.
-    #[tactic(auto, unfolding(own_model::specs::Db::table_from, own_model::specs::Create::definition_of))]
+    #[tactic(auto, unfolding(own_model::specs::Db::table_from, history_model::specs::Create::definition_of))]
     fn position(&self, name: &Name) -> Option<usize>
         ensures within { IfSome result (λ number. number < length self.now.tables.items) }
         ensures found { MatchOption result (table_of (db_of self.now) name.now ≡ None)
@@ -72,7 +72,7 @@ impl Flat {
     }
 
     /// INSERT of one tuple.
-    #[tactic(auto, unfolding(own_model::specs::Run::insert))]
+    #[tactic(auto, unfolding(history_model::specs::Run::insert))]
     fn insert(&mut self, alloc: Global, name: &Name, tuple: Row) -> Result<Reply, AllocError>
         requires { IsOrdered (db_of self.old) }
         ensures ok { IfOk result (λ reply. insert (db_of self.old) name.now tuple ≡ record { db = db_of self.new; reply = reply }) }
@@ -85,9 +85,10 @@ impl Flat {
     }
 
     /// SELECT * FROM the table. Where memory is refused for the rows, `Memory` is told in their place.
-    #[tactic(auto, unfolding(own_model::specs::Run::select))]
+    #[tactic(auto, unfolding(history_model::specs::Run::select))]
     fn select(&self, alloc: Global, name: &Name) -> Result<Reply, AllocError>
-        ensures { IfOk result (λ reply. MayTell reply (select (db_of self.now) name.now)) }
+        ensures told { IfOk result (λ reply. MayTell reply (select (db_of self.now) name.now)) }
+        ensures spared { OnErr result (IsWithoutRows (select (db_of self.now) name.now)) }
     {
         match self.position(name) {
             Some(number) => match copied(alloc, &self.tables[number].rows) {
@@ -102,12 +103,13 @@ impl Flat {
 impl Flat {
     /// Runs a statement. Where memory is refused, nothing changes; where it is refused for the rows of a SELECT alone,
     /// `Memory` is told in their place.
-    #[tactic(auto, unfolding(own_model::specs::Run::run))]
+    #[tactic(auto, unfolding(history_model::specs::Run::run))]
     fn run(&mut self, alloc: Global, statement: &Statement) -> Result<Reply, AllocError>
         requires { IsOrdered (db_of self.old) }
         ensures left { OnOk result (db_of self.new ≡ (run (db_of self.old) statement.now).db) }
         ensures told { IfOk result (λ reply. MayTell reply (run (db_of self.old) statement.now).reply) }
         ensures err { OnErr result (db_of self.new ≡ db_of self.old) }
+        ensures spared { OnErr result (IsWithoutRows (run (db_of self.old) statement.now).reply) }
     {
         match statement {
             Statement::CreateTable(table) => {
@@ -128,7 +130,7 @@ impl Flat {
     }
 
     /// A request as it comes into the history: a CREATE where a table is there isn't built yet.
-    #[tactic(auto, unfolding(own_model::specs::Built::built))]
+    #[tactic(auto, unfolding(history_model::specs::Built::built))]
     pub(crate) fn built(&self, request: Request) -> Request
         ensures { result ≡ built (db_of self.now).schema request }
     {
@@ -142,13 +144,13 @@ impl Flat {
 
     /// Answers a request. Where memory is refused, nothing changes; where it is refused for the rows of a SELECT alone,
     /// `Memory` is told in their place.
-    #[tactic(auto, unfolding(own_model::specs::History::answer_to, own_model::specs::History::left_by))]
+    #[tactic(auto, unfolding(history_model::specs::History::answer_to, history_model::specs::History::left_by))]
     pub(crate) fn answer(&mut self, alloc: Global, request: &Request) -> Result<Reply, AllocError>
         requires { IsOrdered (db_of self.old) }
         ensures told { IfOk result (λ reply. MayTell reply (answer_to (db_of self.old) request.now)) }
         ensures left { OnOk result (db_of self.new ≡ left_by (db_of self.old) request.now) }
         ensures err { OnErr result (db_of self.new ≡ db_of self.old) }
-        ensures spared { OnErr result (TakesMemory request.now) }
+        ensures spared { OnErr result (MayBeUnmade (db_of self.old) request.now) }
     {
         match request {
             Request::Run(statement) => self.run(alloc, statement),
@@ -165,14 +167,14 @@ fn copied(alloc: Global, rows: &[Row]) -> Result<List<Row>, AllocError>
 {
     let mut copied = List::new(alloc);
     for row in rows {
-        copied.push(row.copy(alloc)?).map_err(|refused| refused.0)?;
+        copied.add(row.copy(alloc)?)?;
     }
     Ok(copied)
 }
 
 impl Table {
     /// The number of the primary key's column.
-    #[tactic(auto, unfolding(own_model::specs::Create::definition_of))]
+    #[tactic(auto, unfolding(history_model::specs::Create::definition_of))]
     fn key_column(&self) -> usize
         ensures { result ≡ (definition self.now).key.0 }
     {

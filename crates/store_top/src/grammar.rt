@@ -2,16 +2,16 @@ ghost use Rattle.std.specs.Prelude.{◌≡◌, ◌<◌, ◌≤◌, ◌^◌, [], 
 ghost use Rattle.std.specs.Char.{to_ascii_lowercase};
 ghost use Rattle.std.specs.List.{list_any};
 ghost use Rattle.std.specs.Str.{bytes_eq};
-ghost use Rattle.own_model.specs.Token.{Mark, tokens};
+ghost use Rattle.script_model.specs.first.Lexeme.{Mark, lexemes};
 ghost use Rattle.own_base.specs.declared.value.Value.TheVariants as value;
 ghost use Rattle.own_model.specs.declared.statement.Statement.TheVariants as statement;
-ghost use Rattle.own_model.specs.Grammar as grammar;
+ghost use Rattle.script_model.specs.first.Grammar as grammar;
 ghost use Rattle.store_top.specs.Read.{Gives};
 ghost use Rattle.store_top.specs.Whole.{WholeOf};
 
-use crate::token::{ReadFault, Token, is_end, next_token};
+use crate::lexeme::{HeldLexeme, LexemeFault, is_end, next_lexeme};
 use own_base::{List, Name, Text, Value};
-use own_model::{Attr, ColumnDef, CreateTable, Items, Kind, Part, Select, Statement};
+use own_model::{Attr, ColumnDef, CreateTable, Items, Kind, NAME_BYTES, Part, Select, Statement, TEXT_BYTES};
 use std::alloc::{AllocError, Global};
 
 /// The words that can't be names.
@@ -87,64 +87,64 @@ fn is_keyword(word: &str) -> bool
 }
 
 /// The keyword, in any case. What is behind it.
-fn word<'a>(alloc: Global, wanted: &str, text: &'a str) -> Result<&'a str, ReadFault>
+fn word<'a>(alloc: Global, wanted: &str, text: &'a str) -> Result<&'a str, LexemeFault>
     requires { map to_ascii_lowercase wanted.now ≡ wanted.now }
-    ensures { Gives (λ rest. (wanted.now, tokens rest.now)) result (grammar.word wanted.now (tokens text.now)) }
+    ensures { Gives (λ rest. (wanted.now, lexemes rest.now)) result (grammar.word wanted.now (lexemes text.now)) }
 {
-    let (token, rest) = next_token(alloc, text)?;
-    let Token::Word(found) = token else {
-        return Err(ReadFault::Syntax);
+    let (lexeme, rest) = next_lexeme(alloc, text)?;
+    let HeldLexeme::Word(found) = lexeme else {
+        return Err(LexemeFault::Syntax);
     };
     if !found.eq_ignore_ascii_case(wanted) {
-        return Err(ReadFault::Syntax);
+        return Err(LexemeFault::Syntax);
     }
     Ok(rest)
 }
 
 /// The mark, which is a byte of ASCII. What is behind it.
-fn mark(alloc: Global, wanted: u8, text: &str) -> Result<&str, ReadFault>
+fn mark(alloc: Global, wanted: u8, text: &str) -> Result<&str, LexemeFault>
     requires { wanted < 128 }
-    ensures { Gives (λ rest. (wanted, tokens rest.now)) result (grammar.mark wanted (tokens text.now)) }
+    ensures { Gives (λ rest. (wanted, lexemes rest.now)) result (grammar.mark wanted (lexemes text.now)) }
 {
-    let (token, rest) = next_token(alloc, text)?;
-    let Token::Mark(found) = token else {
-        return Err(ReadFault::Syntax);
+    let (lexeme, rest) = next_lexeme(alloc, text)?;
+    let HeldLexeme::Mark(found) = lexeme else {
+        return Err(LexemeFault::Syntax);
     };
     if found != wanted {
-        return Err(ReadFault::Syntax);
+        return Err(LexemeFault::Syntax);
     }
     Ok(rest)
 }
 
-/// A name, in lower case: a word of at most 64 bytes that is no keyword. What is behind it.
-fn name(alloc: Global, text: &str) -> Result<(Name, &str), ReadFault>
-    ensures { Gives (λ read. (read.0, tokens read.1.now)) result (grammar.name (tokens text.now)) }
+/// A name, in lower case: a word of at most `NAME_BYTES` bytes that is no keyword. What is behind it.
+fn name(alloc: Global, text: &str) -> Result<(Name, &str), LexemeFault>
+    ensures { Gives (λ read. (read.0, lexemes read.1.now)) result (grammar.name (lexemes text.now)) }
 {
-    let (token, rest) = next_token(alloc, text)?;
-    let Token::Word(found) = token else {
-        return Err(ReadFault::Syntax);
+    let (lexeme, rest) = next_lexeme(alloc, text)?;
+    let HeldLexeme::Word(found) = lexeme else {
+        return Err(LexemeFault::Syntax);
     };
-    if found.len() > 64 {
-        return Err(ReadFault::Syntax);
+    if found.len() > NAME_BYTES {
+        return Err(LexemeFault::Syntax);
     }
     let mut word = String::from_str(alloc, found)?;
     word.make_ascii_lowercase();
     if is_keyword(word.as_str()) {
-        return Err(ReadFault::Syntax);
+        return Err(LexemeFault::Syntax);
     }
     Ok((Name::from_str(alloc, word.as_str())?, rest))
 }
 
-/// A text of at most 4,096 bytes. What is behind it.
-fn text(alloc: Global, text: &str) -> Result<(Text, &str), ReadFault>
-    ensures { Gives (λ read. (read.0, tokens read.1.now)) result (grammar.text (tokens text.now)) }
+/// A text of at most `TEXT_BYTES` bytes. What is behind it.
+fn text(alloc: Global, text: &str) -> Result<(Text, &str), LexemeFault>
+    ensures { Gives (λ read. (read.0, lexemes read.1.now)) result (grammar.text (lexemes text.now)) }
 {
-    let (token, rest) = next_token(alloc, text)?;
-    let Token::Quoted(value) = token else {
-        return Err(ReadFault::Syntax);
+    let (lexeme, rest) = next_lexeme(alloc, text)?;
+    let HeldLexeme::Quoted(value) = lexeme else {
+        return Err(LexemeFault::Syntax);
     };
-    if value.len() > 4_096 {
-        return Err(ReadFault::Syntax);
+    if value.len() > TEXT_BYTES {
+        return Err(LexemeFault::Syntax);
     }
     Ok((Text::from_string(value), rest))
 }
@@ -162,35 +162,35 @@ fn negative(number: u64) -> i64
 }
 
 /// A number behind a `-`. What is behind it.
-fn negative_int(alloc: Global, text: &str) -> Result<(i64, &str), ReadFault>
-    ensures { Gives (λ read. (read.0, tokens read.1.now)) result (grammar.int (Mark 45 ∷ tokens text.now)) }
+fn negative_int(alloc: Global, text: &str) -> Result<(i64, &str), LexemeFault>
+    ensures { Gives (λ read. (read.0, lexemes read.1.now)) result (grammar.int (Mark 45 ∷ lexemes text.now)) }
 {
-    let (token, rest) = next_token(alloc, text)?;
-    let Token::Number(number) = token else {
-        return Err(ReadFault::Syntax);
+    let (lexeme, rest) = next_lexeme(alloc, text)?;
+    let HeldLexeme::Number(number) = lexeme else {
+        return Err(LexemeFault::Syntax);
     };
     if number > 1 << 63 {
-        return Err(ReadFault::Syntax);
+        return Err(LexemeFault::Syntax);
     }
     Ok((negative(number), rest))
 }
 
 /// A number of i64, with its sign. What is behind it.
-fn int(alloc: Global, text: &str) -> Result<(i64, &str), ReadFault>
-    ensures { Gives (λ read. (read.0, tokens read.1.now)) result (grammar.int (tokens text.now)) }
+fn int(alloc: Global, text: &str) -> Result<(i64, &str), LexemeFault>
+    ensures { Gives (λ read. (read.0, lexemes read.1.now)) result (grammar.int (lexemes text.now)) }
 {
-    let (token, rest) = next_token(alloc, text)?;
-    if let Token::Mark(sign) = token {
+    let (lexeme, rest) = next_lexeme(alloc, text)?;
+    if let HeldLexeme::Mark(sign) = lexeme {
         if sign != b'-' {
-            return Err(ReadFault::Syntax);
+            return Err(LexemeFault::Syntax);
         }
         return negative_int(alloc, rest);
     }
-    let Token::Number(number) = token else {
-        return Err(ReadFault::Syntax);
+    let HeldLexeme::Number(number) = lexeme else {
+        return Err(LexemeFault::Syntax);
     };
     if number >= 1 << 63 {
-        return Err(ReadFault::Syntax);
+        return Err(LexemeFault::Syntax);
     }
     Ok((number as i64, rest))
 }
@@ -200,7 +200,7 @@ fn create_of(alloc: Global, table: Name, key: Name, column: Name) -> Result<Stat
     ensures { IfOk result (λ made. made ≡ grammar.create_of table key column) }
 {
     let mut attrs = List::new(alloc);
-    attrs.push(Attr::Key).map_err(|refused| refused.0)?;
+    attrs.add(Attr::Key)?;
     let key = Part::Column(ColumnDef {
         name: key,
         kind: Kind::Int,
@@ -212,8 +212,8 @@ fn create_of(alloc: Global, table: Name, key: Name, column: Name) -> Result<Stat
         attrs: List::new(alloc),
     });
     let mut parts = List::new(alloc);
-    parts.push(key).map_err(|refused| refused.0)?;
-    parts.push(column).map_err(|refused| refused.0)?;
+    parts.add(key)?;
+    parts.add(column)?;
     Ok(Statement::CreateTable(CreateTable {
         name: table,
         subject: true,
@@ -222,9 +222,9 @@ fn create_of(alloc: Global, table: Name, key: Name, column: Name) -> Result<Stat
 }
 
 /// `CREATE DATA_SUBJECT TABLE name ( name INT PRIMARY KEY , name TEXT )`, where the columns' names differ.
-#[tactic(auto, unfolding(own_model::specs::Grammar::create))]
-fn create(alloc: Global, text: &str) -> Result<(Statement, &str), ReadFault>
-    ensures { Gives (λ read. (read.0, tokens read.1.now)) result (grammar.create (tokens text.now)) }
+#[tactic(auto, unfolding(script_model::specs::first::Grammar::create))]
+fn create(alloc: Global, text: &str) -> Result<(Statement, &str), LexemeFault>
+    ensures { Gives (λ read. (read.0, lexemes read.1.now)) result (grammar.create (lexemes text.now)) }
 {
     let rest = word(alloc, "create", text)?;
     let rest = word(alloc, "data_subject", rest)?;
@@ -240,7 +240,7 @@ fn create(alloc: Global, text: &str) -> Result<(Statement, &str), ReadFault>
     let rest = word(alloc, "text", rest)?;
     let rest = mark(alloc, b')', rest)?;
     if key == column {
-        return Err(ReadFault::Syntax);
+        return Err(LexemeFault::Syntax);
     }
     Ok((create_of(alloc, table, key, column)?, rest))
 }
@@ -250,10 +250,10 @@ fn insert_of(alloc: Global, table: Name, key: i64, column: Text) -> Result<State
     ensures { IfOk result (λ made. made ≡ statement.Insert table None ((value.Int key ∷ value.Text column ∷ []) ∷ [])) }
 {
     let mut row = List::new(alloc);
-    row.push(Value::Int(key)).map_err(|refused| refused.0)?;
-    row.push(Value::Text(column)).map_err(|refused| refused.0)?;
+    row.add(Value::Int(key))?;
+    row.add(Value::Text(column))?;
     let mut rows = List::new(alloc);
-    rows.push(row).map_err(|refused| refused.0)?;
+    rows.add(row)?;
     Ok(Statement::Insert {
         table,
         columns: None,
@@ -262,9 +262,9 @@ fn insert_of(alloc: Global, table: Name, key: i64, column: Text) -> Result<State
 }
 
 /// `INSERT INTO name VALUES ( int , text )`.
-#[tactic(auto, unfolding(own_model::specs::Grammar::insert))]
-fn insert(alloc: Global, text: &str) -> Result<(Statement, &str), ReadFault>
-    ensures { Gives (λ read. (read.0, tokens read.1.now)) result (grammar.insert (tokens text.now)) }
+#[tactic(auto, unfolding(script_model::specs::first::Grammar::insert))]
+fn insert(alloc: Global, text: &str) -> Result<(Statement, &str), LexemeFault>
+    ensures { Gives (λ read. (read.0, lexemes read.1.now)) result (grammar.insert (lexemes text.now)) }
 {
     let rest = word(alloc, "insert", text)?;
     let rest = word(alloc, "into", rest)?;
@@ -279,9 +279,9 @@ fn insert(alloc: Global, text: &str) -> Result<(Statement, &str), ReadFault>
 }
 
 /// `SELECT * FROM name`.
-#[tactic(auto, unfolding(own_model::specs::Grammar::select))]
-fn select(alloc: Global, text: &str) -> Result<(Statement, &str), ReadFault>
-    ensures { Gives (λ read. (read.0, tokens read.1.now)) result (grammar.select (tokens text.now)) }
+#[tactic(auto, unfolding(script_model::specs::first::Grammar::select))]
+fn select(alloc: Global, text: &str) -> Result<(Statement, &str), LexemeFault>
+    ensures { Gives (λ read. (read.0, lexemes read.1.now)) result (grammar.select (lexemes text.now)) }
 {
     let rest = word(alloc, "select", text)?;
     let rest = mark(alloc, b'*', rest)?;
@@ -299,26 +299,26 @@ fn select(alloc: Global, text: &str) -> Result<(Statement, &str), ReadFault>
 }
 
 /// What was read, where nothing is behind it.
-fn whole(read: Result<(Statement, &str), ReadFault>) -> Result<Statement, ReadFault>
+fn whole(read: Result<(Statement, &str), LexemeFault>) -> Result<Statement, LexemeFault>
     ensures whole { WholeOf read.entry result }
-    ensures spared { result ≡ Err ReadFault.Memory → read.entry ≡ Err ReadFault.Memory }
+    ensures spared { result ≡ Err LexemeFault.Memory → read.entry ≡ Err LexemeFault.Memory }
 {
     let (statement, rest) = read?;
     if !is_end(rest) {
-        return Err(ReadFault::Syntax);
+        return Err(LexemeFault::Syntax);
     }
     Ok(statement)
 }
 
 /// The one statement that a text is.
-#[tactic(auto, unfolding(own_model::specs::Grammar::statement_of))]
-pub fn statement_of(alloc: Global, text: &str) -> Result<Statement, ReadFault>
-    ensures { Gives (λ statement. statement) result (grammar.statement_of (tokens text.now)) }
+#[tactic(auto, unfolding(script_model::specs::first::Grammar::statement_of))]
+pub fn statement_of(alloc: Global, text: &str) -> Result<Statement, LexemeFault>
+    ensures { Gives (λ statement. statement) result (grammar.statement_of (lexemes text.now)) }
 {
     let read = whole(create(alloc, text));
-    if let Err(ReadFault::Syntax) = read {
+    if let Err(LexemeFault::Syntax) = read {
         let read = whole(insert(alloc, text));
-        if let Err(ReadFault::Syntax) = read {
+        if let Err(LexemeFault::Syntax) = read {
             return whole(select(alloc, text));
         }
         return read;

@@ -2,7 +2,7 @@ ghost use Rattle.std.specs.Prelude.{◌≡◌, ◌<◌, ◌++◌, ◌∷◌, IfO
 ghost use Rattle.std.specs.Fmt.{decimal};
 ghost use Rattle.std.specs.List.{flat_map};
 ghost use Rattle.std.specs.Option.{option_map};
-ghost use Rattle.own_model.specs.Printed.{hex_digit as hex_digit_of, joined_values, lines_below, place_text, refusal_text, reply_lines, reply_text, row_line, shown_byte, shown_key, shown_text, shown_value};
+ghost use Rattle.script_model.specs.Printed.{hex_digit as hex_digit_of, joined_values, lines_below, place_text, refusal_text, reply_lines, reply_text, row_line, shown_byte, shown_key, shown_text, shown_value};
 
 use own_base::{Key, Place, Row, SessionNo, Value};
 use own_model::{Refusal, Reply};
@@ -48,7 +48,7 @@ fn push_number(text: &mut Vec<u8>, alloc: Global, number: u64) -> Result<(), All
 }
 
 /// What the first line says.
-#[tactic(auto, unfolding(own_model::specs::Printed::reply_text))]
+#[tactic(auto, unfolding(script_model::specs::Printed::reply_text))]
 fn push_reply(text: &mut Vec<u8>, alloc: Global, reply: &Reply) -> Result<(), AllocError>
     ensures { OnOk result (text.new.items ≡ text.old.items ++ reply_text reply.now) }
 {
@@ -68,7 +68,7 @@ fn push_reply(text: &mut Vec<u8>, alloc: Global, reply: &Reply) -> Result<(), Al
     }
 }
 
-#[tactic(auto, unfolding(own_model::specs::Printed::refusal_text))]
+#[tactic(auto, unfolding(script_model::specs::Printed::refusal_text))]
 fn push_refusal(text: &mut Vec<u8>, alloc: Global, refusal: &Refusal) -> Result<(), AllocError>
     ensures { OnOk result (text.new.items ≡ text.old.items ++ refusal_text refusal.now) }
 {
@@ -96,7 +96,7 @@ fn push_refusal(text: &mut Vec<u8>, alloc: Global, refusal: &Refusal) -> Result<
 }
 
 /// The lines below the first.
-#[tactic(auto, unfolding(own_model::specs::Printed::lines_below))]
+#[tactic(auto, unfolding(script_model::specs::Printed::lines_below))]
 fn push_lines_below(text: &mut Vec<u8>, alloc: Global, reply: &Reply) -> Result<(), AllocError>
     ensures { OnOk result (text.new.items ≡ text.old.items ++ lines_below reply.now) }
 {
@@ -115,7 +115,7 @@ fn push_rows(text: &mut Vec<u8>, alloc: Global, rows: &[Row]) -> Result<(), Allo
     Ok(())
 }
 
-#[tactic(auto, unfolding(own_model::specs::Printed::row_line))]
+#[tactic(auto, unfolding(script_model::specs::Printed::row_line))]
 fn push_row(text: &mut Vec<u8>, alloc: Global, row: &[Value]) -> Result<(), AllocError>
     ensures { OnOk result (text.new.items ≡ text.old.items ++ row_line row.now) }
 {
@@ -124,7 +124,7 @@ fn push_row(text: &mut Vec<u8>, alloc: Global, row: &[Value]) -> Result<(), Allo
     text.extend_from_slice(b"\n")
 }
 
-#[tactic(auto, unfolding(own_model::specs::Printed::joined_values))]
+#[tactic(auto, unfolding(script_model::specs::Printed::joined_values))]
 fn push_joined(text: &mut Vec<u8>, alloc: Global, row: &[Value]) -> Result<(), AllocError>
     ensures { OnOk result (text.new.items ≡ text.old.items ++ joined_values row.now) }
 {
@@ -148,7 +148,7 @@ fn push_barred(text: &mut Vec<u8>, alloc: Global, values: &[Value]) -> Result<()
     Ok(())
 }
 
-#[tactic(auto, unfolding(own_model::specs::Printed::shown_value))]
+#[tactic(auto, unfolding(script_model::specs::Printed::shown_value))]
 fn push_value(text: &mut Vec<u8>, alloc: Global, value: &Value) -> Result<(), AllocError>
     ensures { OnOk result (text.new.items ≡ text.old.items ++ shown_value value.now) }
 {
@@ -166,7 +166,7 @@ fn push_value(text: &mut Vec<u8>, alloc: Global, value: &Value) -> Result<(), Al
     }
 }
 
-#[tactic(auto, unfolding(own_model::specs::Printed::shown_key))]
+#[tactic(auto, unfolding(script_model::specs::Printed::shown_key))]
 fn push_key(text: &mut Vec<u8>, alloc: Global, key: &Key) -> Result<(), AllocError>
     ensures { OnOk result (text.new.items ≡ text.old.items ++ shown_key key.now) }
 {
@@ -180,7 +180,7 @@ fn push_key(text: &mut Vec<u8>, alloc: Global, key: &Key) -> Result<(), AllocErr
 }
 
 /// A text in quotes.
-#[tactic(auto, unfolding(own_model::specs::Printed::shown_text))]
+#[tactic(auto, unfolding(script_model::specs::Printed::shown_text))]
 fn push_text(text: &mut Vec<u8>, shown: &[u8]) -> Result<(), AllocError>
     ensures { OnOk result (text.new.items ≡ text.old.items ++ shown_text shown.now) }
 {

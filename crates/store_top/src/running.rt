@@ -1,10 +1,10 @@
-ghost use Rattle.std.specs.Prelude.{◌≡◌, ◌≢◌, ◌≤◌, ◌↔◌, ◌⊎◌, [], map, Some, None, false, string_bytes, vec_len};
+ghost use Rattle.std.specs.Prelude.{◌≡◌, ◌≢◌, ◌+◌, ◌≤◌, ◌↔◌, ◌⊎◌, [], map, Some, None, false, string_bytes, vec_len};
 ghost use Rattle.std.specs.Vec.{vec_capacity};
 ghost use Rattle.outer_world.specs.FaultCount.{CountRose};
 ghost use Rattle.own_model.specs.declared.script.InputFault.{InputFault as InputFaultSeen};
 ghost use Rattle.own_model.specs.Db.{empty};
-ghost use Rattle.own_model.specs.Serial.{Serial};
-ghost use Rattle.store_top.specs.Engine.{Stands};
+ghost use Rattle.history_model.specs.Serial.{Serial};
+ghost use Rattle.store_top.specs.Engine.{HoldsFlat};
 ghost use Rattle.store_top.specs.Status.{status_of};
 ghost use Rattle.store_top.specs.Steps.{IsNumbered, ToldBefore, ToldInPart};
 ghost use Rattle.store_top.specs.Top.{is_step, IsBeforeCalls, IsWithoutDisk, ReadsAtMost, RefusesInput, RunsInPart, RunsWhole, ServesBytes, ServesCalls};
@@ -15,14 +15,11 @@ use crate::served::{Served, TopFault, status};
 use crate::steps::{RunFault, serve_calls};
 use outer_world::{Disk, Gate, ReadAllFault, Sink, Source, read_all};
 use own_base::List;
-use own_model::{Entry, InputFault, ScriptCall};
+use own_model::{Entry, INPUT_BYTES, InputFault, ScriptCall};
 use std::alloc::{AllocError, Global};
 use std::mem::drop;
 use std::sync::Wait;
 use std::thread::Threads;
-
-/// One byte more than an input may have.
-const MOST_BYTES: usize = 67_108_865;
 
 /// How a run ended, without its disk.
 #[derive(Debug)]
@@ -75,7 +72,7 @@ fn serve_engine<W: Sink>(
     calls: Vec<ScriptCall>,
     sink: &mut W,
 ) -> Ended
-    requires stands { Stands engine }
+    requires holds { HoldsFlat engine }
     requires fresh { engine.history.items ≡ [] }
     requires room { vec_len calls ≤ vec_capacity engine.history }
     requires numbered { IsNumbered 1 calls.items }
@@ -119,24 +116,87 @@ fn serve_source<R: Source, W: Sink>(alloc: Global, source: &mut R, sink: &mut W)
     ensures memory { result.fault ≡ Some TopFault.Memory
         → ((sink.new ≡ sink.old) × (result.history ≡ []))
         ⊎ RunsInPart (R.remaining source.old) (R.remaining source.new) result.history (ToldBefore (W.written sink.old) (W.written sink.new)) }
+    ensures short { result.fault ≡ Some TopFault.Memory → ReadsAtMost (R.remaining source.old) (R.remaining source.new) INPUT_BYTES }
     ensures silent { IsBeforeCalls result.fault → (sink.new ≡ sink.old) × (result.history ≡ []) }
     ensures possible { IsWithoutDisk result.fault }
     ensures lawful { result.fault ≢ Some TopFault.Usage }
-    ensures at_most { ReadsAtMost (R.remaining source.old) (R.remaining source.new) 67108865 }
+    ensures at_most { ReadsAtMost (R.remaining source.old) (R.remaining source.new) (INPUT_BYTES + 1) }
     ensures serial { Serial empty result.history }
 {
-    match read_all(alloc, source, MOST_BYTES) {
+    match read_all(alloc, source, INPUT_BYTES + 1) {
         Ok(bytes) => serve_bytes(alloc, &bytes, sink),
         Err(ReadAllFault::Failed) => without_calls(alloc, TopFault::Read),
         Err(ReadAllFault::Memory) => without_calls(alloc, TopFault::Memory),
     }
 }
 
-/// Reads an input of calls from the source, serves them, and writes their replies to the sink.
+/// The end of a run, with its disk.
+fn with_disk<D>(ended: Ended, disk: D) -> Served<D>
+    ensures status { result.status ≡ status_of ended.fault }
+    ensures fault { result.fault ≡ ended.fault }
+    ensures history { result.history ≡ ended.history }
+    ensures disk { result.disk ≡ disk }
+{
+    let Ended { fault, history } = ended;
+    Served {
+        status: status(&fault),
+        fault,
+        history,
+        disk,
+    }
+}
+
+/// What mode `step` does: it reads an input of calls from the source, makes them one after another over no table, and
+/// writes each call's reply to the sink before the next call. It asks no gate and waits for nothing.
 ///
-/// The words are those behind the store's name: `step` alone. The gate is asked nothing and the disk is given back as
-/// it was, until the modes and the journal that use them come. A source that tells nothing of its bytes, or a sink,
-/// has no clause on them.
+/// The disk is given back as it was, until the journal comes. A source that tells nothing of its bytes, or a sink, has
+/// no clause on them.
+pub fn step<R: Source, W: Sink, D>(
+    alloc: Global,
+    source: &mut R,
+    sink: &mut W,
+    disk: D,
+) -> Served<D>
+    ensures status { result.status ≡ status_of result.fault }
+    ensures disk { result.disk ≡ disk }
+
+    // A read fault comes only where the source's count rose, and a write fault only where the sink's did.
+    ensures read_fault { result.fault ≡ Some TopFault.Read → CountRose (R.faults source.old) (R.faults source.new) }
+    ensures write_fault { result.fault ≡ Some TopFault.Write → CountRose (W.faults sink.old) (W.faults sink.new) }
+
+    // An input fault is that of the bytes that were read; without a fault their calls were all made and told, but for
+    // those that memory may keep from being made.
+    ensures input_fault { (fault : InputFaultSeen) → result.fault ≡ Some (TopFault.Input fault)
+        → RefusesInput (R.remaining source.old) (R.remaining source.new) fault }
+    ensures whole { result.fault ≡ None
+        → RunsWhole (R.remaining source.old) (R.remaining source.new) (W.written sink.old) (W.written sink.new) result.history }
+
+    // Where writing failed, or memory was refused, the run stopped at a call: those before it were made and told, none
+    // after it was made. A write fault leaves a part of that call's text written, and out of memory nothing of it. Out of
+    // memory comes only where the input isn't too long.
+    ensures in_part { result.fault ≡ Some TopFault.Write
+        → RunsInPart (R.remaining source.old) (R.remaining source.new) result.history (ToldInPart (W.written sink.old) (W.written sink.new)) }
+    ensures memory { result.fault ≡ Some TopFault.Memory
+        → ((sink.new ≡ sink.old) × (result.history ≡ []))
+        ⊎ RunsInPart (R.remaining source.old) (R.remaining source.new) result.history (ToldBefore (W.written sink.old) (W.written sink.new)) }
+    ensures short { result.fault ≡ Some TopFault.Memory → ReadsAtMost (R.remaining source.old) (R.remaining source.new) INPUT_BYTES }
+
+    // Any other fault comes before any call, and nothing is written; none tells of a disk.
+    ensures silent { IsBeforeCalls result.fault → (sink.new ≡ sink.old) × (result.history ≡ []) }
+    ensures possible { IsWithoutDisk result.fault }
+    ensures lawful { result.fault ≢ Some TopFault.Usage }
+    ensures at_most { ReadsAtMost (R.remaining source.old) (R.remaining source.new) (INPUT_BYTES + 1) }
+
+    // The history has one order, and leaves no bad state at any of its places.
+    ensures serial { Serial empty result.history }
+{
+    let ended = serve_source(alloc, source, sink);
+    with_disk(ended, disk)
+}
+
+/// Runs the mode that the words after the store's name are: `step` alone, which does what the function `step` does.
+///
+/// The gate is asked nothing, until the mode that uses it comes.
 pub fn run<Rt: Threads + Wait + Sync, R: Source, W: Sink, D: Disk + Send, G: Gate + Sync>(
     _rt: &Rt,
     alloc: Global,
@@ -157,37 +217,34 @@ pub fn run<Rt: Threads + Wait + Sync, R: Source, W: Sink, D: Disk + Send, G: Gat
     ensures read_fault { result.fault ≡ Some TopFault.Read → CountRose (R.faults source.old) (R.faults source.new) }
     ensures write_fault { result.fault ≡ Some TopFault.Write → CountRose (W.faults sink.old) (W.faults sink.new) }
 
-    // An input fault is that of the bytes that were read; without a fault their calls were all made and told.
+    // An input fault is that of the bytes that were read; without a fault their calls were all made and told, but for
+    // those that memory may keep from being made.
     ensures input_fault { (fault : InputFaultSeen) → result.fault ≡ Some (TopFault.Input fault)
         → RefusesInput (R.remaining source.old) (R.remaining source.new) fault }
     ensures whole { result.fault ≡ None
         → RunsWhole (R.remaining source.old) (R.remaining source.new) (W.written sink.old) (W.written sink.new) result.history }
 
     // Where writing failed, or memory was refused, the run stopped at a call: those before it were made and told, none
-    // behind it was made. A write fault leaves a part of that call's text written, and want of memory nothing of it.
+    // after it was made. A write fault leaves a part of that call's text written, and out of memory nothing of it. Out of
+    // memory comes only where the input isn't too long.
     ensures in_part { result.fault ≡ Some TopFault.Write
         → RunsInPart (R.remaining source.old) (R.remaining source.new) result.history (ToldInPart (W.written sink.old) (W.written sink.new)) }
     ensures memory { result.fault ≡ Some TopFault.Memory
         → ((sink.new ≡ sink.old) × (result.history ≡ []))
         ⊎ RunsInPart (R.remaining source.old) (R.remaining source.new) result.history (ToldBefore (W.written sink.old) (W.written sink.new)) }
+    ensures short { result.fault ≡ Some TopFault.Memory → ReadsAtMost (R.remaining source.old) (R.remaining source.new) INPUT_BYTES }
 
     // Any other fault comes before any call, and nothing is written; none tells of a disk.
     ensures silent { IsBeforeCalls result.fault → (sink.new ≡ sink.old) × (result.history ≡ []) }
     ensures possible { IsWithoutDisk result.fault }
-    ensures at_most { ReadsAtMost (R.remaining source.old) (R.remaining source.new) 67108865 }
+    ensures at_most { ReadsAtMost (R.remaining source.old) (R.remaining source.new) (INPUT_BYTES + 1) }
 
     // The history has one order, and leaves no bad state at any of its places.
     ensures serial { Serial empty result.history }
 {
-    let Ended { fault, history } = if is_step(words) {
-        serve_source(alloc, source, sink)
-    } else {
-        without_calls(alloc, TopFault::Usage)
-    };
-    Served {
-        status: status(&fault),
-        fault,
-        history,
-        disk,
+    if is_step(words) {
+        return step(alloc, source, sink, disk);
     }
+    let ended = without_calls(alloc, TopFault::Usage);
+    with_disk(ended, disk)
 }

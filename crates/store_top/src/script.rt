@@ -1,37 +1,28 @@
 ghost use Rattle.std.specs.Prelude.{◌≡◌, ◌+◌, ◌∷◌, [], ◌++◌, ◌≤◌, ◌<◌, Ok, IfOk, IfErr, OnOk, OnErr, length, vec_len, vec_capacity};
 ghost use Rattle.own_model.specs.declared.request.Request.TheVariants as request;
-ghost use Rattle.own_model.specs.Script.{script, request_of as request_in, requests_of, numbered, call_texts};
+ghost use Rattle.script_model.specs.first.Script.{script, request_of as request_in, requests_of, numbered, call_texts};
 ghost use Rattle.store_top.specs.CallText.{shown};
 ghost use Rattle.store_top.specs.Input.{IsFaultOf, IsManyOf, numbered_call};
 
 use crate::call_text::{CallText, next_call};
 use crate::grammar::statement_of;
-use crate::token::ReadFault;
+use crate::lexeme::LexemeFault;
 use own_base::{List, SessionNo};
-use own_model::{InputFault, Request, Script, ScriptCall};
+use own_model::{INPUT_BYTES, INPUT_CALLS, InputFault, Request, STATEMENT_BYTES, Script, ScriptCall};
 use std::alloc::{AllocError, Global};
 
-/// The most bytes of an input.
-const INPUT_BYTES: usize = 67_108_864;
-
-/// The most bytes of a call's text.
-const CALL_BYTES: usize = 65_536;
-
-/// The most calls of an input, End not counted.
-const CALLS: u32 = 200_000;
-
 /// What a call's text asks for.
-#[tactic(auto, unfolding(own_model::specs::Script::request_of))]
+#[tactic(auto, unfolding(script_model::specs::first::Script::request_of))]
 fn request_of(alloc: Global, call: CallText) -> Result<Request, AllocError>
     ensures { IfOk result (λ request. request ≡ request_in (shown call.entry)) }
 {
-    if !call.closed || call.text.len() > CALL_BYTES {
+    if !call.closed || call.text.len() > STATEMENT_BYTES {
         return Ok(Request::Syntax(0));
     }
     match statement_of(alloc, call.text) {
         Ok(statement) => Ok(Request::Run(statement)),
-        Err(ReadFault::Syntax) => Ok(Request::Syntax(0)),
-        Err(ReadFault::Memory) => Err(AllocError),
+        Err(LexemeFault::Syntax) => Ok(Request::Syntax(0)),
+        Err(LexemeFault::Memory) => Err(AllocError),
     }
 }
 
@@ -74,14 +65,14 @@ fn add_end(calls: &mut Vec<ScriptCall>, number: u32) -> Result<(), AllocError>
 
 /// The calls of a text, and End behind them where there is one.
 fn calls_of(alloc: Global, text: &str) -> Result<Vec<ScriptCall>, InputFault>
-    ensures ok { IfOk result (λ calls. (length (call_texts text.now) ≤ 200000) × (calls.items ≡ numbered 1 (requests_of (call_texts text.now)))) }
+    ensures ok { IfOk result (λ calls. (length (call_texts text.now) ≤ INPUT_CALLS) × (calls.items ≡ numbered 1 (requests_of (call_texts text.now)))) }
     ensures err { IfErr result (λ fault. IsManyOf (length (call_texts text.now)) fault) }
 {
     let mut calls = Vec::new(alloc);
     let mut number = 0;
     let mut rest = Some(text);
     while let Some((call, behind)) = next_call(rest) {
-        if number == CALLS {
+        if number == INPUT_CALLS {
             return Err(InputFault::TooManyCalls(0));
         }
         number += 1;

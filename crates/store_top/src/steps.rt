@@ -1,8 +1,8 @@
 ghost use Rattle.std.specs.Prelude.{◌≡◌, ◌<◌, ◌≤◌, [], vec_len, OnOk, Err};
 ghost use Rattle.std.specs.Vec.{vec_capacity};
 ghost use Rattle.outer_world.specs.FaultCount.{CountRose};
-ghost use Rattle.store_top.specs.Engine.{Stands};
-ghost use Rattle.store_top.specs.Steps.{IsNumbered, RunsTo, Serves, ServesTo, StopsAtCall, ToldBefore, ToldInPart};
+ghost use Rattle.store_top.specs.Engine.{HoldsFlat};
+ghost use Rattle.store_top.specs.Steps.{IsNumbered, MakesCall, MakesCallTo, RunsTo, StopsAtCall, ToldBefore, ToldInPart};
 
 use crate::engine::Engine;
 use crate::print::print_reply;
@@ -26,10 +26,10 @@ fn lines_of_call(
     alloc: Global,
     call: ScriptCall,
 ) -> Result<Vec<u8>, AllocError>
-    requires stands { Stands engine.old }
+    requires holds { HoldsFlat engine.old }
     requires room { vec_len engine.old.history < vec_capacity engine.old.history }
-    ensures stands { Stands engine.new }
-    ensures serves { Serves (λ text. text.items) call engine.old.history.items engine.new.history.items result }
+    ensures holds { HoldsFlat engine.new }
+    ensures makes { MakesCall (λ text. text.items) call engine.old.history.items engine.new.history.items result }
     ensures room { vec_capacity engine.old.history ≤ vec_capacity engine.new.history }
 {
     let session = call.session;
@@ -62,10 +62,10 @@ fn serve_call<W: Sink>(
     call: ScriptCall,
     sink: &mut W,
 ) -> Result<(), RunFault>
-    requires stands { Stands engine.old }
+    requires holds { HoldsFlat engine.old }
     requires room { vec_len engine.old.history < vec_capacity engine.old.history }
-    ensures stands { Stands engine.new }
-    ensures serves { ServesTo call engine.old.history.items engine.new.history.items (W.written sink.old) (W.written sink.new) result }
+    ensures holds { HoldsFlat engine.new }
+    ensures makes { MakesCallTo call engine.old.history.items engine.new.history.items (W.written sink.old) (W.written sink.new) result }
     ensures room { vec_capacity engine.old.history ≤ vec_capacity engine.new.history }
     ensures fault { result ≡ Err RunFault.Write → CountRose (W.faults sink.old) (W.faults sink.new) }
     ensures counted { W.faults sink.old ≤ W.faults sink.new }
@@ -83,7 +83,7 @@ pub(crate) fn serve_calls<W: Sink>(
     calls: Vec<ScriptCall>,
     sink: &mut W,
 ) -> Result<(), RunFault>
-    requires stands { Stands engine.old }
+    requires holds { HoldsFlat engine.old }
     requires fresh { engine.old.history.items ≡ [] }
     requires room { vec_len calls ≤ vec_capacity engine.old.history }
     requires numbered { IsNumbered 1 calls.items }

@@ -1,6 +1,6 @@
 use Rattle.std.proofs.Common.{◌≡◌, ◌<◌, ◌∙◌, ap, sym, length, arith}
 use Rattle.std.proofs.lemmas.Bool.Decides.{nat_tests}
-use Rattle.own_model.specs.Script.{call_texts}
+use Rattle.script_model.specs.first.Script.{call_texts}
 use Rattle.store_top.specs.Reading.{call_texts_of}
 use Rattle.store_top.proofs.CallTexts.{call_texts_none, call_texts_some}
 use Rattle.store_top.proofs.call_text.next_call.Goals as goal

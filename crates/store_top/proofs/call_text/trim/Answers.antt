@@ -1,7 +1,7 @@
 use Rattle.std.proofs.Common.{◌∙◌, ap, length, reverse, List, ℕ, subst}
 use Rattle.std.specs.List.{take_while}
 use Rattle.std.specs.Str.{IsUtf8}
-use Rattle.own_model.specs.Token.{is_white}
+use Rattle.script_model.specs.first.Lexeme.{is_white}
 use Rattle.store_top.proofs.Cutting.{white_boundary, white_end_boundary, trim_is}
 use Rattle.store_top.proofs.call_text.trim.Goals as goal
 

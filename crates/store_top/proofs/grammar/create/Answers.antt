@@ -1,6 +1,6 @@
 use Rattle.std.proofs.Common.{◌≡◌, ◌∙◌, refl, sym, false}
 use Rattle.std.specs.Str.{bytes_eq}
-use Rattle.own_model.specs.Grammar.{create}
+use Rattle.script_model.specs.first.Grammar.{create}
 use Rattle.store_top.proofs.grammar.create.Goals as goal
 
 pub returns : goal.returns

@@ -1,4 +1,4 @@
-use Rattle.own_model.specs.Grammar.{is_keyword}
+use Rattle.script_model.specs.first.Grammar.{is_keyword}
 use Rattle.store_top.proofs.grammar.is_keyword.Goals as goal
 
 pub returns : goal.returns

@@ -1,4 +1,4 @@
-use Rattle.own_model.specs.Printed.{reply_lines}
+use Rattle.script_model.specs.Printed.{reply_lines}
 use Rattle.store_top.proofs.print.print_reply.Goals as goal
 
 -- each piece goes behind those before it

@@ -1,6 +1,6 @@
 use Rattle.std.proofs.Common.{◌≡◌, ◌++◌, ◌∷◌, take}
 use Rattle.std.specs.List.{flat_map}
-use Rattle.own_model.specs.Printed.{shown_value}
+use Rattle.script_model.specs.Printed.{shown_value}
 use Rattle.store_top.proofs.print.push_barred.Given as goal
 
 -- the values so far are printed

@@ -1,5 +1,5 @@
 use Rattle.std.proofs.Common.{append_assoc}
-use Rattle.own_model.specs.Printed.{refusal_text}
+use Rattle.script_model.specs.Printed.{refusal_text}
 use Rattle.store_top.proofs.print.push_refusal.Goals as goal
 
 -- each piece goes behind those before it
@@ -11,7 +11,7 @@ returns-in_ok-push_number-in-Syntax c =
 pub returns-in_ok-extend_from_slice-in-NoTable-2 : goal.returns-in_ok-extend_from_slice-in-NoTable-2
 unfolding refusal_text
 returns-in_ok-extend_from_slice-in-NoTable-2 c =
-    rw (c.in-NoTable.is, c.in_ok-extend_from_slice-in-NoTable-2.ensures.items, c.bytes.ensures, c.in_ok-extend_from_slice-in-NoTable.ensures.items, append_assoc)
+    rw (c.in-NoTable.is, c.in_ok-extend_from_slice-in-NoTable-2.ensures.items, c.bytes.ensures.same, c.in_ok-extend_from_slice-in-NoTable.ensures.items, append_assoc)
 
 pub returns-in_ok-push_key-in-Duplicate : goal.returns-in_ok-push_key-in-Duplicate
 unfolding refusal_text
@@ -21,7 +21,7 @@ returns-in_ok-push_key-in-Duplicate c =
       c.in_ok-push_key-in-Duplicate.ensures,
       c.in_ok-extend_from_slice-in-Duplicate-3.ensures.items,
       c.in_ok-extend_from_slice-in-Duplicate-2.ensures.items,
-      c.bytes-in-Duplicate.ensures,
+      c.bytes-in-Duplicate.ensures.same,
       c.in_ok-extend_from_slice-in-Duplicate.ensures.items,
     )
     (simp append_assoc)

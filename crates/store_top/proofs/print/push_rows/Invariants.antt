@@ -1,6 +1,6 @@
 use Rattle.std.proofs.Common.{◌≡◌, ◌++◌, take}
 use Rattle.std.specs.List.{flat_map}
-use Rattle.own_model.specs.Printed.{row_line}
+use Rattle.script_model.specs.Printed.{row_line}
 use Rattle.store_top.proofs.print.push_rows.Given as goal
 
 -- the rows so far are printed

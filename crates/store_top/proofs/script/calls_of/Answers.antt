@@ -1,5 +1,5 @@
 use Rattle.std.proofs.Common.{◌≡◌, length, map, arith, ap, ◌∙◌}
-use Rattle.own_model.specs.Script.{request_of, numbered, call_texts}
+use Rattle.script_model.specs.first.Script.{request_of, numbered, call_texts}
 use Rattle.store_top.specs.CallText.{shown}
 use Rattle.store_top.specs.Reading.{call_texts_of}
 use Rattle.store_top.proofs.Numbering.{numbered_step, numbered_whole, ends_without, ends_with}

@@ -1,5 +1,6 @@
 use Rattle.std.proofs.Common.{◌≡◌, ◌+◌, ◌≤◌, ◌++◌, length, map}
-use Rattle.own_model.specs.Script.{request_of, numbered, call_texts}
+use Rattle.own_model.specs.declared.limit.TheConstants.{INPUT_CALLS}
+use Rattle.script_model.specs.first.Script.{request_of, numbered, call_texts}
 use Rattle.store_top.specs.Reading.{call_texts_of}
 use Rattle.store_top.proofs.script.calls_of.Given as goal
 
@@ -8,7 +9,7 @@ abbrev pub invariant-loop-call : goal.invariant-loop-call
 invariant-loop-call l = record {
   told : numbered 1 (map request_of (call_texts l.text)) ≡ l.calls.items ++ numbered (l.number + 1) (map request_of (call_texts_of l.rest));
   counted : length (call_texts l.text) ≡ l.number + length (call_texts_of l.rest);
-  few : l.number ≤ 200000;
+  few : l.number ≤ INPUT_CALLS;
 }
 
 -- the calls left

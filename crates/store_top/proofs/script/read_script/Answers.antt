@@ -1,6 +1,6 @@
 use Rattle.std.proofs.Common.{Ok, arith, ap, ◌∙◌, sym}
 use Rattle.std.proofs.lemmas.Result.{err_from_is_err_and}
-use Rattle.store_top.proofs.Scripts.{script_too_long, script_not_text, script_calls, many_faults}
+use Rattle.store_top.proofs.ScriptLemmas.{script_too_long, script_not_text, script_calls, many_faults}
 use Rattle.store_top.proofs.script.read_script.Goals as goal
 
 pub returns-then-bytes-gt-INPUT_BYTES-clause-err : goal.returns-then-bytes-gt-INPUT_BYTES-clause-err

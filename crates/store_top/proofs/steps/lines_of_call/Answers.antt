@@ -2,8 +2,8 @@ use Rattle.std.proofs.Common.{◌≡◌, [], ◌∷◌, ◌++◌, ap, sym, ◌�
 use Rattle.std.proofs.lemmas.Result.{IfOk-weaker}
 use Rattle.own_model.specs.declared.history.Entry.{Entry}
 use Rattle.own_model.specs.Db.{empty}
-use Rattle.own_model.specs.Made.{Want, Spared, Unshown, Unmade, added}
-use Rattle.own_model.proofs.Printing.{told-last}
+use Rattle.history_model.specs.Made.{Want, Spared, Unshown, Unmade, added}
+use Rattle.script_model.proofs.TranscriptLemmas.{told-last}
 use Rattle.store_top.proofs.steps.lines_of_call.Goals as goal
 
 -- a call whose entry is added is made
@@ -13,8 +13,8 @@ not_unmade entry Spared none is = cc
 not_unmade entry Unshown none is = cc
 
 -- what is told at the call's place is the text of the call
-pub returns-in-Ok-clause-serves : goal.returns-in-Ok-clause-serves
-returns-in-Ok-clause-serves c =
+pub returns-in-Ok-clause-makes : goal.returns-in-Ok-clause-makes
+returns-in-Ok-clause-makes c =
     let history = c.args.engine.now.history.items in
     let told = c.in-Ok.ensures.told in
     let last = told-last empty history c.args.call c.in-Ok.answered.reply (rw c.in-Ok.ensures.made at told.1) in

@@ -5,7 +5,7 @@ use Rattle.store_top.proofs.steps.serve_calls.Goals as goal
 
 pub loop-call-init : goal.loop-call-init
 loop-call-init g c = record {
-  stands = c.requires.stands;
+  holds = c.requires.holds;
   capacity = omega arith;
   counted = omega arith;
   serving = rw (c.into_iter-call-iterator.ensures.into_iter_gives.0, c.requires.fresh) (serving-none c.args.calls.items (g.W.Sink.written c.args.sink.now) c.requires.numbered);
@@ -19,11 +19,11 @@ loop-call-preserved g c =
     let capacity = c.loop-call.invariant.capacity in
     let earlier = c.loop-call.invariant.counted in
     record {
-      stands = c.in_ok-serve_call.ensures.stands;
+      holds = c.in_ok-serve_call.ensures.holds;
       capacity = omega arith;
       counted = omega arith;
       serving = serving-more c.args.calls.items c.loop-call.yielded c.in-Some.call _ c.loop-call.engine.history.items c.serve_call.new.engine.history.items
-          (g.W.Sink.written c.args.sink.now) (g.W.Sink.written c.loop-call.sink) (g.W.Sink.written c.serve_call.new.sink) before c.in_ok-serve_call.field-0 c.in_ok-serve_call.ensures.serves;
+          (g.W.Sink.written c.args.sink.now) (g.W.Sink.written c.loop-call.sink) (g.W.Sink.written c.serve_call.new.sink) before c.in_ok-serve_call.field-0 c.in_ok-serve_call.ensures.makes;
     }
 
 pub returns-in_err-serve_call-clause-broken : goal.returns-in_err-serve_call-clause-broken
@@ -31,7 +31,7 @@ returns-in_err-serve_call-clause-broken g c is =
     let before = rw c.in-Some.ensures.steps.0 at c.loop-call.invariant.serving in
     let failed = err_from_is_err_and c.from_residual.result c.from_residual.ensures.1 in
     serving-breaks c.args.calls.items c.loop-call.yielded c.in-Some.call _ c.loop-call.engine.history.items c.serve_call.new.engine.history.items
-    (g.W.Sink.written c.args.sink.now) (g.W.Sink.written c.loop-call.sink) (g.W.Sink.written c.serve_call.new.sink) before _ c.in_err-serve_call.ensures.serves
+    (g.W.Sink.written c.args.sink.now) (g.W.Sink.written c.loop-call.sink) (g.W.Sink.written c.serve_call.new.sink) before _ c.in_err-serve_call.ensures.makes
     (cc (is, failed.1, failed.2))
 
 pub returns-in_err-serve_call-clause-refused : goal.returns-in_err-serve_call-clause-refused
@@ -39,5 +39,5 @@ returns-in_err-serve_call-clause-refused g c is =
     let before = rw c.in-Some.ensures.steps.0 at c.loop-call.invariant.serving in
     let failed = err_from_is_err_and c.from_residual.result c.from_residual.ensures.1 in
     serving-refused c.args.calls.items c.loop-call.yielded c.in-Some.call _ c.loop-call.engine.history.items c.serve_call.new.engine.history.items
-    (g.W.Sink.written c.args.sink.now) (g.W.Sink.written c.loop-call.sink) (g.W.Sink.written c.serve_call.new.sink) before _ c.in_err-serve_call.ensures.serves
+    (g.W.Sink.written c.args.sink.now) (g.W.Sink.written c.loop-call.sink) (g.W.Sink.written c.serve_call.new.sink) before _ c.in_err-serve_call.ensures.makes
     (cc (is, failed.1, failed.2))

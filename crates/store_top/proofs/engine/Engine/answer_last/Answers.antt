@@ -1,16 +1,16 @@
 use Rattle.std.proofs.Common.{◌≡◌, ◌+◌, ◌-◌, length, take, vec_len, ap, arith, sym, ◌∙◌}
 use Rattle.own_model.specs.Db.{empty}
-use Rattle.own_model.specs.History.{flat, left_by}
-use Rattle.own_model.proofs.Histories.{flat-by_last, reply-by_last}
-use Rattle.own_model.proofs.Ordered.{ordered-empty, ordered-flat}
+use Rattle.history_model.specs.History.{flat, left_by}
+use Rattle.history_model.proofs.HistoryLemmas.{flat-by_last, reply-by_last}
+use Rattle.history_model.proofs.RisingKeys.{ordered-empty, ordered-flat}
 use Rattle.store_top.proofs.engine.Engine.answer_last.Goals as goal
 
 pub answer-requires : goal.answer-requires
 answer-requires c = rw c.requires.before (ordered-flat empty _ ordered-empty)
 
 -- the tables were the flat database before the last entry, and take it in
-pub returns-in-Ok-clause-stands : goal.returns-in-Ok-clause-stands
-returns-in-Ok-clause-stands c =
+pub returns-in-Ok-clause-holds : goal.returns-in-Ok-clause-holds
+returns-in-Ok-clause-holds c =
     let history = c.args.self.now.history.items in
     let last = c.len-last.result - 1 in
     let entry = c.index.result.now in

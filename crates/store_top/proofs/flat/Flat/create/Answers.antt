@@ -1,5 +1,5 @@
 use Rattle.std.proofs.lemmas.List.{map-append}
-use Rattle.own_model.specs.Create.{create}
+use Rattle.history_model.specs.Create.{create}
 use Rattle.store_top.proofs.flat.Flat.create.Goals as goal
 
 pub returns-clause-ok : goal.returns-clause-ok

@@ -1,5 +1,5 @@
 use Rattle.std.proofs.Common.{◌≡◌, ◌≤◌, drop}
-use Rattle.own_model.specs.Create.{key_from}
+use Rattle.history_model.specs.Create.{key_from}
 use Rattle.store_top.proofs.flat.Table.key_column.Given as goal
 
 -- the key's column is found among the parts that are left, counted from here on

@@ -1,0 +1,6 @@
+pub mod HistoryLemmas
+pub mod NamedLemmas
+pub mod RefusalLemmas
+pub mod RisingKeys
+pub mod TableLemmas
+pub mod UnmadeLemmas

@@ -1,0 +1,10 @@
+pub mod Built
+pub mod Create
+pub mod Fault
+pub mod History
+pub mod Made
+pub mod MayBeUnmade
+pub mod Named
+pub mod Run
+pub mod Serial
+pub mod Sound

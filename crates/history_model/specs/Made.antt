@@ -1,0 +1,49 @@
+-- The history that calls make.
+use Rattle.std.specs.Prelude.{ℕ, List, [], ◌∷◌, ◌++◌, Option, None, Some, fold}
+use Rattle.own_model.specs.declared.history.Entry.{Entry}
+use Rattle.own_model.specs.declared.history.Verdict.TheVariants.{Took}
+use Rattle.own_model.specs.declared.script.ScriptCall.{ScriptCall}
+use Rattle.history_model.specs.Built.{built}
+use Rattle.own_model.specs.Db.{Db}
+use Rattle.history_model.specs.History.{History, flat}
+
+-- what want of memory did to a call: nothing; or it came into the history, and what it reads couldn't be shown; or it
+-- wasn't made
+pub data Want : Type 0 where
+  Spared : Want
+  Unshown : Want
+  Unmade : Want
+
+-- a call, and what want of memory did to it
+pub record Called : Type 0 where
+  pub call : ScriptCall
+  pub want : Want
+
+-- the entry that a call adds to a history
+abbrev pub entry_of : Db → History → ScriptCall → Entry
+entry_of base history call = record {
+  session = call.session;
+  call = call.call;
+  request = built (flat base history).schema call.request;
+  verdict = Took;
+}
+
+-- what a call adds to a history: its entry, unless memory refused it
+abbrev pub added : Entry → Want → History
+added entry Spared = entry ∷ []
+added entry Unshown = entry ∷ []
+added entry Unmade = []
+
+-- the place of a call that is made at this place, if memory doesn't refuse it
+abbrev pub place_by : Want → ℕ → Option ℕ
+place_by Spared place = Some place
+place_by Unshown place = Some place
+place_by Unmade place = None
+
+-- a history after one call more
+abbrev pub after_call : Db → History → Called → History
+after_call base history called = history ++ added (entry_of base history called.call) called.want
+
+-- The history of the calls made, in their order: each call's entry once, but for those that memory refused.
+unfoldable pub made : Db → List Called → History
+made base calls = fold (after_call base) [] calls

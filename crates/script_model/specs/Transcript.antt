@@ -1,0 +1,32 @@
+-- What calls leave that are made one after another: a history and a text.
+use Rattle.std.specs.Prelude.{◌≡◌, ℕ, List, [], ◌++◌, length, map}
+use Rattle.std.specs.List.{AllByRecursion}
+use Rattle.own_model.specs.declared.script.ScriptCall.{ScriptCall}
+use Rattle.own_model.specs.Db.{Db}
+use Rattle.history_model.specs.History.{History}
+use Rattle.history_model.specs.Made.{Called, Want, Spared, added, entry_of, made, place_by}
+use Rattle.history_model.specs.MayBeUnmade.{AreUnmadeByMemory}
+use Rattle.script_model.specs.Printed.{lines_at, printed}
+
+-- the text of one call more
+abbrev pub text_of_call : Db → History → ScriptCall → Want → List ℕ
+text_of_call base history call want =
+    lines_at base (history ++ added (entry_of base history call) want) (record { call = call; want = want }) (place_by want (length history))
+
+-- The calls were made over a database, in their order and each once, but for those that memory kept from being made; they
+-- made the history, and the text is theirs.
+pub record IsTranscript (base : Db) (calls : List ScriptCall) (history : History) (text : List ℕ) : Type 0 where
+  -- what want of memory did to each call
+  pub called : List Called
+  pub calls_are : map (λ called. called.call) called ≡ calls
+  pub unmade : AreUnmadeByMemory base [] called
+  pub history_is : history ≡ made base called
+  pub text_is : text ≡ printed base history called
+
+-- each of these calls, where memory refuses none
+abbrev pub spared : List ScriptCall → List Called
+spared calls = map (λ call. record { call = call; want = Spared }) calls
+
+-- memory refused nothing to these calls
+abbrev pub IsSpared : List Called → Type 0
+IsSpared called = AllByRecursion (λ called. called.want ≡ Spared) called

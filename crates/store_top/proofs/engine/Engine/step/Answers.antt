@@ -1,0 +1,16 @@
+use Rattle.std.proofs.Common.{◌≡◌, ◌-◌, [], ◌∷◌, ◌++◌, length, vec_len, ap, arith, ◌∙◌}
+use Rattle.std.proofs.lemmas.Result.{on_err_weaker}
+use Rattle.own_model.specs.Db.{empty}
+use Rattle.history_model.specs.Made.{entry_of}
+use Rattle.store_top.proofs.LastEntry.{unmade-last}
+use Rattle.store_top.proofs.engine.Engine.step.Goals as goal
+
+-- what memory may keep from being made is the entry that the call would have
+pub returns-clause-spared : goal.returns-clause-spared
+returns-clause-spared c =
+    let history = c.args.self.now.history.items in
+    let place : vec_len c.push_reserved.new.self - 1 ≡ length history = omega (arith, c.args.self.now.history.ok.0) in
+    let grown = c.push_reserved.ensures.items ∙ ap (λ entry. history ++ entry ∷ []) c.entry_of-entry.ensures in
+    on_err_weaker c.answer_last.result
+    (λ cause. unmade-last history c.push_reserved.new.self.items (entry_of empty history c.args.call) (vec_len c.push_reserved.new.self - 1) grown place cause)
+    c.answer_last.ensures.spared

@@ -1,0 +1,5 @@
+//! Tests of the store's public calls, over sources and sinks in memory.
+#![tactic(auto)]
+
+#[cfg(test)]
+mod runs;

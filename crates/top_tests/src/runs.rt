@@ -1,0 +1,186 @@
+use outer_world::{Gate, Gone, MemDisk, MemSink, MemSource, NowGate};
+use own_base::SessionNo;
+use std::alloc::Global;
+use std::mem::drop;
+use std::sync::Wait;
+use std::sync::atomic::{AtomicU64, Ordering};
+use std::test::Fail;
+use std::thread::Threads;
+use store_top::{Served, run, step};
+
+/// A run over sources and sinks in memory: the words, the input, the calls of the source and of the sink that fail,
+/// and then the status, the number of entries and the output that are wanted.
+struct Case {
+    word: &'static str,
+    input: &'static str,
+    source_fails: &'static [u32],
+    sink_fails: &'static [u32],
+    status: u8,
+    entries: usize,
+    output: &'static str,
+}
+
+const FIRST: &str =
+    "CREATE DATA_SUBJECT TABLE users (id INT PRIMARY KEY, name TEXT); INSERT INTO users VALUES (5, 'Ann'); SELECT * FROM users;";
+
+const REFUSALS: &str =
+    "CREATE DATA_SUBJECT TABLE users (id INT PRIMARY KEY, name TEXT); INSERT INTO users VALUES (5, 'Ann'); SELECT * FROM users;INSERT INTO users VALUES (5, 'Bo'); SELECT * FROM cats; BEGIN;";
+
+const CASES: [Case; 6] = [
+    Case {
+        word: "step",
+        input: FIRST,
+        source_fails: &[],
+        sink_fails: &[],
+        status: 0,
+        entries: 4,
+        output: "0 1.1 ok\n1 1.2 ok 1\n2 1.3 rows 1\n  5|'Ann'\n3 1.4 end\n",
+    },
+    Case {
+        word: "step",
+        input: REFUSALS,
+        source_fails: &[],
+        sink_fails: &[],
+        status: 0,
+        entries: 7,
+        output: "0 1.1 ok\n1 1.2 ok 1\n2 1.3 rows 1\n  5|'Ann'\n3 1.4 refused duplicate users 5\n4 1.5 refused table cats\n5 1.6 refused syntax 0\n6 1.7 end\n",
+    },
+    Case {
+        word: "step",
+        input: " \t\n",
+        source_fails: &[],
+        sink_fails: &[],
+        status: 0,
+        entries: 0,
+        output: "",
+    },
+    Case {
+        word: "stop",
+        input: FIRST,
+        source_fails: &[],
+        sink_fails: &[],
+        status: 2,
+        entries: 0,
+        output: "",
+    },
+    Case {
+        word: "step",
+        input: FIRST,
+        source_fails: &[0],
+        sink_fails: &[],
+        status: 3,
+        entries: 0,
+        output: "",
+    },
+    Case {
+        word: "step",
+        input: FIRST,
+        source_fails: &[],
+        sink_fails: &[1],
+        status: 4,
+        entries: 2,
+        output: "0 1.1 ok\n",
+    },
+];
+
+/// Runs a case, and tells its status, its entries and its output.
+fn told<Rt: Threads + Wait + Sync>(rt: &Rt, alloc: Global, case: &Case) -> Result<String, Fail> {
+    let words = vec![in alloc; String::from_str(alloc, case.word)?]?;
+    let mut source = MemSource::new(alloc, case.input.as_bytes(), case.source_fails)?;
+    let mut sink = MemSink::new(alloc, case.sink_fails)?;
+    let disk = MemDisk::new(alloc, &[])?;
+    let Served {
+        status,
+        fault,
+        history,
+        disk,
+    } = run(rt, alloc, &words, &mut source, &mut sink, disk, &NowGate);
+    let entries = history.items().len();
+    drop(history);
+    drop(fault);
+    drop(disk);
+    let output = String::from_utf8_lossy(alloc, sink.bytes())?;
+    Ok(format!(in alloc; "{status} {entries} {}", output.as_str())?)
+}
+
+#[test]
+fn runs(rt: HostRuntime) -> Result<(), Fail> {
+    for case in &CASES {
+        let wanted = format!(in rt.alloc(); "{} {} {}", case.status, case.entries, case.output)?;
+        assert_eq!(rt; told(&rt, rt.alloc(), case)?.as_str(), wanted.as_str());
+    }
+    Ok(())
+}
+
+/// A gate that lets every call pass, and counts how often it is called.
+struct CountingGate {
+    calls: AtomicU64,
+}
+
+impl Gate for CountingGate {
+    fn before(&self, _session: SessionNo, _call: u32) -> Gone {
+        self.calls.fetch_add(1, Ordering::SeqCst);
+        Gone::Passed
+    }
+
+    fn after(&self, _session: SessionNo, _call: u32) {
+        self.calls.fetch_add(1, Ordering::SeqCst);
+    }
+}
+
+#[test]
+fn mode_step_asks_the_gate_nothing(rt: HostRuntime) -> Result<(), Fail> {
+    let gate = CountingGate {
+        calls: AtomicU64::new(0),
+    };
+    let words = vec![in rt.alloc(); String::from_str(rt.alloc(), "step")?]?;
+    let mut source = MemSource::new(rt.alloc(), FIRST.as_bytes(), &[])?;
+    let mut sink = MemSink::new(rt.alloc(), &[])?;
+    let disk = MemDisk::new(rt.alloc(), &[])?;
+    let Served {
+        status,
+        fault,
+        history,
+        disk,
+    } = run(
+        &rt,
+        rt.alloc(),
+        &words,
+        &mut source,
+        &mut sink,
+        disk,
+        &gate,
+    );
+    let entries = history.items().len();
+    drop(history);
+    drop(fault);
+    drop(disk);
+    assert_eq!(rt; status, 0);
+    assert_eq!(rt; entries, 4);
+    assert_eq!(rt; gate.calls.load(Ordering::SeqCst), 0);
+    assert_eq!(rt; gate.before(SessionNo(1), 1), Gone::Passed);
+    gate.after(SessionNo(1), 1);
+    assert_eq!(rt; gate.calls.load(Ordering::SeqCst), 2);
+    Ok(())
+}
+
+#[test]
+fn steps_without_words_and_gate(rt: HostRuntime) -> Result<(), Fail> {
+    let mut source = MemSource::new(rt.alloc(), FIRST.as_bytes(), &[])?;
+    let mut sink = MemSink::new(rt.alloc(), &[])?;
+    let Served {
+        status,
+        fault,
+        history,
+        disk,
+    } = step(rt.alloc(), &mut source, &mut sink, 7);
+    let entries = history.items().len();
+    drop(history);
+    drop(fault);
+    assert_eq!(rt; status, 0);
+    assert_eq!(rt; entries, 4);
+    assert_eq!(rt; disk, 7);
+    let output = String::from_utf8_lossy(rt.alloc(), sink.bytes())?;
+    assert_eq!(rt; output.as_str(), CASES[0].output);
+    Ok(())
+}
