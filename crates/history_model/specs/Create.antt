@@ -16,7 +16,7 @@ abbrev pub is_key : Attr → Bool
 is_key attr.Key = true
 is_key _ = false
 
--- whether PRIMARY KEY stands behind a column's kind
+-- whether PRIMARY KEY stands after a column's kind
 abbrev pub has_key : List Attr → Bool
 has_key attrs = list_any is_key attrs
 

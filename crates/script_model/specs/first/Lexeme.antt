@@ -27,12 +27,12 @@ pub data Lexeme : Type 0 where
   Quoted : List ℕ → Lexeme
   Mark : ℕ → Lexeme
 
--- one byte more of a text's value, which took so many bytes
+-- one byte more of a text's value, which took that many bytes
 abbrev pub with_byte : ℕ → ℕ → Option (List ℕ × ℕ) → Option (List ℕ × ℕ)
 with_byte byte more None = None
 with_byte byte more (Some (value, taken)) = Some (byte ∷ value, taken + more)
 
--- A text's value, and how many bytes it takes behind its first quote, where it is closed: a quote ends it, and a
+-- A text's value, and how many bytes it takes after its first quote, where it is closed: a quote ends it, and a
 -- doubled quote stands for one. With true, the byte before was a quote, which ends it or is the first of two.
 unfoldable pub quoted_value : Bool → List ℕ → Option (List ℕ × ℕ)
 quoted_value false [] = None
@@ -57,7 +57,7 @@ lexeme_at byte bytes =
     else if byte == 39 then quoted_or_mark (quoted_value false bytes)
     else record { lexeme = Mark byte; taken = 1 }
 
--- The lexemes of a text, in order: white space parts them and is none. So many bytes in front belong to a lexeme that
+-- The lexemes of a text, in order: white space parts them and is none. That many bytes in front belong to a lexeme that
 -- began before them.
 unfoldable pub lexemes_behind : ℕ → List ℕ → List Lexeme
 lexemes_behind within [] = []
