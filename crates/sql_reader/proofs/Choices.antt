@@ -16,7 +16,7 @@ use Rattle.grammar_model.specs.Terminal.{Terminal, Written, is_word, is_mark}
 use Rattle.sql_reader.specs.reading.Judges.{is_name, is_quoted}
 use Rattle.grammar_model.specs.Language.{Language, one, ◌or◌, ◌>>=◌}
 use Rattle.grammar_model.specs.Language as grammar
-use Rattle.sql_reader.proofs.Exactly.{SaysExactly}
+use Rattle.sql_reader.proofs.Exactly.{SaysExactly, none-some, some-same}
 use Rattle.sql_reader.proofs.Heads.{Head, AWord, AMark, AName, AQuoted, among, apart, NoneNext, OneNext, none-append, one-append-left, one-append-right, one-none}
 use Rattle.sql_reader.proofs.ReaderRight.{next_of, stop_of, Means, Goes, Lifted, Begins, Right, Real}
 use Rattle.sql_reader.proofs.Joins.{and_then, joined, next-append}
@@ -28,14 +28,8 @@ LiftedJudge lifts (Err Syntax) other = other ≡ Err Syntax
 LiftedJudge lifts (Err Memory) other = other ≡ Err Memory
 LiftedJudge {A = A} lifts (Err (Limit which)) other = (lifts which ≡ true × ((value : A) × (other ≡ Ok value))) ⊎ (lifts which ≡ false × other ≡ Err (Limit which))
 
-pub none-some : {A : Type 0} (value : A) → None ≡ Some value → ⊥
-none-some value same = cc
-
 some-none : {A : Type 0} (value : A) → Some value ≡ None → ⊥
 some-none value same = cc
-
-some-same : {A : Type 0} (one other : A) → Some one ≡ Some other → one ≡ other
-some-same one other same = cc
 
 -- the outcome where nothing is read
 nothing_there : {A : Type 0} (means : A → Terminal → Type 0) (judge : Terminal → Result A RuleFault) (value : A) (terminal : Terminal) → means value terminal → Goes (accept judge) (one means) [] (Err (Syntax, []))

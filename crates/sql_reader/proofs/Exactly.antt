@@ -27,10 +27,10 @@ no_value fault value same = cc
 ok-same : {A : Type 0} (one other : A) → ◌≡◌ {A = Result A RuleFault} (Ok one) (Ok other) → one ≡ other
 ok-same one other same = cc
 
-none-some : {A : Type 0} (value : A) → None ≡ Some value → ⊥
+pub none-some : {A : Type 0} (value : A) → None ≡ Some value → ⊥
 none-some value same = cc
 
-some-same : {A : Type 0} (one other : A) → Some one ≡ Some other → one ≡ other
+pub some-same : {A : Type 0} (one other : A) → Some one ≡ Some other → one ≡ other
 some-same one other same = cc
 
 -- a name that is taken is spelled as one and short, and is given as it is

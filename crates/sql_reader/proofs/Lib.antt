@@ -1,7 +1,5 @@
 pub mod Answering
-pub mod Changes
 pub mod Choices
-pub mod Conditions
 pub mod CutTexts
 pub mod Exactly
 pub mod FaultPlaces
@@ -13,8 +11,10 @@ pub mod Lifts
 pub mod Listing
 pub mod Literals
 pub mod OneAnswer
+pub mod OtherWords
 pub mod ReaderRight
 pub mod Repeats
 pub mod Rules
+pub mod SameReading
 pub mod WholeEnds
 pub mod WholeTexts

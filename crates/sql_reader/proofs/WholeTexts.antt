@@ -14,7 +14,7 @@ use Rattle.sql_reader.specs.reading.Whole.{ended}
 use Rattle.grammar_model.specs.Terminal.{Terminals}
 use Rattle.sql_reader.specs.reading.Reader.{Reading, Reader, then_read, pure}
 use Rattle.sql_reader.specs.reading.Statements.{statement_rule}
-use Rattle.sql_reader.proofs.Choices.{none-some}
+use Rattle.sql_reader.proofs.Exactly.{none-some}
 use Rattle.sql_reader.proofs.ReaderRight.{next_of, stop_of, Means, Goes, Right, reads_both}
 use Rattle.sql_reader.proofs.Rules.Levels.{neg_kept, neg_freed, deeper}
 use Rattle.sql_reader.proofs.Rules.Statements.{statement_rule_right, begins_statement, after_statement}

@@ -9,7 +9,7 @@ use Rattle.grammar_model.specs.Grammar as grammar
 use Rattle.grammar_model.specs.Language.{◌>>=◌, ◌or◌}
 use Rattle.grammar_model.specs.Limits.{Limits}
 use Rattle.sql_reader.specs.reading.Condition as condition_rules
-use Rattle.sql_reader.proofs.Changes.{in_words, Into}
+use Rattle.sql_reader.proofs.OtherWords.{in_words, Into}
 use Rattle.sql_reader.proofs.Choices.{or_else, or_nothing, word_right, mark_right, pure_right, word_tests, mark_tests, name_tests}
 use Rattle.sql_reader.proofs.Heads.{AWord, AMark, AName, ANumber, AQuoted}
 use Rattle.sql_reader.proofs.Joins.{and_then}

@@ -14,7 +14,7 @@ use Rattle.grammar_model.specs.Language.{Language, ◌>>=◌, ◌>>◌, ◌or◌
 use Rattle.grammar_model.specs.Limits.{Limits}
 use Rattle.sql_reader.specs.reading.Create as create_rules
 use Rattle.grammar_model.specs.Terminal.{Terminal, is_word}
-use Rattle.sql_reader.proofs.Changes.{as_often, with_more}
+use Rattle.sql_reader.proofs.OtherWords.{as_often, with_more}
 use Rattle.sql_reader.proofs.Choices.{or_else, or_nothing, word_right, mark_right, pure_right, word_tests, mark_tests, name_tests, or_none}
 use Rattle.sql_reader.proofs.Heads.{Head, AWord, AMark, AName, among}
 use Rattle.sql_reader.proofs.Joins.{and_then}

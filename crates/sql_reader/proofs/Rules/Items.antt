@@ -11,7 +11,7 @@ use Rattle.grammar_model.specs.Limits.{Limits}
 use Rattle.grammar_model.specs.Terminal.{Terminals}
 use Rattle.sql_reader.specs.reading.Select as select_rules
 use Rattle.sql_reader.specs.reading.Select.{is_plain, is_listed}
-use Rattle.sql_reader.proofs.Changes.{decided, with_more, in_words, Into}
+use Rattle.sql_reader.proofs.OtherWords.{decided, with_more, in_words, Into}
 use Rattle.sql_reader.proofs.Choices.{or_else, or_nothing, word_right, mark_right, pure_right, word_tests, mark_tests}
 use Rattle.sql_reader.proofs.Heads.{AWord, AMark, AName}
 use Rattle.sql_reader.proofs.Joins.{and_then}

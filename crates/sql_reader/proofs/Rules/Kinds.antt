@@ -5,7 +5,7 @@ use Rattle.own_model.specs.declared.statement.Statement.{Statement}
 use Rattle.grammar_model.specs.Grammar as grammar
 use Rattle.grammar_model.specs.Language.{Language, ◌>>=◌, ◌>>◌, ◌or◌, pure, word}
 use Rattle.grammar_model.specs.Limits.{Limits}
-use Rattle.sql_reader.proofs.Changes.{Into}
+use Rattle.sql_reader.proofs.OtherWords.{Into}
 use Rattle.sql_reader.proofs.Rules.Creates.{table_after}
 
 -- VIEW name AS (plain | grouped), after CREATE

@@ -16,7 +16,7 @@ use Rattle.grammar_model.specs.Terminal.{Terminals}
 use Rattle.sql_reader.specs.reading.Reader.{Reading, Reader, next_is, then_read, either, accept, passes, pure, judged}
 use Rattle.sql_reader.specs.reading.Rules.{word, mark}
 use Rattle.grammar_model.specs.Terminal.{Terminal, is_word, is_mark}
-use Rattle.sql_reader.proofs.Changes.{with_more, in_words, Into}
+use Rattle.sql_reader.proofs.OtherWords.{with_more, in_words, Into}
 use Rattle.sql_reader.proofs.Choices.{or_else, word_right, mark_right, pure_right, word_tests, mark_tests, next_is-tests, next_is-same, still_next}
 use Rattle.sql_reader.proofs.Heads.{Head, AWord, AMark, AName, among, apart, OneNext, one-none}
 use Rattle.sql_reader.proofs.Joins.{and_then}

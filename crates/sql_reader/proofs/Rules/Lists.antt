@@ -8,7 +8,7 @@ use Rattle.grammar_model.specs.Language as languages
 use Rattle.grammar_model.specs.Language.{Language, ◌>>=◌, ◌>>◌, ◌or◌}
 use Rattle.sql_reader.specs.reading.Reader.{Reader}
 use Rattle.sql_reader.specs.reading.Condition as condition_rules
-use Rattle.sql_reader.proofs.Changes.{as_often, with_more}
+use Rattle.sql_reader.proofs.OtherWords.{as_often, with_more}
 use Rattle.sql_reader.proofs.Choices.{word_right, pure_right, word_tests}
 use Rattle.sql_reader.proofs.Heads.{AWord, AMark, AName}
 use Rattle.sql_reader.proofs.Joins.{and_then}

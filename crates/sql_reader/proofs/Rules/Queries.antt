@@ -14,7 +14,7 @@ use Rattle.grammar_model.specs.Language.{Language, one, ◌>>=◌, ◌>>◌, ◌
 use Rattle.grammar_model.specs.Limits.{Limits, fits}
 use Rattle.grammar_model.specs.Terminal.{Terminals}
 use Rattle.sql_reader.specs.reading.Select.{is_plain, is_listed, is_column}
-use Rattle.sql_reader.proofs.Changes.{Into}
+use Rattle.sql_reader.proofs.OtherWords.{Into}
 use Rattle.sql_reader.proofs.Heads.{both}
 use Rattle.grammar_model.specs.Parts.{is_there}
 use Rattle.grammar_model.specs.Values.{SlotIs}

@@ -11,7 +11,7 @@ use Rattle.grammar_model.specs.Limits.{Limits}
 use Rattle.sql_reader.specs.reading.Select as select_rules
 use Rattle.sql_reader.specs.reading.Select.{is_plain, is_listed}
 use Rattle.grammar_model.specs.Terminal.{Terminal, is_word}
-use Rattle.sql_reader.proofs.Changes.{decided, with_more}
+use Rattle.sql_reader.proofs.OtherWords.{decided, with_more}
 use Rattle.sql_reader.proofs.Choices.{or_else, or_nothing, word_right, mark_right, pure_right, word_tests, mark_tests, or_none}
 use Rattle.sql_reader.proofs.Heads.{AWord, AMark, AName, ASlot, among}
 use Rattle.sql_reader.proofs.Joins.{and_then}

@@ -22,7 +22,7 @@ use Rattle.grammar_model.specs.Terminal.{Terminal, Written, Slot, is_mark}
 use Rattle.sql_reader.specs.reading.Judges.{name_of}
 use Rattle.grammar_model.specs.Values.{SlotIs}
 use Rattle.sql_reader.proofs.Exactly.{slot_exactly}
-use Rattle.sql_reader.proofs.Changes.{with_more, same_readers}
+use Rattle.sql_reader.proofs.OtherWords.{with_more, same_readers}
 use Rattle.sql_reader.proofs.Choices.{LiftedJudge, one_terminal, mark_right, mark_tests, pure_right}
 use Rattle.sql_reader.proofs.Heads.{Head, AWord, AMark, AName, ASlot, among}
 use Rattle.sql_reader.proofs.Joins.{and_then}

@@ -13,7 +13,7 @@ use Rattle.sql_reader.specs.reading.Create as create_rules
 use Rattle.sql_reader.specs.reading.Select as select_rules
 use Rattle.sql_reader.specs.reading.Statements as statement_rules
 use Rattle.sql_reader.specs.reading.Select.{is_plain, is_listed}
-use Rattle.sql_reader.proofs.Changes.{as_often, with_more, in_words}
+use Rattle.sql_reader.proofs.OtherWords.{as_often, with_more, in_words}
 use Rattle.sql_reader.proofs.Choices.{or_else, or_nothing, word_right, mark_right, pure_right, word_tests, mark_tests, quoted_tests}
 use Rattle.sql_reader.proofs.Heads.{Head, AWord, AMark, AName, ANumber, AQuoted}
 use Rattle.sql_reader.proofs.Joins.{and_then}

@@ -8,7 +8,7 @@ use Rattle.grammar_model.specs.Language as language
 use Rattle.grammar_model.specs.Language.{Language, ◌>>=◌, ◌>>◌, ◌or◌}
 use Rattle.grammar_model.specs.Limits.{Limits}
 use Rattle.sql_reader.specs.reading.Rules as rules
-use Rattle.sql_reader.proofs.Changes.{as_often, in_words, Into}
+use Rattle.sql_reader.proofs.OtherWords.{as_often, in_words, Into}
 use Rattle.sql_reader.proofs.Choices.{or_else, or_nothing, word_right, mark_right, pure_right, word_tests, mark_tests, name_tests, quoted_tests}
 use Rattle.sql_reader.proofs.Heads.{AWord, AMark, AName, ANumber, AQuoted}
 use Rattle.sql_reader.proofs.Joins.{and_then}

@@ -4,7 +4,7 @@ use Rattle.sql_reader.specs.reading.Condition as rules
 use Rattle.sql_reader.specs.reading.Reader.{then_read, ◌>>◌}
 use Rattle.sql_reader.specs.reading.Rules.{word}
 use Rattle.grammar_model.specs.Terminal.{is_word}
-use Rattle.sql_reader.proofs.Conditions.{neg-comparison, Does-same}
+use Rattle.sql_reader.proofs.SameReading.{neg-comparison, Does-same}
 use Rattle.sql_reader.proofs.Listing.{Listing, Listing-step}
 use Rattle.sql_reader.proofs.condition.+condition.Goals as goal
 

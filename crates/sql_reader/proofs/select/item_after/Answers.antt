@@ -3,7 +3,7 @@ use Rattle.grammar_model.specs.Limits.{store_limits}
 use Rattle.sql_reader.specs.reading.Reader.{accept}
 use Rattle.sql_reader.specs.reading.Select.{item_after}
 use Rattle.sql_reader.specs.reading.Judges.{slot_of}
-use Rattle.sql_reader.proofs.Conditions.{Does-same, Does-fault, item_after-full}
+use Rattle.sql_reader.proofs.SameReading.{Does-same, Does-fault, item_after-full}
 use Rattle.sql_reader.proofs.select.item_after.Goals as goal
 
 pub returns : goal.returns

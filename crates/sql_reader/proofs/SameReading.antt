@@ -1,4 +1,4 @@
--- Conditions without NOT and brackets at their front.
+-- Readers that read the same at some terminals.
 use Rattle.std.proofs.Common.{◌≡◌, ◌≤◌, ◌+◌, ℕ, zero, suc, Bool, false, Result, Ok, Err, ap, ◌∙◌, codes, arith}
 use Rattle.std.specs.Prelude.{if◌then◌else◌, nat_le}
 use Rattle.sql_reader.specs.declared.fault.RuleFault.{RuleFault}
