@@ -113,6 +113,7 @@ fn runs(rt: HostRuntime) -> Result<(), Fail> {
 }
 
 /// A gate that lets every call pass, and counts how often it is called.
+#[derive(Drop)]
 struct CountingGate {
     calls: AtomicU64,
 }
