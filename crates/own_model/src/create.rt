@@ -43,7 +43,7 @@ pub struct ColumnDef {
     pub attrs: List<Attr>,
 }
 
-/// What stands behind a column's kind.
+/// What stands after a column's kind.
 #[derive(Debug, Drop)]
 pub enum Attr {
     Key,

@@ -73,7 +73,7 @@ pub enum Refusal {
         table: Name,
         key: Key,
     },
-    /// The commit's payload has so many bytes.
+    /// The commit's payload has that many bytes.
     TooBig(u64),
     Limit(LimitName),
     /// The disk failed in this call.

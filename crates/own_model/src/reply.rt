@@ -6,13 +6,13 @@ use own_base::{List, Name, Place, Row, SessionNo, Text, Value};
 pub enum Reply {
     /// CREATE, BEGIN, COMMIT, ROLLBACK or CHECKPOINT was done.
     Done,
-    /// INSERT put, or UPDATE or DELETE met, so many rows.
+    /// INSERT put, or UPDATE or DELETE met, that many rows.
     Counted(u64),
     /// The rows of a SELECT.
     Rows(List<Row>),
     /// What a GDPR GET shows.
     Got(List<GotRow>),
-    /// A GDPR FORGET removed so many rows, and changed so many of those that stay.
+    /// A GDPR FORGET removed that many rows, and changed that many of those that stay.
     Forgot { removed: u32, changed: u32 },
     /// The lines of EXPLAIN COMPLIANCE.
     Graph(List<Text>),

@@ -37,7 +37,7 @@ abbrev Reads : {A : Type 0} → (A → Type 0) → Option (A × List Lexeme) →
 Reads P None = Unit {0}
 Reads P (Some (read, rest)) = P read
 
--- so has what is read behind it, whatever that is
+-- so has what is read after it, whatever that is
 behind : {A B : Type 0} (P : B → Type 0) (next : A → Rule B) (first : Option (A × List Lexeme))
     → ((read : A) (rest : List Lexeme) → Reads P (next read rest)) → Reads P (after_first next first)
 behind P next None more = tt

@@ -14,7 +14,7 @@ use Rattle.script_model.specs.Printed.{Tells, lines_at, printed, reply_lines}
 use Rattle.script_model.specs.Transcript.{IsTranscript, text_of_call}
 use Rattle.script_model.proofs.PrintedLemmas.{CallsBelow, EntriesBelow, lines_of-place, made-append, none_below, others_added, place_added, printed-append, printed-last}
 
--- A call more: its entry goes behind the history, unless memory refused it, and its lines behind the text.
+-- A call more: its entry goes after the history, unless memory refused it, and its lines after the text.
 pub transcript-more : (base : Db) (calls : List ScriptCall) (history : History) (text : List ℕ) (call : ScriptCall) (want : Want)
     → IsTranscript base calls history text → CallsBelow call.call calls → EntriesBelow call.call history
     → (want ≡ Unmade → MayBeUnmade (flat base history) (entry_of base history call).request)

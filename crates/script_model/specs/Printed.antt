@@ -43,7 +43,7 @@ unfoldable pub shown_key : Key → List ℕ
 shown_key (key.Int number) = signed_decimal number
 shown_key (key.Text bytes) = shown_text bytes
 
--- the first value, and each other one behind a bar
+-- the first value, and each other one after a bar
 unfoldable pub joined_values : Row → List ℕ
 joined_values [] = []
 joined_values (first ∷ rest) = shown_value first ++ flat_map (λ value. 124 ∷ shown_value value) rest
@@ -97,7 +97,7 @@ place_from place call (entry ∷ history) = if is_of call entry then Some place 
 abbrev pub place_of : History → ScriptCall → Option ℕ
 place_of history call = place_from 0 call history
 
--- what is told of a reply: want of memory may stand in the place of rows
+-- what is told of a reply: `memory` may stand in the place of rows
 abbrev pub told : Want → Reply → Reply
 told Unshown (Rows rows) = Refused Memory
 told Unshown reply = reply
@@ -124,6 +124,6 @@ unfoldable pub lines_of : Db → History → Called → List ℕ
 lines_of base history called = lines_at base history called (place_of history called.call)
 
 -- The text of calls, in their order: a call that the history has gives the lines of its reply there; one that it
--- doesn't have, or rows that want of memory kept from being shown, give `memory`.
+-- doesn't have, or rows for which there was no memory, give `memory`.
 unfoldable pub printed : Db → History → List Called → List ℕ
 printed base history calls = flat_map (lines_of base history) calls

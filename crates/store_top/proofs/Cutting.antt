@@ -66,7 +66,7 @@ pieces-nil : (quoted : Bool) → pieces quoted [] ≡ record { bytes = []; close
 unfolding pieces
 pieces-nil quoted = refl
 
--- what is behind a place: nothing, or a `;` and a text
+-- what is after a place: nothing, or a `;` and a text
 abbrev IsBehind : List ℕ → ℕ → Option (Bor (List ℕ)) → Type 0
 IsBehind bytes place rest = MatchOption rest ((more : List ℕ) → drop place bytes ≢ 59 ∷ more) (λ behind. drop place bytes ≡ 59 ∷ behind.now)
 
@@ -100,7 +100,7 @@ cuts_nothing : (rest : Option (Bor (List ℕ))) → IsBehind [] 0 rest → recor
 cuts_nothing None behind = refl
 cuts_nothing (Some text) behind = cc
 
--- a text is its first piece, and the pieces behind it
+-- a text is its first piece, and the pieces after it
 pub pieces_cut : (quoted : Bool) (bytes : List ℕ) (rest : Option (Bor (List ℕ)))
     → IsBehind bytes (piece_len quoted bytes) rest
     → CutsAt quoted bytes (piece_len quoted bytes) rest
@@ -152,7 +152,7 @@ cut_is bytes place piece back rest at front behind strips =
     let P : List ℕ → Type 0 = λ text. MatchOption rest ((more : List ℕ) → text ≢ 59 ∷ more) (λ after. text ≡ 59 ∷ after.now) in
     rw (front, at) (pieces_cut false bytes rest (subst P here strips))
 
--- the bytes reversed, without so many in front, and reversed again
+-- the bytes reversed, without that many in front, and reversed again
 reverse_drop : (bytes : List ℕ) (n : ℕ) → n ≤ length bytes → reverse (drop n (reverse bytes)) ≡ take (length bytes - n) bytes
 reverse_drop bytes n within =
     let k = length bytes - n in
@@ -182,6 +182,6 @@ white_end bytes text (suc n) is =
     let place : length bytes - 1 - n ≡ length bytes - suc n = omega arith in
     IsCharBoundary-before_ascii bytes (length bytes - suc n) (omega arith) (subst (λ (k : ℕ). get_or bytes k 0 < 128) place (subst (λ (b : ℕ). b < 128) at white))
 
--- the white space behind may be cut off
+-- the white space at the end may be cut off
 pub white_end_boundary : (bytes : List ℕ) → IsUtf8 bytes → IsCharBoundary bytes (length bytes - length (take_while is_white (reverse bytes)))
 white_end_boundary bytes text = rw length-prefix_len (white_end bytes text (prefix_len is_white (reverse bytes)) refl)

@@ -14,7 +14,7 @@ pub unmade-last : (before after : History) (entry : Entry) (last : ℕ) → afte
 unmade-last before after entry last grown place cause =
     let front : take last after ≡ before = ap (λ n. take n after) place ∙ (ap (take (length before)) grown ∙ take-append_seam before (entry ∷ [])) in
     let own : slice_index_or after last entry ≡ entry = ap (λ n. slice_index_or after n entry) place
-        ∙ (ap (λ h. slice_index_or h (length before) entry) grown ∙ get_or-append_seam before entry [] entry) in
+    ∙ (ap (λ h. slice_index_or h (length before) entry) grown ∙ get_or-append_seam before entry [] entry) in
     let P : History → Type 0 = λ h. MayBeUnmade (flat empty h) (slice_index_or after last entry).request in
     let Q : Entry → Type 0 = λ e. MayBeUnmade (flat empty before) e.request in
     subst Q own (subst P front (cause entry))

@@ -15,7 +15,7 @@ use Rattle.store_top.specs.Read.{unquoted, value_and_rest}
 use Rattle.own_base.specs.Name.{is_spelled, begins_name, continues_name}
 use Rattle.script_model.specs.first.Lexeme.{Lexeme, Word, Number, Quoted, Mark, Found, lexemes, lexemes_behind, lexeme_at, is_white, is_digit, begins_word, continues_word, quoted_value, quoted_or_mark}
 
--- so many bytes in front are of no account
+-- that many bytes in front are of no account
 pub lexemes_behind_drop : (n : ℕ) (bytes : List ℕ) → lexemes_behind n bytes ≡ lexemes (drop n bytes)
 unfolding lexemes_behind
 lexemes_behind_drop zero bytes = refl
@@ -56,14 +56,14 @@ digit_no_word byte begins = grind (arith, nat_tests)
 word_continues : (byte : ℕ) → begins_word byte ≡ true → continues_word byte ≡ true
 word_continues byte begins = rw begins refl
 
--- behind a run that takes at least its first byte
+-- after a run that takes at least its first byte
 run_rest : (passes : ℕ → Bool) (byte : ℕ) (bytes : List ℕ) → passes byte ≡ true → drop (length (take_while passes (byte ∷ bytes)) - 1) bytes ≡ drop (length (take_while passes (byte ∷ bytes))) (byte ∷ bytes)
 run_rest passes byte bytes first =
     let run : take_while passes (byte ∷ bytes) ≡ byte ∷ take_while passes bytes = take_while-cons passes byte bytes ∙ rw first refl in
     let less : length (take_while passes (byte ∷ bytes)) - 1 ≡ length (take_while passes bytes) = omega (arith, ap length run) in
     ap (λ n. drop n bytes) less ∙ sym (ap (λ (text : List ℕ). drop (length text) (byte ∷ bytes)) run)
 
--- so many bytes are the run
+-- that many bytes are the run
 pub take_run : (passes : ℕ → Bool) (bytes : List ℕ) → take (length (take_while passes bytes)) bytes ≡ take_while passes bytes
 take_run passes bytes = ap (λ n. take n bytes) (length-prefix_len passes bytes)
 
@@ -150,7 +150,7 @@ dark_by : (white : Bool) (byte : ℕ) (bytes : List ℕ) → is_white byte ≡ w
 dark_by true byte bytes is later = later
 dark_by false byte bytes is later = is
 
--- behind the white space in front stands none
+-- after the white space in front stands none
 pub dark_behind : (bytes : List ℕ) → is_white (get_or (drop (length (take_while is_white bytes)) bytes) 0 0) ≡ false
 dark_behind [] = refl
 dark_behind (byte ∷ bytes) = ap (λ (text : List ℕ). is_white (get_or (drop (length text) (byte ∷ bytes)) 0 0)) (take_while-cons is_white byte bytes)

@@ -21,7 +21,7 @@ numbered-append number (request ∷ front) back =
     let next : number + 1 + length front ≡ number + suc (length front) = omega arith in
     rw (numbered-cons number request front, numbered-cons number request (front ++ back), numbered-append (number + 1) front back, next) refl
 
--- the call behind the calls so far is numbered next
+-- the call after the calls so far is numbered next
 pub numbered_step : (told calls more : List ScriptCall) (number : ℕ) (left after : List Piece) (text : Piece) → told ≡ calls ++ numbered (number + 1) (map request_of left) → left ≡ text ∷ after → more ≡ calls ++ numbered_call (number + 1) (request_of text) ∷ [] → told ≡ more ++ numbered (number + 1 + 1) (map request_of after)
 numbered_step told calls more number left after text is left-is more-is =
     rw (is, left-is, more-is, numbered-cons (number + 1) (request_of text) (map request_of after), append_assoc) refl
@@ -35,7 +35,7 @@ pub ends_without : (texts : List Piece) (calls : List ScriptCall) → length tex
 ends_without [] calls none is = sym is
 ends_without (text ∷ texts) calls none is = absurd (omega arith)
 
--- End is numbered behind the texts
+-- End is numbered after the texts
 pub ends_with : (texts : List Piece) (calls more : List ScriptCall) (number : ℕ) → length texts ≡ number → 0 < number → numbered 1 (map request_of texts) ≡ calls → more ≡ calls ++ numbered_call (number + 1) End ∷ [] → more ≡ numbered 1 (requests_of texts)
 ends_with [] calls more number count some is more-is = absurd (omega arith)
 ends_with (text ∷ texts) calls more number count some is more-is =

@@ -39,7 +39,7 @@ index_rises order a b q less Equal is =
 index_rises {R = R} order a b q less Greater is = rw is (index_le_two (R a q))
 
 module _ {X K : Type 0} (k : X → K) {R : K → K → Ordering} (order : IsTotalOrder R) where
-  -- the first of sorted keys is below those behind it
+  -- the first of sorted keys is below those after it
   all_above : (x : X) (xs : List X) → AllByRecursion (λ y. R (k x) y ≡ Less) (map k xs) → AllByRecursion (λ y. R (k x) (k y) ≡ Less) xs
   all_above x [] all = tt
   all_above x (y ∷ ys) all = (all.0, all_above x ys all.1)

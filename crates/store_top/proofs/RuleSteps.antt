@@ -172,7 +172,7 @@ int_nothing = refl
 pub int_front : ReadsFront int
 int_front = reads_front int (record { nothing = int_nothing; far = int_far; great = λ number rest high. int_great number rest (omega arith) })
 
--- a number behind a `-`
+-- a number after a `-`
 abbrev pub below : Rule ℤ
 below lexemes = int (Mark 45 ∷ lexemes)
 

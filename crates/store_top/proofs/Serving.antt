@@ -34,7 +34,7 @@ pub appends-nothing : (old : Option (List ℕ)) → Appends old old []
 appends-nothing None = tt
 appends-nothing (Some xs) = sym (append-nil xs)
 
--- Some calls are served, and the rest, numbered behind them, are left.
+-- Some calls are served, and the rest, numbered after them, are left.
 pub record Serving (calls done rest : List ScriptCall) (history : History) (old new : Option (List ℕ)) : Type 0 where
   pub whole : done ++ rest ≡ calls
   pub runs : RunsTo done history old new
@@ -108,7 +108,7 @@ module _ (calls done : List ScriptCall) (call : ScriptCall) (rest : List ScriptC
       stops_at result step (ToldInPart old new)
       (told_in_part old mid new before.runs.text (text_of_call empty history call step.want) before.runs.written (subst (λ r. TellsCall r mid new (text_of_call empty history call step.want)) is step.written))
 
-  -- want of memory
+  -- out of memory
   pub serving-refused : (result : Result (Unit {0}) RunFault) → MakesCallTo call history after mid new result → result ≡ Err Memory
       → StopsAtCall calls after (ToldBefore old new)
   serving-refused result step is =

@@ -41,12 +41,12 @@ abbrev pub Gives : {X Y : Type 0} → (X → Y) → Result X LexemeFault → Opt
 Gives view (Ok x) read = read ≡ Some (view x)
 Gives view (Err fault) read = Fails fault read
 
--- a text's value and the bytes behind its last quote
+-- a text's value and the bytes after its last quote
 abbrev pub value_and_rest : List ℕ → Option (List ℕ × ℕ) → Option (List ℕ × List ℕ)
 value_and_rest bytes None = None
 value_and_rest bytes (Some (value, taken)) = Some (value, drop taken bytes)
 
--- the same of the bytes behind its first quote
+-- the same of the bytes after its first quote
 unfoldable pub unquoted : List ℕ → Option (List ℕ × List ℕ)
 unquoted bytes = value_and_rest bytes (quoted_value false bytes)
 

@@ -43,7 +43,7 @@ pub record RefusesInput (remaining_old remaining_new : Option (List ℕ)) (fault
   pub ends : fault ≢ input.TooLong → IsAtEnd remaining_new
   pub script_is : script bytes ≡ Err fault
 
--- at most so many bytes were read
+-- at most that many bytes were read
 pub record ReadsAtMost (remaining_old remaining_new : Option (List ℕ)) (most : ℕ) : Type 0 where
   pub bytes : List ℕ
   pub read : Consumes remaining_old remaining_new bytes

@@ -19,7 +19,7 @@ pub fn white_len(bytes: &[u8]) -> usize
     bytes.iter().take_while(|byte| is_white(**byte)).count()
 }
 
-/// How many bytes of white space stand behind.
+/// How many bytes of white space stand at the end.
 fn white_len_behind(bytes: &[u8]) -> usize
     ensures { result ≡ length (take_while is_white_byte (reverse bytes.now)) }
 {
@@ -46,7 +46,7 @@ fn piece_len(bytes: &[u8]) -> usize
     bytes.len()
 }
 
-/// The text up to the first `;` outside quotes, and what is behind that `;`, where there is one.
+/// The text up to the first `;` outside quotes, and what is after that `;`, where there is one.
 fn cut(text: &str) -> (&str, Option<&str>)
     ensures { pieces false text.now ≡ record { bytes = result.0.now; closed = is_some result.1 } ∷ pieces_of result.1 }
 {
@@ -70,7 +70,7 @@ pub struct CallText<'a> {
     pub closed: bool,
 }
 
-/// The first call of a text, and what is behind the `;` that closes it, where one does. A text without bytes is no
+/// The first call of a text, and what is after the `;` that closes it, where one does. A text without bytes is no
 /// call, and is passed over.
 pub fn next_call(mut rest: Option<&str>) -> Option<(CallText<'_>, Option<&str>)>
     ensures { MatchOption result (call_texts_of rest.entry ≡ []) (λ found. call_texts_of rest.entry ≡ shown found.0 ∷ call_texts_of found.1) }

@@ -234,7 +234,7 @@ impl Table {
     }
 }
 
-/// Whether PRIMARY KEY stands behind a column's kind.
+/// Whether PRIMARY KEY stands after a column's kind.
 fn has_key(attrs: &[Attr]) -> bool
     ensures { result ≡ attrs_have_key attrs.now }
 {

@@ -137,7 +137,7 @@ fn push_joined(text: &mut Vec<u8>, alloc: Global, row: &[Value]) -> Result<(), A
     }
 }
 
-/// Each value behind a bar.
+/// Each value after a bar.
 fn push_barred(text: &mut Vec<u8>, alloc: Global, values: &[Value]) -> Result<(), AllocError>
     ensures { OnOk result (text.new.items ≡ text.old.items ++ flat_map (λ value. 124 ∷ shown_value value) values.now) }
 {

@@ -8,7 +8,9 @@ use crate::call_text::{CallText, next_call};
 use crate::grammar::statement_of;
 use crate::lexeme::LexemeFault;
 use own_base::{List, SessionNo};
-use own_model::{INPUT_BYTES, INPUT_CALLS, InputFault, Request, STATEMENT_BYTES, Script, ScriptCall};
+use own_model::{
+    INPUT_BYTES, INPUT_CALLS, InputFault, Request, STATEMENT_BYTES, Script, ScriptCall,
+};
 use std::alloc::{AllocError, Global};
 
 /// What a call's text asks for.
@@ -63,7 +65,7 @@ fn add_end(calls: &mut Vec<ScriptCall>, number: u32) -> Result<(), AllocError>
     Ok(())
 }
 
-/// The calls of a text, and End behind them where there is one.
+/// The calls of a text, and End after them where there is one.
 fn calls_of(alloc: Global, text: &str) -> Result<Vec<ScriptCall>, InputFault>
     ensures ok { IfOk result (λ calls. (length (call_texts text.now) ≤ INPUT_CALLS) × (calls.items ≡ numbered 1 (requests_of (call_texts text.now)))) }
     ensures err { IfErr result (λ fault. IsManyOf (length (call_texts text.now)) fault) }

@@ -143,15 +143,7 @@ fn mode_step_asks_the_gate_nothing(rt: HostRuntime) -> Result<(), Fail> {
         fault,
         history,
         disk,
-    } = run(
-        &rt,
-        rt.alloc(),
-        &words,
-        &mut source,
-        &mut sink,
-        disk,
-        &gate,
-    );
+    } = run(&rt, rt.alloc(), &words, &mut source, &mut sink, disk, &gate);
     let entries = history.items().len();
     drop(history);
     drop(fault);

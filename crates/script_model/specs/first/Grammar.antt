@@ -1,4 +1,4 @@
--- The statements of the calls, as rules on lexemes: a rule gives what it reads at the front, and the lexemes behind it.
+-- The statements of the calls, as rules on lexemes: a rule gives what it reads at the front, and the lexemes after it.
 use Rattle.std.specs.Prelude.{ℕ, zero, suc, ℤ, pos, negsuc, ◌^◌, List, [], ◌∷◌, length, Bool, true, not, nat_le, nat_lt, ◌==◌, ◌&&◌, Option, None, Some, codes, if◌then◌else◌}
 use Rattle.std.specs.List.{list_any}
 use Rattle.std.specs.Str.{bytes_eq}
@@ -20,7 +20,7 @@ abbrev pub after_first : {A B : Type 0} → (A → Rule B) → Option (A × List
 after_first next None = None
 after_first next (Some (read, rest)) = next read rest
 
--- one rule, and another on what is behind it, which may ask for what the first has read
+-- one rule, and another on what is after it, which may ask for what the first has read
 infixl 10 ◌>>=◌
 abbrev pub ◌>>=◌ : {A B : Type 0} → Rule A → (A → Rule B) → Rule B
 (first >>= next) lexemes = after_first next (first lexemes)
@@ -136,7 +136,7 @@ select = do
   table ← name
   pure (statement.Select (record { items = items.Star; from = table; join = None; cond = None; group = None; order = None }))
 
--- what a rule reads, where nothing is behind it
+-- what a rule reads, where nothing is after it
 abbrev pub whole : {A : Type 0} → Option (A × List Lexeme) → Option A
 whole None = None
 whole (Some (read, [])) = Some read

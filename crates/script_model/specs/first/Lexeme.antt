@@ -27,12 +27,12 @@ pub data Lexeme : Type 0 where
   Quoted : List ℕ → Lexeme
   Mark : ℕ → Lexeme
 
--- one byte more of a text's value, which took so many bytes
+-- one byte more of a text's value, which took that many bytes
 abbrev pub with_byte : ℕ → ℕ → Option (List ℕ × ℕ) → Option (List ℕ × ℕ)
 with_byte byte more None = None
 with_byte byte more (Some (value, taken)) = Some (byte ∷ value, taken + more)
 
--- A text's value, and how many bytes it takes behind its first quote, where it is closed: a quote ends it, and a
+-- A text's value, and how many bytes it takes after its first quote, where it is closed: a quote ends it, and a
 -- doubled quote stands for one. With true, the byte before was a quote, which ends it or is the first of two.
 unfoldable pub quoted_value : Bool → List ℕ → Option (List ℕ × ℕ)
 quoted_value false [] = None

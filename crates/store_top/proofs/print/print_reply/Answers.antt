@@ -1,7 +1,7 @@
 use Rattle.script_model.specs.Printed.{reply_lines}
 use Rattle.store_top.proofs.print.print_reply.Goals as goal
 
--- each piece goes behind those before it
+-- each piece goes after those before it
 pub returns : goal.returns
 unfolding reply_lines
 returns c =

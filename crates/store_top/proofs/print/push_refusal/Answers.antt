@@ -2,7 +2,7 @@ use Rattle.std.proofs.Common.{append_assoc}
 use Rattle.script_model.specs.Printed.{refusal_text}
 use Rattle.store_top.proofs.print.push_refusal.Goals as goal
 
--- each piece goes behind those before it
+-- each piece goes after those before it
 pub returns-in_ok-push_number-in-Syntax : goal.returns-in_ok-push_number-in-Syntax
 unfolding refusal_text
 returns-in_ok-push_number-in-Syntax c =
