@@ -1,4 +1,4 @@
--- What a CREATE adds to a database.
+-- What a CREATE adds to a database. This is said of the first calls alone: no views, no edges and no constraints yet.
 use Rattle.std.specs.Prelude.{ℕ, ◌+◌, List, [], ◌∷◌, ◌++◌, Bool, true, false, None, codes, if◌then◌else◌}
 use Rattle.std.specs.List.{list_any}
 use Rattle.own_model.specs.declared.create.Attr.{Attr}
@@ -20,7 +20,7 @@ is_key _ = false
 abbrev pub has_key : List Attr → Bool
 has_key attrs = list_any is_key attrs
 
--- the columns, in the text's order
+-- the columns, in the text's order; of the first calls alone, whose columns have no attribute but PRIMARY KEY
 abbrev pub columns_of : List Part → List Column
 columns_of [] = []
 columns_of (part.Column column ∷ parts) =
@@ -33,7 +33,7 @@ key_from number [] = number
 key_from number (part.Column column ∷ parts) = if has_key column.attrs then number else key_from (number + 1) parts
 key_from number (_ ∷ parts) = key_from number parts
 
--- the table that a CREATE TABLE adds
+-- the table that a CREATE TABLE adds; of the first calls alone, as its columns are
 unfoldable pub definition_of : CreateTable → TableDef
 definition_of create = record {
   name = create.name;

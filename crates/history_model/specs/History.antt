@@ -14,7 +14,8 @@ use Rattle.history_model.specs.Run.{run}
 abbrev pub History : Type 0
 History = List Entry
 
--- What is true after some entries: how many there are, and the one flat database.
+-- What is true after some entries: how many there are, and the one flat database. This is enough for the first calls
+-- alone, which have no transactions.
 pub record World : Type 0 where
   pub place : ℕ
   pub flat : Db

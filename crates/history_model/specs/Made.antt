@@ -7,14 +7,14 @@ use Rattle.history_model.specs.Built.{built}
 use Rattle.own_model.specs.Db.{Db}
 use Rattle.history_model.specs.History.{History, flat}
 
--- what running out of memory did to a call: nothing; or it came into the history, and what it reads couldn't be shown; or it
+-- what refused memory did to a call: nothing; or it came into the history, and what it reads couldn't be shown; or it
 -- wasn't made
 pub data Want : Type 0 where
   Spared : Want
   Unshown : Want
   Unmade : Want
 
--- a call, and what running out of memory did to it
+-- a call, and what refused memory did to it
 pub record Called : Type 0 where
   pub call : ScriptCall
   pub want : Want

@@ -68,7 +68,8 @@ unfoldable pub select : Db → List ℕ → Reply
 select db name = rows_or_refusal name (table_of db name)
 
 -- The database that a statement leaves, and its answer. A statement that is refused leaves the database as it was. One
--- that isn't built yet is refused as syntax.
+-- that isn't built yet is refused as syntax. This is said of the first calls alone: no views, no edges and no constraints
+-- yet.
 unfoldable pub run : Db → Statement → Outcome
 run db (CreateTable table) = record { db = create db table; reply = Done }
 run db (Insert table None (tuple ∷ [])) = insert db table tuple

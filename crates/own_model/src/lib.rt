@@ -1,6 +1,6 @@
-//! What the store speaks of, as plain types: statements and requests as they are read, the schema that they make, what
-//! a name in them is bound to, entries, replies and refusals; and the limits. What is true of them is said by the
-//! crates whose names end in `_model`; here `specs/` says what a database is.
+//! What the store speaks of: statements and requests as they are read, the schema that they make, what a name in
+//! them is bound to, histories, replies and refusals, and the limits by name. The definitions by which contracts say
+//! what is true of them stand in the `_model` crates.
 #![tactic(auto)]
 
 mod bound;

@@ -5,7 +5,7 @@ use std::fmt;
 /// Why an input has no script. Bytes count from the first of the input.
 #[derive(Clone, Copy, Debug, PartialEq, Eq)]
 pub enum InputFault {
-    /// 67,108,865 bytes or more.
+    /// More than `INPUT_BYTES` bytes.
     TooLong,
     /// No UTF-8 begins at this byte.
     NotText(u32),

@@ -97,7 +97,7 @@ place_from place call (entry ∷ history) = if is_of call entry then Some place 
 abbrev pub place_of : History → ScriptCall → Option ℕ
 place_of history call = place_from 0 call history
 
--- what is told of a reply: running out of memory may stand in the place of rows
+-- what is told of a reply: `memory` may stand in the place of rows
 abbrev pub told : Want → Reply → Reply
 told Unshown (Rows rows) = Refused Memory
 told Unshown reply = reply
@@ -124,6 +124,6 @@ unfoldable pub lines_of : Db → History → Called → List ℕ
 lines_of base history called = lines_at base history called (place_of history called.call)
 
 -- The text of calls, in their order: a call that the history has gives the lines of its reply there; one that it
--- doesn't have, or rows that running out of memory kept from being shown, give `memory`.
+-- doesn't have, or rows for which there was no memory, give `memory`.
 unfoldable pub printed : Db → History → List Called → List ℕ
 printed base history calls = flat_map (lines_of base history) calls

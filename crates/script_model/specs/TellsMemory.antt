@@ -1,4 +1,4 @@
--- Whether a text tells of running out of memory at a place of the history.
+-- Whether a text tells at a place of the history that memory was refused.
 use Rattle.std.specs.Prelude.{◌≡◌, ℕ, List, ◌++◌, Some}
 use Rattle.own_model.specs.declared.refusal.Refusal.TheVariants.{Memory}
 use Rattle.own_model.specs.declared.reply.Reply.TheVariants.{Refused}

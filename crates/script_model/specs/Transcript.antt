@@ -16,7 +16,7 @@ text_of_call base history call want =
 -- The calls were made over a database, in their order and each once, but for those that memory kept from being made; they
 -- made the history, and the text is theirs.
 pub record IsTranscript (base : Db) (calls : List ScriptCall) (history : History) (text : List ℕ) : Type 0 where
-  -- what running out of memory did to each call
+  -- what refused memory did to each call
   pub called : List Called
   pub calls_are : map (λ called. called.call) called ≡ calls
   pub unmade : AreUnmadeByMemory base [] called

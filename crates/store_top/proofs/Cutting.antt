@@ -182,6 +182,6 @@ white_end bytes text (suc n) is =
     let place : length bytes - 1 - n ≡ length bytes - suc n = omega arith in
     IsCharBoundary-before_ascii bytes (length bytes - suc n) (omega arith) (subst (λ (k : ℕ). get_or bytes k 0 < 128) place (subst (λ (b : ℕ). b < 128) at white))
 
--- the white space after may be cut off
+-- the white space at the end may be cut off
 pub white_end_boundary : (bytes : List ℕ) → IsUtf8 bytes → IsCharBoundary bytes (length bytes - length (take_while is_white (reverse bytes)))
 white_end_boundary bytes text = rw length-prefix_len (white_end bytes text (prefix_len is_white (reverse bytes)) refl)

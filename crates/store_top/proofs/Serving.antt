@@ -108,7 +108,7 @@ module _ (calls done : List ScriptCall) (call : ScriptCall) (rest : List ScriptC
       stops_at result step (ToldInPart old new)
       (told_in_part old mid new before.runs.text (text_of_call empty history call step.want) before.runs.written (subst (λ r. TellsCall r mid new (text_of_call empty history call step.want)) is step.written))
 
-  -- running out of memory
+  -- out of memory
   pub serving-refused : (result : Result (Unit {0}) RunFault) → MakesCallTo call history after mid new result → result ≡ Err Memory
       → StopsAtCall calls after (ToldBefore old new)
   serving-refused result step is =

@@ -19,7 +19,7 @@ pub fn white_len(bytes: &[u8]) -> usize
     bytes.iter().take_while(|byte| is_white(**byte)).count()
 }
 
-/// How many bytes of white space stand after.
+/// How many bytes of white space stand at the end.
 fn white_len_behind(bytes: &[u8]) -> usize
     ensures { result ≡ length (take_while is_white_byte (reverse bytes.now)) }
 {

@@ -88,7 +88,7 @@ fn is_keyword(word: &str) -> bool
     is_among(word, &KEYWORDS)
 }
 
-/// The keyword, in any case. What is after it.
+/// The keyword, in any case. What comes after it.
 fn word<'a>(alloc: Global, wanted: &str, text: &'a str) -> Result<&'a str, LexemeFault>
     requires { map to_ascii_lowercase wanted.now ≡ wanted.now }
     ensures { Gives (λ rest. (wanted.now, lexemes rest.now)) result (grammar.word wanted.now (lexemes text.now)) }
@@ -103,7 +103,7 @@ fn word<'a>(alloc: Global, wanted: &str, text: &'a str) -> Result<&'a str, Lexem
     Ok(rest)
 }
 
-/// The mark, which is a byte of ASCII. What is after it.
+/// The mark, which is a byte of ASCII. What comes after it.
 fn mark(alloc: Global, wanted: u8, text: &str) -> Result<&str, LexemeFault>
     requires { wanted < 128 }
     ensures { Gives (λ rest. (wanted, lexemes rest.now)) result (grammar.mark wanted (lexemes text.now)) }
@@ -118,7 +118,7 @@ fn mark(alloc: Global, wanted: u8, text: &str) -> Result<&str, LexemeFault>
     Ok(rest)
 }
 
-/// A name, in lower case: a word of at most `NAME_BYTES` bytes that is no keyword. What is after it.
+/// A name, in lower case: a word of at most `NAME_BYTES` bytes that is no keyword. What comes after it.
 fn name(alloc: Global, text: &str) -> Result<(Name, &str), LexemeFault>
     ensures { Gives (λ read. (read.0, lexemes read.1.now)) result (grammar.name (lexemes text.now)) }
 {
@@ -137,7 +137,7 @@ fn name(alloc: Global, text: &str) -> Result<(Name, &str), LexemeFault>
     Ok((Name::from_str(alloc, word.as_str())?, rest))
 }
 
-/// A text of at most `TEXT_BYTES` bytes. What is after it.
+/// A text of at most `TEXT_BYTES` bytes. What comes after it.
 fn text(alloc: Global, text: &str) -> Result<(Text, &str), LexemeFault>
     ensures { Gives (λ read. (read.0, lexemes read.1.now)) result (grammar.text (lexemes text.now)) }
 {
@@ -163,7 +163,7 @@ fn negative(number: u64) -> i64
     }
 }
 
-/// A number after a `-`. What is after it.
+/// A number after a `-`. What comes after it.
 fn negative_int(alloc: Global, text: &str) -> Result<(i64, &str), LexemeFault>
     ensures { Gives (λ read. (read.0, lexemes read.1.now)) result (grammar.int (Mark 45 ∷ lexemes text.now)) }
 {
@@ -177,7 +177,7 @@ fn negative_int(alloc: Global, text: &str) -> Result<(i64, &str), LexemeFault>
     Ok((negative(number), rest))
 }
 
-/// A number of i64, with its sign. What is after it.
+/// A number of i64, with its sign. What comes after it.
 fn int(alloc: Global, text: &str) -> Result<(i64, &str), LexemeFault>
     ensures { Gives (λ read. (read.0, lexemes read.1.now)) result (grammar.int (lexemes text.now)) }
 {

@@ -75,7 +75,7 @@ fn digits_len(bytes: &[u8]) -> usize
     bytes.iter().take_while(|byte| is_digit(**byte)).count()
 }
 
-/// The word in front of a text, and what is after it.
+/// The word in front of a text, and what comes after it.
 fn split_word(text: &str) -> (&str, &str)
     requires some { 0 < length text.now }
     requires begins { begins_word_byte (slice_index text.now 0) ≡ true }
@@ -85,7 +85,7 @@ fn split_word(text: &str) -> (&str, &str)
     text.split_at(word_len(text.as_bytes()))
 }
 
-/// The digits in front of a text, and what is after them.
+/// The digits in front of a text, and what comes after them.
 fn split_digits(text: &str) -> (&str, &str)
     requires some { 0 < length text.now }
     requires begins { is_digit_byte (slice_index text.now 0) ≡ true }
@@ -132,7 +132,7 @@ fn skip_white(text: &str) -> &str
     text
 }
 
-/// The lexeme of a text that begins with a quote, and what is after it.
+/// The lexeme of a text that begins with a quote, and what comes after it.
 fn quoted_lexeme(alloc: Global, text: &str) -> Result<(HeldLexeme<'_>, &str), LexemeFault>
     requires some { 0 < length text.now }
     requires begins { slice_index text.now 0 ≡ 39 }
@@ -146,7 +146,7 @@ fn quoted_lexeme(alloc: Global, text: &str) -> Result<(HeldLexeme<'_>, &str), Le
     }
 }
 
-/// The lexeme of a text that begins with no other lexeme's byte, and what is after it.
+/// The lexeme of a text that begins with no other lexeme's byte, and what comes after it.
 fn mark_lexeme(text: &str, first: u8) -> Result<(HeldLexeme<'_>, &str), LexemeFault>
     requires some { 0 < length text.now }
     requires first { slice_index text.now 0 ≡ first }
@@ -165,7 +165,7 @@ fn mark_lexeme(text: &str, first: u8) -> Result<(HeldLexeme<'_>, &str), LexemeFa
     Ok((HeldLexeme::Mark(first), rest))
 }
 
-/// The first lexeme of a text, and what is after it. Syntax where there is none, or where no rule takes it: a number
+/// The first lexeme of a text, and what comes after it. Syntax where there is none, or where no rule takes it: a number
 /// of 2 to the power of 64 or more, or a byte beyond ASCII that is in no quoted text.
 pub fn next_lexeme(alloc: Global, text: &str) -> Result<(HeldLexeme<'_>, &str), LexemeFault>
     ensures read { Gives (λ found. (seen found.0, lexemes found.1.now)) result (front_lexeme (lexemes text.now)) }

@@ -113,6 +113,7 @@ fn runs(rt: HostRuntime) -> Result<(), Fail> {
 }
 
 /// A gate that lets every call pass, and counts how often it is called.
+#[derive(Drop)]
 struct CountingGate {
     calls: AtomicU64,
 }
@@ -142,15 +143,7 @@ fn mode_step_asks_the_gate_nothing(rt: HostRuntime) -> Result<(), Fail> {
         fault,
         history,
         disk,
-    } = run(
-        &rt,
-        rt.alloc(),
-        &words,
-        &mut source,
-        &mut sink,
-        disk,
-        &gate,
-    );
+    } = run(&rt, rt.alloc(), &words, &mut source, &mut sink, disk, &gate);
     let entries = history.items().len();
     drop(history);
     drop(fault);
