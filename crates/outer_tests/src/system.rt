@@ -114,8 +114,8 @@ fn a_call_after_a_fault_begins_anew(rt: HostRuntime) {
             then,
         };
         let mut source = StdinSource::new(&system);
-        assert_eq!(rt; source.read(&mut *b"...."), Err(Failed));
-        assert_eq!(rt; source.read(&mut *b"...."), answer);
+        assert_eq!(rt; source.read(&mut [0; 4]), Err(Failed));
+        assert_eq!(rt; source.read(&mut [0; 4]), answer);
         assert_eq!(rt; source.faults(), faults);
 
         seen.set(0);
@@ -134,7 +134,7 @@ fn no_byte_is_the_end_of_input_and_a_fault_of_output(rt: HostRuntime) {
         interruptions: 0,
         then: Then::Moves(0),
     };
-    assert_eq!(rt; StdinSource::new(&system).read(&mut *b"...."), Ok(0));
+    assert_eq!(rt; StdinSource::new(&system).read(&mut [0; 4]), Ok(0));
     let mut sink = StdoutSink::new(&system);
     assert_eq!(rt; sink.write(b""), Ok(0));
     assert_eq!(rt; sink.write(BYTES), Err(Failed));
