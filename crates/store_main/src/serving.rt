@@ -1,7 +1,5 @@
 ghost use Rattle.std.specs.Prelude.{◌≡◌, ◌⊎◌, Some, None, false, map, string_bytes};
 ghost use Rattle.outer_world.specs.FaultCount.{CountRose};
-ghost use Rattle.own_model.specs.declared.script.InputFault.{InputFault as InputFaultSeen};
-ghost use Rattle.own_model.specs.History.{History};
 ghost use Rattle.store_top.specs.Status.{status_of};
 ghost use Rattle.store_top.specs.Steps.{ToldBefore, ToldInPart};
 ghost use Rattle.store_top.specs.Top.{IsBeforeCalls, IsWithoutDisk, ReadsAtMost, RefusesInput, RunsInPart, RunsWhole};
@@ -55,17 +53,17 @@ fn serve<Rt: Threads + Wait + Sync, R: Source, W: Sink>(
 
     ensures read_fault { result.fault ≡ Some TopFault.Read → CountRose (R.faults source.old) (R.faults source.new) }
     ensures write_fault { result.fault ≡ Some TopFault.Write → CountRose (W.faults sink.old) (W.faults sink.new) }
-    ensures input_fault { (fault : InputFaultSeen) → result.fault ≡ Some (TopFault.Input fault)
+    ensures input_fault { (fault : _) → result.fault ≡ Some (TopFault.Input fault)
         → RefusesInput (R.remaining source.old) (R.remaining source.new) fault }
 
     // What the run did: all of its calls, or those before the one at which it stopped.
     ensures whole { result.fault ≡ None
-        → (history : History) × RunsWhole (R.remaining source.old) (R.remaining source.new) (W.written sink.old) (W.written sink.new) history }
+        → (history : _) × RunsWhole (R.remaining source.old) (R.remaining source.new) (W.written sink.old) (W.written sink.new) history }
     ensures in_part { result.fault ≡ Some TopFault.Write
-        → (history : History) × RunsInPart (R.remaining source.old) (R.remaining source.new) history (ToldInPart (W.written sink.old) (W.written sink.new)) }
+        → (history : _) × RunsInPart (R.remaining source.old) (R.remaining source.new) history (ToldInPart (W.written sink.old) (W.written sink.new)) }
     ensures memory { result.fault ≡ Some TopFault.Memory
         → (sink.new ≡ sink.old)
-        ⊎ ((history : History) × RunsInPart (R.remaining source.old) (R.remaining source.new) history (ToldBefore (W.written sink.old) (W.written sink.new))) }
+        ⊎ ((history : _) × RunsInPart (R.remaining source.old) (R.remaining source.new) history (ToldBefore (W.written sink.old) (W.written sink.new))) }
 
     ensures silent { IsBeforeCalls result.fault → sink.new ≡ sink.old }
     ensures possible { IsWithoutDisk result.fault }
