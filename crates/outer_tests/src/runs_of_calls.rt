@@ -1,4 +1,4 @@
-ghost use Rattle.std.specs.Prelude.{◌<◌, ◌^◌};
+ghost use Rattle.std.specs.Prelude.{◌≡◌, ◌<◌, ◌^◌};
 
 use outer_world::{Failed, ReadAllFault, Sink, Source, read_all, write_all};
 use std::test::Fail;
@@ -66,7 +66,11 @@ fn no_call_follows_the_first_fault(rt: HostRuntime) -> Result<(), Fail> {
         assert_eq!(rt; source.faults, 1, "read {fails_at} fails");
 
         let mut sink = Counted::new(fails_at);
-        assert_eq!(rt; write_all(&mut sink, b"abcdef"), Err(Failed), "write {fails_at} fails");
+        assert_eq!(rt;
+            write_all(&mut sink, b"abcdef"),
+            Err(Failed),
+            "write {fails_at} fails"
+        );
         assert_eq!(rt; sink.calls, calls, "write {fails_at} fails");
         assert_eq!(rt; sink.faults, 1, "write {fails_at} fails");
     }

@@ -1,5 +1,6 @@
-ghost use Rattle.std.specs.Prelude.{◌≡◌, ◌⊎◌, Some, None, false, map, string_bytes};
+ghost use Rattle.std.specs.Prelude.{◌≡◌, ◌+◌, ◌⊎◌, Some, None, false, map, string_bytes};
 ghost use Rattle.outer_world.specs.FaultCount.{CountRose};
+ghost use Rattle.own_model.specs.declared.limit.TheConstants.{INPUT_BYTES};
 ghost use Rattle.store_top.specs.Status.{status_of};
 ghost use Rattle.store_top.specs.Steps.{ToldBefore, ToldInPart};
 ghost use Rattle.store_top.specs.Top.{IsBeforeCalls, IsWithoutDisk, ReadsAtMost, RefusesInput, RunsInPart, RunsWhole};
@@ -15,7 +16,7 @@ use store_top::{Served, TopFault, run};
 
 /// Serves the words, the program's name first, over the system's streams.
 ///
-/// The system tells nothing of its bytes, so the clauses say which status comes, and not what was read or written.
+/// The system tells nothing of its bytes, so the clauses say which status comes, and nothing of what was written.
 pub(crate) fn serve_system<Rt: Input + Print + AllocGlobal + Threads + Wait + Sync>(
     rt: &Rt,
     words: &[String],
@@ -25,6 +26,10 @@ pub(crate) fn serve_system<Rt: Input + Print + AllocGlobal + Threads + Wait + Sy
     ensures unserved { is_served (map string_bytes words.now) ≡ false
         → (result.fault ≡ Some TopFault.Usage) ⊎ (result.fault ≡ Some TopFault.Memory) }
     ensures possible { IsWithoutDisk result.fault }
+
+    // Without a fault some reader of the system was read to its end, and all the calls of what it gave were made.
+    ensures whole { result.fault ≡ None
+        → (history : _) × (before : Rt.Reader) × (after : Rt.Reader) × RunsWhole (Rt.Reader.remaining before) (Rt.Reader.remaining after) None None history }
 {
     let mut source = StdinSource::new(rt);
     let mut sink = StdoutSink::new(rt);
@@ -67,7 +72,7 @@ fn serve<Rt: Threads + Wait + Sync, R: Source, W: Sink>(
 
     ensures silent { IsBeforeCalls result.fault → sink.new ≡ sink.old }
     ensures possible { IsWithoutDisk result.fault }
-    ensures at_most { ReadsAtMost (R.remaining source.old) (R.remaining source.new) 67108865 }
+    ensures at_most { ReadsAtMost (R.remaining source.old) (R.remaining source.new) (INPUT_BYTES + 1) }
 {
     let [_, store, words @ ..] = words else {
         return usage();
