@@ -16,10 +16,10 @@ fresh_plan fails = record { fails = fails; calls = 0; faults = 0 }
 abbrev pub IsNextToFail : Plan → Type 0
 IsNextToFail plan = Contains plan.fails plan.calls
 
--- the plan behind a call without a fault
+-- the plan after a call without a fault
 abbrev pub plan_after_success : Plan → Plan
 plan_after_success plan = record plan { calls = one_higher plan.calls }
 
--- the plan behind a call that failed
+-- the plan after a call that failed
 abbrev pub plan_after_fault : Plan → Plan
 plan_after_fault plan = record plan { calls = one_higher plan.calls; faults = one_higher plan.faults }

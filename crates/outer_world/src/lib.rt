@@ -6,6 +6,7 @@ mod disk;
 mod failed;
 mod fault_plan;
 mod gate;
+mod interruption;
 mod mem_disk;
 mod mem_sink;
 mod mem_source;
@@ -14,13 +15,12 @@ mod sink;
 mod source;
 mod stdin_source;
 mod stdout_sink;
-#[cfg(test)]
-mod tests;
 mod writing;
 
 pub use disk::Disk;
 pub use failed::Failed;
 pub use gate::{Gate, Gone, NowGate};
+pub use interruption::INTERRUPTIONS;
 pub use mem_disk::MemDisk;
 pub use mem_sink::MemSink;
 pub use mem_source::MemSource;

@@ -44,11 +44,14 @@ impl MemSink {
 }
 
 impl Sink for MemSink {
-    ghost use Rattle.std.specs.Prelude.{Some};
+    ghost use Rattle.std.specs.Prelude.{◌≡◌, Some};
+    ghost use Rattle.outer_world.specs.FaultPlan.{plan_after_fault};
 
     ghost faults = { λ sink. sink.plan.faults };
 
     ghost written = { λ sink. Some sink.written };
+
+    ghost fails = { λ before after. after ≡ record before { plan = plan_after_fault before.plan } };
 
     /// Takes the whole piece. It fails where the call is to fail, and where memory for the piece is refused.
     fn write(&mut self, piece: &[u8]) -> Result<usize, Failed>

@@ -39,13 +39,16 @@ impl MemSource {
 }
 
 impl Source for MemSource {
-    ghost use Rattle.std.specs.Prelude.{Some};
+    ghost use Rattle.std.specs.Prelude.{◌≡◌, Some};
+    ghost use Rattle.outer_world.specs.FaultPlan.{plan_after_fault};
 
     ghost faults = { λ source. source.plan.faults };
 
     ghost remaining = { λ source. Some source.remaining };
 
-    /// Fills the piece, or as much of it as there are bytes left. What stands behind them in the piece stays.
+    ghost fails = { λ before after. after ≡ record before { plan = plan_after_fault before.plan } };
+
+    /// Fills the piece, or as much of it as there are bytes left. What stands after them in the piece stays.
     fn read(&mut self, into: &mut [u8]) -> Result<usize, Failed>
         ensures due { IsErr result ↔ IsNextToFail self.old.plan }
 

@@ -1,6 +1,7 @@
 ghost use Rattle.std.specs.Prelude.{◌≡◌, ◌≢◌, ◌<◌, ◌≤◌, take, vec_len, Err, IfOk, OnOk, OnErr};
 ghost use Rattle.std.specs.Io.KnownBytes.{Consumes, IsAtEnd};
 ghost use Rattle.outer_world.specs.FaultCount.{CountRose};
+ghost use Rattle.outer_world.specs.LastCall.{EndsInFault};
 ghost use Rattle.outer_world.specs.PartOfBytes.{ConsumesFewer};
 
 use crate::failed::Failed;
@@ -34,6 +35,7 @@ pub fn read_all<R: Source>(
     // `Memory` comes only where memory was refused.
     ensures fault { result ≡ Err ReadAllFault.Failed
         → CountRose (R.faults source.old) (R.faults source.new) }
+    ensures last { result ≡ Err ReadAllFault.Failed → EndsInFault R.faults R.fails source.old source.new }
     ensures steady { result ≢ Err ReadAllFault.Failed → R.faults source.new ≡ R.faults source.old }
     ensures part { OnErr result (ConsumesFewer (R.remaining source.old) (R.remaining source.new) most) }
 

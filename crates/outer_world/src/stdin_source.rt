@@ -2,10 +2,15 @@ ghost use Rattle.std.specs.Prelude.{◌≡◌, ◌<◌, ◌≤◌, ◌^◌, leng
 ghost use Rattle.std.specs.Io.KnownBytes.{Consumes, IsAtEnd, Keeps};
 
 use crate::failed::Failed;
+use crate::interruption::{INTERRUPTIONS, is_tried_again};
 use crate::source::Source;
-use std::io::{ErrorKind, Read};
+use std::io::Read;
 
 /// Standard input. It tells of its bytes what the runtime's reader tells, and the system's tells nothing.
+///
+/// Each error of the reader makes the call answer `Failed`, and the count of faults rises by one. An interrupted read
+/// is tried again, at most `INTERRUPTIONS` times in a row: an interruption that a later try makes good is no error,
+/// and the one after those is an error like any other.
 #[derive(Drop)]
 pub struct StdinSource<R: Input> {
     reader: R::Reader,
@@ -22,6 +27,13 @@ impl<R: Input> StdinSource<R> {
             reader: rt.reader(),
             faults: 0,
         }
+    }
+
+    /// The count of faults. Takes no memory.
+    pub fn faults(&self) -> u64
+        ensures { result ≡ ⟦<StdinSource<R> as Source>⟧.faults self.now }
+    {
+        self.faults
     }
 }
 
@@ -41,7 +53,7 @@ impl<R: Input> Source for StdinSource<R> {
     }
 }
 
-/// Reads once more where a signal interrupts the read. None tells of every other error.
+/// Reads, and reads again where a signal interrupted that, at most `INTERRUPTIONS` times. None tells of an error.
 fn read_unless_interrupted<R: Read>(reader: &mut R, into: &mut [u8]) -> Option<usize>
     ensures within { IfSome result (λ count. count ≤ length into.new) }
     ensures given { IfSome result (λ count.
@@ -50,10 +62,10 @@ fn read_unless_interrupted<R: Read>(reader: &mut R, into: &mut [u8]) -> Option<u
         count ≡ 0 → 0 < length into.new → IsAtEnd (R.remaining reader.new)) }
     ensures kept { IfNone result (Keeps (R.remaining reader.old) (R.remaining reader.new)) }
 {
-    for _ in 0..u64::MAX {
+    for _ in 0..=INTERRUPTIONS {
         match reader.read(into) {
             Ok(count) => return Some(count),
-            Err(error) if error.kind() == ErrorKind::Interrupted => {}
+            Err(error) if is_tried_again(error.kind()) => {}
             Err(_) => return None,
         }
     }

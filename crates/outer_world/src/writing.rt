@@ -1,6 +1,7 @@
 ghost use Rattle.std.specs.Prelude.{◌≡◌, ◌≤◌, OnOk, OnErr};
 ghost use Rattle.std.specs.Io.KnownBytes.{Appends};
 ghost use Rattle.outer_world.specs.FaultCount.{CountRose};
+ghost use Rattle.outer_world.specs.LastCall.{EndsInFault};
 ghost use Rattle.outer_world.specs.PartOfBytes.{AppendsPart};
 
 use crate::failed::Failed;
@@ -11,6 +12,7 @@ pub fn write_all<W: Sink>(sink: &mut W, bytes: &[u8]) -> Result<(), Failed>
     ensures written { OnOk result (Appends (W.written sink.old) (W.written sink.new) bytes.now) }
 
     ensures fault { OnErr result (CountRose (W.faults sink.old) (W.faults sink.new)) }
+    ensures last { OnErr result (EndsInFault W.faults W.fails sink.old sink.new) }
     ensures steady { OnOk result (W.faults sink.new ≡ W.faults sink.old) }
     ensures part { OnErr result (AppendsPart (W.written sink.old) (W.written sink.new) bytes.now) }
 

@@ -4,7 +4,7 @@ use Rattle.std.proofs.KnownBytes.{Consumes-trans, Consumes-kept}
 use Rattle.outer_world.proofs.Filling.{take-filled}
 use Rattle.outer_world.proofs.reading.read_all.Goals as goal
 
--- this turn read what stands behind the bytes that were read before it
+-- this turn read what comes after the bytes that were read before it
 pub loop-filled-preserved : goal.loop-filled-preserved
 loop-filled-preserved g c =
     let before = c.loop-filled.invariant in

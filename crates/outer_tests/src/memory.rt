@@ -1,12 +1,8 @@
-use crate::{
+use outer_world::{
     Disk, Failed, Gate, Gone, MemDisk, MemSink, MemSource, NowGate, ReadAllFault, Sink, Source,
-    StdinSource, StdoutSink, read_all, write_all,
+    read_all, write_all,
 };
 use own_base::SessionNo;
-use std::alloc::Allocator;
-use std::fmt::Display;
-use std::io;
-use std::io::{BufRead, ErrorKind, Lines, Read};
 use std::test::Fail;
 
 #[test]
@@ -102,102 +98,4 @@ fn the_open_gate_lets_pass(rt: HostRuntime) {
     let gate = NowGate;
     assert_eq!(rt; gate.before(SessionNo(1), 1), Gone::Passed);
     gate.after(SessionNo(1), 1);
-}
-
-#[test]
-fn the_system_takes_and_gives(rt: HostRuntime) {
-    assert_eq!(rt; StdinSource::new(&rt).read(&mut []), Ok(0));
-    assert_eq!(rt; StdoutSink::new(&rt).write(b"\n"), Ok(1));
-}
-
-/// A system whose input is interrupted, gives two bytes and then fails, and whose output takes so many bytes a call.
-#[derive(Drop)]
-struct Fake {
-    takes: usize,
-}
-
-#[derive(Drop)]
-struct FakeReader {
-    reads: u8,
-}
-
-#[test]
-fn errors_of_the_system_are_faults(rt: HostRuntime) {
-    let mut source = StdinSource::new(&Fake { takes: 0 });
-    let mut piece = *b"....";
-    assert_eq!(rt; source.read(&mut piece), Ok(2));
-    assert_eq!(rt; piece.as_slice(), b"ab..".as_slice());
-    assert_eq!(rt; source.read(&mut piece), Err(Failed));
-
-    let cases = [
-        (0, Err(Failed)),
-        (1, Ok(1)),
-        (3, Ok(3)),
-        (9, Ok(3)),
-        (10, Err(Failed)),
-    ];
-    for (takes, answer) in cases {
-        let fake = Fake { takes };
-        assert_eq!(rt;
-            StdoutSink::new(&fake).write(b"abc"),
-            answer,
-            "takes {takes}"
-        );
-    }
-}
-
-impl Input for Fake {
-    type Reader = FakeReader;
-
-    fn read_line<A: Allocator + Clone>(&self, _line: &mut String<A>) -> io::Result<usize> {
-        Err(io::Error::from(ErrorKind::Unsupported))
-    }
-
-    fn lines<A: Allocator>(&self, alloc: A) -> Lines<FakeReader, A> {
-        self.reader().lines(alloc)
-    }
-
-    fn reader(&self) -> FakeReader {
-        FakeReader { reads: 0 }
-    }
-}
-
-impl Read for FakeReader {
-    fn read(&mut self, into: &mut [u8]) -> io::Result<usize> {
-        self.reads = self.reads.saturating_add(1);
-        match self.reads {
-            1 => Err(io::Error::from(ErrorKind::Interrupted)),
-            2 => b"ab".as_slice().read(into),
-            _ => Err(io::Error::from(ErrorKind::Other)),
-        }
-    }
-}
-
-impl BufRead for FakeReader {
-    fn fill_buf(&mut self) -> io::Result<&[u8]> {
-        Ok(&[])
-    }
-
-    fn consume(&mut self, _amount: usize) {}
-}
-
-impl Print for Fake {
-    fn print<D: Display + Drop>(&self, _value: D) -> io::Result<()> {
-        Err(io::Error::from(ErrorKind::Unsupported))
-    }
-
-    fn println<D: Display + Drop>(&self, _value: D) -> io::Result<()> {
-        Err(io::Error::from(ErrorKind::Unsupported))
-    }
-
-    fn write_all(&self, _bytes: &[u8]) -> io::Result<()> {
-        Err(io::Error::from(ErrorKind::Unsupported))
-    }
-
-    fn write_some(&self, bytes: &[u8]) -> io::Result<usize> {
-        if self.takes > 9 {
-            return Err(io::Error::from(ErrorKind::BrokenPipe));
-        }
-        Ok(bytes.len().min(self.takes))
-    }
 }

@@ -1,0 +1,9 @@
+//! Tests of the sources, sinks, disks and gates: each public call once with ample memory, and what no contract says.
+#![tactic(auto)]
+
+#[cfg(test)]
+mod memory;
+#[cfg(test)]
+mod runs_of_calls;
+#[cfg(test)]
+mod system;
