@@ -4,15 +4,13 @@ use Rattle.std.proofs.lemmas.Bool.Decides.{eqb_tells}
 use Rattle.std.specs.Prelude.{Option, None, Some, ◌==◌, ◌&&◌}
 use Rattle.std.specs.List.{AllByRecursion, flat_map}
 use Rattle.std.proofs.lemmas.Grind.{flat_map-append}
-use Rattle.std.proofs.lemmas.List.{map-append}
 use Rattle.std.proofs.lemmas.List.Sums.{fold-append}
 use Rattle.own_model.specs.declared.history.Entry.{Entry}
-use Rattle.own_model.specs.declared.reply.Reply.{Reply}
 use Rattle.own_model.specs.declared.script.ScriptCall.{ScriptCall}
 use Rattle.own_model.specs.Db.{Db}
-use Rattle.history_model.specs.History.{History, reply}
+use Rattle.history_model.specs.History.{History}
 use Rattle.history_model.specs.Made.{Want, Spared, Unshown, Unmade, Called, added, after_call, entry_of, made, place_by}
-use Rattle.script_model.specs.Printed.{Tells, is_of, lines_at, lines_of, place_from, place_of, printed, reply_lines}
+use Rattle.script_model.specs.Printed.{is_of, lines_at, lines_of, place_from, place_of, printed}
 use Rattle.history_model.proofs.HistoryLemmas.{reply-append}
 
 -- no entry is of the call
