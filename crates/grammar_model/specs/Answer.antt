@@ -6,7 +6,7 @@ use Rattle.own_model.specs.declared.statement.Statement.{Statement}
 use Rattle.grammar_model.specs.Continues.{IsSyntaxAt, IsLimitAt}
 use Rattle.grammar_model.specs.Grammar.{statement}
 use Rattle.grammar_model.specs.Limits.{store_limits}
-use Rattle.grammar_model.specs.Terminal.{Terminals, place_of}
+use Rattle.grammar_model.specs.Terminal.{Terminals, byte_of}
 use Rattle.grammar_model.specs.Terminals.{AreTerminals}
 
 -- the statement that the text is, the byte at which no statement continues, or the limit that lets none continue
@@ -20,7 +20,7 @@ pub data Answer : Type 0 where
 abbrev pub IsAnswerFor : List ℕ → Terminals → Answer → Type 0
 IsAnswerFor text terminals (GivesStatement found) =
     statement store_limits NESTING_LEVELS found terminals [] × ((other : Statement) → statement store_limits NESTING_LEVELS other terminals [] → other ≡ found)
-IsAnswerFor text terminals (StopsAt byte) = (at : ℕ) × IsSyntaxAt terminals at × (byte ≡ place_of (length text) (drop at terminals))
+IsAnswerFor text terminals (StopsAt byte) = (at : ℕ) × IsSyntaxAt terminals at × (byte ≡ byte_of (length text) (drop at terminals))
 IsAnswerFor text terminals (PassesLimit name) = (at : ℕ) × IsLimitAt name terminals at
 
 -- the answer for the text's terminals; the text has no others

@@ -29,8 +29,8 @@ abbrev pub is_mark : List ℕ → Terminal → Bool
 is_mark mark (Written Mark bytes start) = bytes_eq bytes mark
 is_mark mark _ = false
 
--- the place in a text of that length at which these terminals begin: the first byte of a token, or the text's length
-abbrev pub place_of : ℕ → Terminals → ℕ
-place_of len [] = len
-place_of len (Written kind bytes start ∷ rest) = start
-place_of len (Slot ∷ rest) = len
+-- the byte of a text of that length at which these terminals begin: the first of a token, or the text's length
+abbrev pub byte_of : ℕ → Terminals → ℕ
+byte_of len [] = len
+byte_of len (Written kind bytes start ∷ rest) = start
+byte_of len (Slot ∷ rest) = len

@@ -17,8 +17,8 @@ is_key attr.Key = true
 is_key _ = false
 
 -- whether PRIMARY KEY stands after a column's kind
-abbrev pub has_key : List Attr → Bool
-has_key attrs = list_any is_key attrs
+abbrev pub is_primary : List Attr → Bool
+is_primary attrs = list_any is_key attrs
 
 -- the columns, in the text's order; of the first calls alone, whose columns have no attribute but PRIMARY KEY
 abbrev pub columns_of : List Part → List Column
@@ -30,7 +30,7 @@ columns_of (_ ∷ parts) = columns_of parts
 -- the number of the column that has PRIMARY KEY, where columns are counted from here on
 abbrev pub key_from : ℕ → List Part → ℕ
 key_from number [] = number
-key_from number (part.Column column ∷ parts) = if has_key column.attrs then number else key_from (number + 1) parts
+key_from number (part.Column column ∷ parts) = if is_primary column.attrs then number else key_from (number + 1) parts
 key_from number (_ ∷ parts) = key_from number parts
 
 -- the table that a CREATE TABLE adds; of the first calls alone, as its columns are

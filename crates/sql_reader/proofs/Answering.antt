@@ -10,7 +10,7 @@ use Rattle.grammar_model.specs.Terminals.{IsCutInto, AreTerminals}
 use Rattle.grammar_model.specs.Limits.{store_limits}
 use Rattle.sql_reader.specs.reading.Whole.{whole}
 use Rattle.grammar_model.specs.Terminal.{Terminals}
-use Rattle.grammar_model.specs.Terminal.{terminal_of, place_of}
+use Rattle.grammar_model.specs.Terminal.{terminal_of, byte_of}
 use Rattle.sql_reader.proofs.OneAnswer.{answers_same}
 use Rattle.sql_reader.proofs.ReaderRight.{NoSlot}
 use Rattle.sql_reader.proofs.FaultPlaces.{store_fair, syntax_at, limit_at}
@@ -34,11 +34,11 @@ answers_ok text terminals found rest is =
     (means_whole store_limits store_fair NESTING_LEVELS found terminals read, λ other text. ap (λ o. read_of o found) (sym (reads_whole store_limits store_fair NESTING_LEVELS other terminals text) ∙ read))
 
 -- a fault of syntax stands where no statement continues
-pub answers_syntax : (text : List ℕ) (tokens : List lexed.Token) (rest : Terminals) (byte : ℕ) → whole (map terminal_of tokens) ≡ Err (fault.Syntax, rest) → byte ≡ place_of (length text) rest → IsAnswerFor text (map terminal_of tokens) (StopsAt byte)
+pub answers_syntax : (text : List ℕ) (tokens : List lexed.Token) (rest : Terminals) (byte : ℕ) → whole (map terminal_of tokens) ≡ Err (fault.Syntax, rest) → byte ≡ byte_of (length text) rest → IsAnswerFor text (map terminal_of tokens) (StopsAt byte)
 unfolding whole
 answers_syntax text tokens rest byte is place =
     let stands = syntax_at (map terminal_of tokens) (no_slots tokens) rest is in
-    (stands.0, stands.1, place ∙ ap (place_of (length text)) (sym stands.2))
+    (stands.0, stands.1, place ∙ ap (byte_of (length text)) (sym stands.2))
 
 -- a limit is told where it lets no statement continue
 pub answers_limit : (text : List ℕ) (tokens : List lexed.Token) (rest : Terminals) (name : LimitName) → whole (map terminal_of tokens) ≡ Err (fault.Limit name, rest) → IsAnswerFor text (map terminal_of tokens) (PassesLimit name)

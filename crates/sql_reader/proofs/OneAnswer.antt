@@ -14,7 +14,7 @@ use Rattle.grammar_model.specs.Continues.{Continues, IsSyntaxAt, IsLimitAt, IsNo
 use Rattle.grammar_model.specs.Limits.{Limits, store_limits, no_limits}
 use Rattle.grammar_model.specs.Terminal.{Terminals}
 use Rattle.sql_reader.specs.reading.Reader.{Reading, then_read}
-use Rattle.grammar_model.specs.Terminal.{place_of}
+use Rattle.grammar_model.specs.Terminal.{byte_of}
 use Rattle.sql_reader.specs.reading.Statements.{statement_rule}
 use Rattle.sql_reader.specs.reading.Whole.{whole}
 use Rattle.sql_reader.proofs.WholeEnds.{whole-ends}
@@ -214,7 +214,7 @@ answers_same text terminals real (GivesStatement found) (PassesLimit which) is s
 answers_same text terminals real (StopsAt byte) (GivesStatement found) is same = absurd (is.1.none found same.0)
 answers_same text terminals real (StopsAt byte) (StopsAt place) is same =
     let at = read_fault terminals real is.1.none (λ fault failing. syntax_there terminals real fault failing is.0 is.1 ∙ sym (syntax_there terminals real fault failing same.0 same.1)) in
-    ap StopsAt (is.2 ∙ ap (λ n. place_of (length text) (drop n terminals)) at ∙ sym same.2)
+    ap StopsAt (is.2 ∙ ap (λ n. byte_of (length text) (drop n terminals)) at ∙ sym same.2)
 answers_same text terminals real (StopsAt byte) (PassesLimit which) is same =
     let at = read_fault terminals real is.1.none (λ fault failing. syntax_there terminals real fault failing is.0 is.1 ∙ sym (limit_there terminals real fault failing which same.0 same.1)) in
     absurd (is.1.ends same.1.goes_on.0 (subst (λ n. Continues no_limits same.1.goes_on.0 terminals (suc n)) (sym at) same.1.goes_on.1))

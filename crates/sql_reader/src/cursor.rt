@@ -189,7 +189,7 @@ impl<'a> Cursor<'a> {
 
     /// The byte at which the next token begins, or the text's length.
     pub fn place(&self, len: u32) -> u32
-        ensures { result ≡ spec.place_of len self.now }
+        ensures { result ≡ spec.byte_of len self.now }
     {
         match self.tokens.first() {
             Some(token) => token.start,

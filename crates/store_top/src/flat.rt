@@ -4,7 +4,7 @@ ghost use Rattle.std.specs.declared.cmp.Ordering.TheVariants.{Equal};
 ghost use Rattle.own_base.specs.Key.{key_cmp};
 ghost use Rattle.own_base.specs.declared.value.Value.TheVariants.{Null};
 ghost use Rattle.history_model.specs.Built.{built};
-ghost use Rattle.history_model.specs.Create.{create, has_key as attrs_have_key};
+ghost use Rattle.history_model.specs.Create.{create, is_primary as says_primary};
 ghost use Rattle.own_model.specs.Db.{as_key, empty, key_of, table_of, IsOrdered, IsRising};
 ghost use Rattle.history_model.specs.History.{answer_to, left_by};
 ghost use Rattle.script_model.specs.Printed.{MayTell};
@@ -181,7 +181,7 @@ impl Table {
         let mut number = 0;
         for part in self.create.parts.items() {
             if let Part::Column(column) = part {
-                if has_key(column.attrs.items()) {
+                if is_primary(column.attrs.items()) {
                     return number;
                 }
                 number += 1;
@@ -235,8 +235,8 @@ impl Table {
 }
 
 /// Whether PRIMARY KEY stands after a column's kind.
-fn has_key(attrs: &[Attr]) -> bool
-    ensures { result ≡ attrs_have_key attrs.now }
+fn is_primary(attrs: &[Attr]) -> bool
+    ensures { result ≡ says_primary attrs.now }
 {
     attrs.iter().any(|attr| matches!(attr, Attr::Key))
 }
