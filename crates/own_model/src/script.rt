@@ -1,3 +1,4 @@
+use crate::limit::INPUT_BYTES;
 use crate::request::Request;
 use own_base::{List, SessionNo};
 use std::fmt;
@@ -5,7 +6,7 @@ use std::fmt;
 /// Why an input has no script. Bytes count from the first of the input.
 #[derive(Clone, Copy, Debug, PartialEq, Eq)]
 pub enum InputFault {
-    /// More than `INPUT_BYTES` bytes.
+    /// More than `INPUT_BYTES` bytes, so the byte is that number.
     TooLong,
     /// No UTF-8 begins at this byte.
     NotText(u32),
@@ -23,10 +24,10 @@ impl fmt::Display for InputFault {
 
     ghost output = { λ fault. Some (fault_text fault) };
 
-    /// Where the input is refused, and why. Until the whole reader comes, the byte is always 0.
+    /// The byte at which the input is refused, and why.
     fn fmt<W: fmt::Write>(&self, f: &mut fmt::Formatter<W>) -> fmt::Result {
         match self {
-            InputFault::TooLong => write!(f, "input refused at byte 0: too long"),
+            InputFault::TooLong => write!(f, "input refused at byte {INPUT_BYTES}: too long"),
             InputFault::NotText(byte) => write!(f, "input refused at byte {byte}: not text"),
             InputFault::BadSession(byte) => {
                 write!(f, "input refused at byte {byte}: bad session line")

@@ -1,4 +1,8 @@
-pub mod Printed
-pub mod TellsMemory
-pub mod Transcript
-pub mod first
+pub mod Asked
+pub mod CallText
+pub mod Numbered
+pub mod Piece
+pub mod Script
+pub mod Session
+pub mod Split
+pub mod Stretch

@@ -1,5 +1,2 @@
-//! What goes in and what comes out: the definitions of an input's calls and of the text of their replies, in `specs/`,
-//! and the laws that hold of them, in `laws`.
+//! What the bytes of an input are: the calls of its sessions, or why it has none. The definitions stand in `specs/`.
 #![tactic(auto)]
-
-pub mod laws;

@@ -1,0 +1,2 @@
+//! Writes statements, values and replies as text.
+#![tactic(auto)]

@@ -1,0 +1,4 @@
+pub mod Printed
+pub mod TellsMemory
+pub mod Transcript
+pub mod first
