@@ -1,3 +1,4 @@
+pub mod AreBuilt
 pub mod Built
 pub mod Create
 pub mod Fault

@@ -24,7 +24,7 @@ abbrev pub entry_of : Db → History → ScriptCall → Entry
 entry_of base history call = record {
   session = call.session;
   call = call.call;
-  request = built (flat base history).schema call.request;
+  request = built (flat base history).schema call.session.0 call.request;
   verdict = Took;
 }
 
