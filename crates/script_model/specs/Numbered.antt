@@ -1,5 +1,5 @@
 -- The calls of the sessions, numbered.
-use Rattle.std.specs.Prelude.{ℕ, ◌+◌, ◌==◌, Bool, List, [], ◌∷◌, ◌++◌, length, filter, map}
+use Rattle.std.specs.Prelude.{◌≡◌, ℕ, ◌+◌, ◌==◌, Bool, List, [], ◌∷◌, ◌++◌, length, filter, map}
 use Rattle.std.specs.List.{list_any}
 use Rattle.own_model.specs.declared.request.Request.{Request}
 use Rattle.own_model.specs.declared.request.Request.TheVariants.{End}
@@ -38,3 +38,8 @@ ends_of askings = map (λ session. record { session = session; request = End }) 
 -- the calls of an input, numbered in their sessions from 1, and then the Ends, which count too
 unfoldable pub calls_of : List Asking → List ScriptCall
 calls_of askings = numbered_after [] (askings ++ ends_of askings)
+
+-- each of the calls after these has the number that comes next in its session
+abbrev pub AreNumbered : List ScriptCall → List ScriptCall → Type 0
+AreNumbered before [] = Unit {0}
+AreNumbered before (call ∷ calls) = (call.call ≡ count_of call.session.0 before + 1) × AreNumbered (before ++ call ∷ []) calls

@@ -1,6 +1,6 @@
-pub mod FirstScripts
-pub mod FirstStatements
+-- pub mod BuiltStatements
 pub mod PrintedLemmas
-pub mod SerialLemmas
+-- pub mod SerialLemmas
+-- pub mod ShortTexts
 pub mod SparedLemmas
 pub mod TranscriptLemmas

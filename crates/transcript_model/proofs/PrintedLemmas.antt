@@ -1,5 +1,6 @@
 -- The text of calls, call by call: a call's place, and its lines as the history grows.
-use Rattle.std.proofs.Common.{◌≡◌, ℕ, ◌+◌, ◌<◌, List, [], ◌∷◌, ◌++◌, length, map, Bool, true, false, refl, ap, sym, ◌∙◌, arith, append-nil, rules, inl, inr}
+use Rattle.std.proofs.Common.{◌≡◌, ℕ, ◌+◌, ◌<◌, ◌≤◌, List, [], ◌∷◌, ◌++◌, length, map, Bool, true, false, refl, ap, sym, subst, ◌∙◌, arith, append-nil, rules, inl, inr}
+use Rattle.std.proofs.lemmas.Bool.{eqb-true}
 use Rattle.std.proofs.lemmas.Bool.Decides.{eqb_tells}
 use Rattle.std.specs.Prelude.{Option, None, Some, ◌==◌, ◌&&◌}
 use Rattle.std.specs.List.{AllByRecursion, flat_map}
@@ -10,7 +11,8 @@ use Rattle.own_model.specs.declared.script.ScriptCall.{ScriptCall}
 use Rattle.own_model.specs.Db.{Db}
 use Rattle.history_model.specs.History.{History}
 use Rattle.history_model.specs.Made.{Want, Spared, Unshown, Unmade, Called, added, after_call, entry_of, made, place_by}
-use Rattle.script_model.specs.Printed.{is_of, lines_at, lines_of, place_from, place_of, printed}
+use Rattle.script_model.specs.Numbered.{count_of}
+use Rattle.transcript_model.specs.Printed.{is_of, lines_at, lines_of, place_from, place_of, printed}
 use Rattle.history_model.proofs.HistoryLemmas.{reply-append}
 
 -- no entry is of the call
@@ -102,34 +104,55 @@ unequal m n lt = elim (eqb_tells m n) [ inl (is, same) ↦ absurd (omega arith) 
 unequal_above : (m n : ℕ) → m < n → (n == m) ≡ false
 unequal_above m n lt = elim (eqb_tells n m) [ inl (is, same) ↦ absurd (omega arith) | inr (is, other) ↦ is ]
 
--- the calls, and the entries of a history, that are numbered below n
-abbrev pub CallsBelow : ℕ → List ScriptCall → Type 0
-CallsBelow n calls = AllByRecursion (λ call. call.call < n) calls
+-- the calls, and the entries of a history, whose numbers are at most that of the calls of their session among these
+abbrev pub CallsWithin : List ScriptCall → List ScriptCall → Type 0
+CallsWithin done calls = AllByRecursion (λ call. call.call ≤ count_of call.session.0 done) calls
 
-abbrev pub EntriesBelow : ℕ → History → Type 0
-EntriesBelow n history = AllByRecursion (λ entry. entry.call < n) history
+abbrev pub EntriesWithin : List ScriptCall → History → Type 0
+EntriesWithin done history = AllByRecursion (λ entry. entry.call ≤ count_of entry.session.0 done) history
 
--- none of them is of call n
-pub none_below : (call : ScriptCall) (history : History) → EntriesBelow call.call history → NoneOf call history
-none_below call [] below = tt
-none_below call (entry ∷ history) below = (rw (unequal entry.call call.call below.0) (and_false _), none_below call history below.1)
+-- the call that comes next in its session
+abbrev pub IsNext : List ScriptCall → ScriptCall → Type 0
+IsNext done call = call.call ≡ count_of call.session.0 done + 1
 
--- an entry of a later call is of none of them
-others_below : (entry : Entry) (calls : List Called) → CallsBelow entry.call (map (λ called. called.call) calls)
-    → AllByRecursion (λ called. NoneOf called.call (entry ∷ [])) calls
-others_below entry [] below = tt
-others_below entry (called ∷ calls) below =
-    ((rw (unequal_above called.call.call entry.call below.0) (and_false _), tt), others_below entry calls below.1)
+-- one of the same session has another number
+other_number : (done : List ScriptCall) (session number own next : ℕ) → number ≤ count_of session done → next ≡ count_of own done + 1
+    → (b : Bool) → (session == own) ≡ b → (b && (number == next)) ≡ false
+other_number done session number own next within is false other = refl
+other_number done session number own next within is true same =
+    let one : session ≡ own = eqb-true session own same in
+    unequal number next (let less : number ≤ count_of own done = subst (λ s. number ≤ count_of s done) one within in omega arith)
+
+-- none of them is of the next call
+pub none_within : (done : List ScriptCall) (call : ScriptCall) (history : History) → IsNext done call → EntriesWithin done history → NoneOf call history
+none_within done call [] next within = tt
+none_within done call (entry ∷ history) next within =
+    (other_number done entry.session.0 entry.call call.session.0 call.call within.0 next _ refl, none_within done call history next within.1)
+
+-- and one of the same session that comes later has another number
+later_number : (done : List ScriptCall) (session number own before : ℕ) → number ≡ count_of session done + 1 → before ≤ count_of own done
+    → (b : Bool) → (session == own) ≡ b → (b && (number == before)) ≡ false
+later_number done session number own before is within false other = refl
+later_number done session number own before is within true same =
+    let one : session ≡ own = eqb-true session own same in
+    unequal_above before number (let less : before ≤ count_of session done = subst (λ s. before ≤ count_of s done) (sym one) within in omega arith)
+
+-- an entry of the next call is of none of them
+others_within : (done : List ScriptCall) (entry : Entry) (calls : List Called) → entry.call ≡ count_of entry.session.0 done + 1
+    → CallsWithin done (map (λ called. called.call) calls) → AllByRecursion (λ called. NoneOf called.call (entry ∷ [])) calls
+others_within done entry [] next within = tt
+others_within done entry (called ∷ calls) next within =
+    ((later_number done entry.session.0 entry.call called.call.session.0 called.call.call next within.0 _ refl, tt), others_within done entry calls next within.1)
 
 nothing_of : (calls : List Called) → AllByRecursion (λ called. NoneOf called.call []) calls
 nothing_of [] = tt
 nothing_of (called ∷ calls) = (tt, nothing_of calls)
 
-pub others_added : (entry : Entry) (want : Want) (calls : List Called) → CallsBelow entry.call (map (λ called. called.call) calls)
-    → AllByRecursion (λ called. NoneOf called.call (added entry want)) calls
-others_added entry Spared calls below = others_below entry calls below
-others_added entry Unshown calls below = others_below entry calls below
-others_added entry Unmade calls below = nothing_of calls
+pub others_added : (done : List ScriptCall) (entry : Entry) (want : Want) (calls : List Called) → entry.call ≡ count_of entry.session.0 done + 1
+    → CallsWithin done (map (λ called. called.call) calls) → AllByRecursion (λ called. NoneOf called.call (added entry want)) calls
+others_added done entry Spared calls next within = others_within done entry calls next within
+others_added done entry Unshown calls next within = others_within done entry calls next within
+others_added done entry Unmade calls next within = nothing_of calls
 
 is_of_own : (base : Db) (history : History) (call : ScriptCall) → is_of call (entry_of base history call) ≡ true
 is_of_own base history call = search rules

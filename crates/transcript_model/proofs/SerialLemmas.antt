@@ -23,15 +23,15 @@ use Rattle.own_model.specs.Db.{Db, Row, Table, empty, key_of, table_from}
 use Rattle.history_model.specs.Fault.{fault, row_count, weight}
 use Rattle.history_model.specs.History.{History, World, flat, happens, left_by, world}
 use Rattle.history_model.specs.Made.{Called, Want, Spared, Unshown, Unmade, added, after_call, entry_of, made}
-use Rattle.script_model.specs.Transcript.{IsTranscript}
-use Rattle.script_model.specs.first.FirstRequest.{HasFirstRequest, IsFirstRequest}
+use Rattle.transcript_model.specs.Transcript.{IsTranscript}
+use Rattle.transcript_model.specs.first.FirstRequest.{HasFirstRequest, IsFirstRequest}
 use Rattle.history_model.specs.Run.{has_key, insert, put, run, with_row, with_tuple}
-use Rattle.script_model.specs.first.Script.{script}
+use Rattle.transcript_model.specs.first.Script.{script}
 use Rattle.history_model.specs.Serial.{Serial}
 use Rattle.history_model.specs.Sound.{AreRowsOf, IsRowOf}
 use Rattle.history_model.proofs.RisingKeys.{ordered-empty, ordered-flat}
-use Rattle.script_model.proofs.FirstStatements.{IsPair, IsPlain, TakesPairs, plain-written}
-use Rattle.script_model.proofs.FirstScripts.{AsksFirstRequest, all-append, read-script}
+use Rattle.transcript_model.proofs.FirstStatements.{IsPair, IsPlain, TakesPairs, plain-written}
+use Rattle.transcript_model.proofs.FirstScripts.{AsksFirstRequest, all-append, read-script}
 use Rattle.history_model.proofs.TableLemmas.{IsAt, all-with_row, found-at, length-with_row, rows-append, rows-at, rows-set, size-with_row, sum-set}
 
 -- a number and a text take at most 4,224

@@ -11,9 +11,10 @@ use Rattle.own_model.specs.declared.script.ScriptCall.{ScriptCall}
 use Rattle.own_model.specs.Db.{Db}
 use Rattle.history_model.specs.History.{History, reply}
 use Rattle.history_model.specs.Made.{Want, Spared, Unshown, Unmade, Called, added, after_call, entry_of, made}
-use Rattle.script_model.specs.Printed.{lines_at, lines_of, place_of, printed, reply_lines, told}
-use Rattle.script_model.specs.TellsMemory.{TellsMemory}
-use Rattle.script_model.specs.Transcript.{IsSpared, IsTranscript, spared}
+use Rattle.text_model.specs.Lines.{reply_lines}
+use Rattle.transcript_model.specs.Printed.{lines_at, lines_of, place_of, printed, told}
+use Rattle.transcript_model.specs.TellsMemory.{TellsMemory}
+use Rattle.transcript_model.specs.Transcript.{IsSpared, IsTranscript, spared}
 
 -- calls that memory refused nothing are these calls
 spared-calls : (called : List Called) → IsSpared called → called ≡ spared (map (λ called. called.call) called)

@@ -10,24 +10,28 @@ use Rattle.history_model.specs.History.{History, flat, reply}
 use Rattle.history_model.specs.Made.{Want, Spared, Unshown, Unmade, Called, added, after_call, entry_of, made, place_by}
 use Rattle.history_model.specs.MayBeUnmade.{MayBeUnmade}
 use Rattle.history_model.proofs.UnmadeLemmas.{unmade-append}
-use Rattle.script_model.specs.Printed.{Tells, lines_at, printed, reply_lines}
-use Rattle.script_model.specs.Transcript.{IsTranscript, text_of_call}
-use Rattle.script_model.proofs.PrintedLemmas.{CallsBelow, EntriesBelow, lines_of-place, made-append, none_below, others_added, place_added, printed-append, printed-last}
+use Rattle.script_model.specs.Numbered.{count_of}
+use Rattle.script_model.proofs.Counts.{count-more, count-own}
+use Rattle.script_model.proofs.InputCalls.{all-append}
+use Rattle.text_model.specs.Lines.{reply_lines}
+use Rattle.transcript_model.specs.Printed.{Tells, lines_at, printed}
+use Rattle.transcript_model.specs.Transcript.{IsTranscript, text_of_call}
+use Rattle.transcript_model.proofs.PrintedLemmas.{CallsWithin, EntriesWithin, IsNext, lines_of-place, made-append, none_within, others_added, place_added, printed-append, printed-last}
 
 -- A call more: its entry goes after the history, unless memory refused it, and its lines after the text.
 pub transcript-more : (base : Db) (calls : List ScriptCall) (history : History) (text : List ℕ) (call : ScriptCall) (want : Want)
-    → IsTranscript base calls history text → CallsBelow call.call calls → EntriesBelow call.call history
+    → IsTranscript base calls history text → IsNext calls call → CallsWithin calls calls → EntriesWithin calls history
     → (want ≡ Unmade → MayBeUnmade (flat base history) (entry_of base history call).request)
     → IsTranscript base (calls ++ call ∷ []) (history ++ added (entry_of base history call) want)
     (text ++ lines_at base (history ++ added (entry_of base history call) want) (record { call = call; want = want }) (place_by want (length history)))
 unfolding made
-transcript-more base calls history text call want run below earlier cause =
+transcript-more base calls history text call want run next within earlier cause =
     let last : Called = record { call = call; want = want } in
     let grown = history ++ added (entry_of base history call) want in
     let same_calls = map-append (λ called. called.call) run.called (last ∷ []) ∙ ap (λ calls. calls ++ call ∷ []) run.calls_are in
-    let others = others_added (entry_of base history call) want run.called (rw run.calls_are below) in
+    let others = others_added calls (entry_of base history call) want run.called next (rw run.calls_are within) in
     let before = run.text_is ∙ sym (printed-append base history (added (entry_of base history call) want) run.called others) in
-    let lines = lines_of-place base grown last (place_by want (length history)) (place_added base history call want (none_below call history earlier)) in
+    let lines = lines_of-place base grown last (place_by want (length history)) (place_added base history call want (none_within calls call history next earlier)) in
     record {
       called = run.called ++ last ∷ [];
       calls_are = same_calls;
@@ -43,24 +47,32 @@ pub transcript-none : (base : Db) → IsTranscript base [] [] []
 unfolding made printed
 transcript-none base = record { called = []; calls_are = refl; unmade = tt; history_is = refl; text_is = refl }
 
--- calls and entries numbered below n are numbered below more
-pub calls_below-more : (n : ℕ) (calls : List ScriptCall) (call : ScriptCall) → CallsBelow n calls → call.call ≡ n → CallsBelow (n + 1) (calls ++ call ∷ [])
-calls_below-more n [] call below is = (omega arith, tt)
-calls_below-more n (first ∷ calls) call below is = ((let lt = below.0 in omega arith), calls_below-more n calls call below.1 is)
+-- what is within the calls is within these and one more
+calls_kept : (done : List ScriptCall) (more : ScriptCall) (calls : List ScriptCall) → CallsWithin done calls → CallsWithin (done ++ more ∷ []) calls
+calls_kept done more [] within = tt
+calls_kept done more (call ∷ calls) within =
+    (let least = count-more call.session.0 done more in let own = within.0 in omega arith, calls_kept done more calls within.1)
 
-entries_below-next : (n : ℕ) (history : History) → EntriesBelow n history → EntriesBelow (n + 1) history
-entries_below-next n [] below = tt
-entries_below-next n (first ∷ history) below = ((let lt = below.0 in omega arith), entries_below-next n history below.1)
+-- and so is the one
+pub calls_within-more : (done : List ScriptCall) (call : ScriptCall) → IsNext done call → CallsWithin done done → CallsWithin (done ++ call ∷ []) (done ++ call ∷ [])
+calls_within-more done call next within =
+    all-append _ done (call ∷ []) (calls_kept done call done within) (let own = count-own done call in omega arith, tt)
 
-entries_below-last : (n : ℕ) (history : History) (entry : Entry) → EntriesBelow n history → entry.call ≡ n → EntriesBelow (n + 1) (history ++ entry ∷ [])
-entries_below-last n [] entry below is = (omega arith, tt)
-entries_below-last n (first ∷ history) entry below is = ((let lt = below.0 in omega arith), entries_below-last n history entry below.1 is)
+entries_kept : (done : List ScriptCall) (more : ScriptCall) (history : History) → EntriesWithin done history → EntriesWithin (done ++ more ∷ []) history
+entries_kept done more [] within = tt
+entries_kept done more (entry ∷ history) within =
+    (let least = count-more entry.session.0 done more in let own = within.0 in omega arith, entries_kept done more history within.1)
 
-pub entries_below-more : (base : Db) (n : ℕ) (history : History) (call : ScriptCall) (want : Want) → EntriesBelow n history → call.call ≡ n
-    → EntriesBelow (n + 1) (history ++ added (entry_of base history call) want)
-entries_below-more base n history call Spared below is = entries_below-last n history (entry_of base history call) below is
-entries_below-more base n history call Unshown below is = entries_below-last n history (entry_of base history call) below is
-entries_below-more base n history call Unmade below is = rw append-nil (entries_below-next n history below)
+entries_last : (base : Db) (done : List ScriptCall) (history : History) (call : ScriptCall) → IsNext done call → EntriesWithin done history
+    → EntriesWithin (done ++ call ∷ []) (history ++ entry_of base history call ∷ [])
+entries_last base done history call next within =
+    all-append _ history (entry_of base history call ∷ []) (entries_kept done call history within) (let own = count-own done call in omega arith, tt)
+
+pub entries_within-more : (base : Db) (done : List ScriptCall) (history : History) (call : ScriptCall) (want : Want) → IsNext done call → EntriesWithin done history
+    → EntriesWithin (done ++ call ∷ []) (history ++ added (entry_of base history call) want)
+entries_within-more base done history call Spared next within = entries_last base done history call next within
+entries_within-more base done history call Unshown next within = entries_last base done history call next within
+entries_within-more base done history call Unmade next within = rw append-nil (entries_kept done call history within)
 
 told_step : (base : Db) (history : History) (call : ScriptCall) (shown : Reply) (reply_there : Option Reply)
     → reply base (history ++ entry_of base history call ∷ []) (length history) ≡ reply_there → Tells shown reply_there

@@ -1,4 +1,3 @@
 pub mod Printed
 pub mod TellsMemory
 pub mod Transcript
-pub mod first

@@ -2,7 +2,7 @@
 use Rattle.std.specs.Prelude.{◌≡◌, ℕ, List, ◌++◌, Some}
 use Rattle.own_model.specs.declared.refusal.Refusal.TheVariants.{Memory}
 use Rattle.own_model.specs.declared.reply.Reply.TheVariants.{Refused}
-use Rattle.script_model.specs.Printed.{reply_lines}
+use Rattle.text_model.specs.Lines.{reply_lines}
 
 -- the line of a call that has a place and is told as `memory` stands in the text
 pub record TellsMemory (text : List ℕ) : Type 0 where

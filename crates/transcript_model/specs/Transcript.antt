@@ -6,7 +6,7 @@ use Rattle.own_model.specs.Db.{Db}
 use Rattle.history_model.specs.History.{History}
 use Rattle.history_model.specs.Made.{Called, Want, Spared, added, entry_of, made, place_by}
 use Rattle.history_model.specs.MayBeUnmade.{AreUnmadeByMemory}
-use Rattle.script_model.specs.Printed.{lines_at, printed}
+use Rattle.transcript_model.specs.Printed.{lines_at, printed}
 
 -- the text of one call more
 abbrev pub text_of_call : Db → History → ScriptCall → Want → List ℕ

@@ -8,10 +8,10 @@ ghost use Rattle.own_model.specs.Db.{Db, empty};
 ghost use Rattle.history_model.specs.History.{History};
 ghost use Rattle.history_model.specs.Made.{Called, made};
 ghost use Rattle.history_model.specs.Serial.{Serial};
-ghost use Rattle.script_model.specs.Printed.{printed};
-ghost use Rattle.script_model.specs.TellsMemory.{TellsMemory};
-ghost use Rattle.script_model.specs.Transcript.{IsSpared, IsTranscript, spared};
-ghost use Rattle.script_model.specs.first.FirstRequest.{HasFirstRequest};
+ghost use Rattle.transcript_model.specs.Printed.{printed};
+ghost use Rattle.transcript_model.specs.TellsMemory.{TellsMemory};
+ghost use Rattle.transcript_model.specs.Transcript.{IsSpared, IsTranscript, spared};
+ghost use Rattle.transcript_model.specs.first.FirstRequest.{HasFirstRequest};
 
 /// Over the empty database a history of entries that can be read passes no limit at any place, where it has at most one
 /// for each call that an input may have, and one for the end; keys rise there, and rows have their tables' lengths and

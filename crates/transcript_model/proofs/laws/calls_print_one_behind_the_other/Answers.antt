@@ -1,6 +1,6 @@
 use Rattle.std.proofs.lemmas.Grind.{flat_map-append}
-use Rattle.script_model.specs.Printed.{lines_of, printed}
-use Rattle.script_model.proofs.laws.calls_print_one_behind_the_other.Goals as goal
+use Rattle.transcript_model.specs.Printed.{lines_of, printed}
+use Rattle.transcript_model.proofs.laws.calls_print_one_behind_the_other.Goals as goal
 
 pub returns : goal.returns
 unfolding printed

@@ -10,10 +10,10 @@ use Rattle.own_model.specs.declared.statement.Statement.{Statement}
 use Rattle.own_model.specs.declared.statement.Statement.TheVariants as statement
 use Rattle.history_model.specs.Create.{definition_of}
 use Rattle.own_model.specs.Db.{Row}
-use Rattle.script_model.specs.first.Grammar.{Rule, after_first, create, create_of, first_of, insert, int, mark, name, select, statement_of, text, where_holds, whole, word}
-use Rattle.script_model.specs.first.FirstRequest.{IsFirstStatement}
+use Rattle.transcript_model.specs.first.Grammar.{Rule, after_first, create, create_of, first_of, insert, int, mark, name, select, statement_of, text, where_holds, whole, word}
+use Rattle.transcript_model.specs.first.FirstRequest.{IsFirstStatement}
 use Rattle.history_model.specs.Sound.{IsRowOf}
-use Rattle.script_model.specs.first.Lexeme.{Lexeme, Word, Number, Quoted, Mark, lexemes}
+use Rattle.transcript_model.specs.first.Lexeme.{Lexeme, Word, Number, Quoted, Mark, lexemes}
 
 -- a number and a text of at most TEXT_BYTES bytes
 pub record IsPair (tuple : Row) : Type 0 where
