@@ -1,19 +1,27 @@
--- What the statements are that the grammar gives.
+-- What the statements are that are built.
 use Rattle.std.proofs.Common.{◌≡◌, ℕ, ◌≤◌, List, [], ◌∷◌, length, Bool, true, false, refl}
-use Rattle.std.specs.Prelude.{ℤ, Option, Some, None, nat_le, codes, if◌then◌else◌}
+use Rattle.std.specs.Prelude.{ℤ, ◌&&◌, ◌==◌}
 use Rattle.std.specs.List.{AllByRecursion}
-use Rattle.std.proofs.lemmas.Bool.{leb-true}
 use Rattle.own_model.specs.declared.limit.TheConstants.{TEXT_BYTES}
+use Rattle.own_base.specs.declared.value.Value.{Value}
 use Rattle.own_base.specs.declared.value.Value.TheVariants as value
+use Rattle.own_model.specs.declared.create.ColumnDef.{ColumnDef}
+use Rattle.own_model.specs.declared.create.CreateTable.{CreateTable}
+use Rattle.own_model.specs.declared.create.Part.{Part}
+use Rattle.own_model.specs.declared.create.Part.TheVariants as part
+use Rattle.own_model.specs.declared.request.Request.{Request}
+use Rattle.own_model.specs.declared.request.Request.TheVariants.{Run, Syntax}
+use Rattle.own_model.specs.declared.schema.Kind.{Kind}
+use Rattle.own_model.specs.declared.schema.Kind.TheVariants as kind
+use Rattle.own_model.specs.declared.schema.Schema.{Schema}
 use Rattle.own_model.specs.declared.schema.TableDef.{TableDef}
 use Rattle.own_model.specs.declared.statement.Statement.{Statement}
 use Rattle.own_model.specs.declared.statement.Statement.TheVariants as statement
-use Rattle.history_model.specs.Create.{definition_of}
 use Rattle.own_model.specs.Db.{Row}
-use Rattle.transcript_model.specs.first.Grammar.{Rule, after_first, create, create_of, first_of, insert, int, mark, name, select, statement_of, text, where_holds, whole, word}
-use Rattle.transcript_model.specs.first.FirstRequest.{IsFirstStatement}
+use Rattle.history_model.specs.Built.{are_two_columns, built, is_built, is_int, is_pair, is_text}
+use Rattle.history_model.specs.Create.{definition_of}
 use Rattle.history_model.specs.Sound.{IsRowOf}
-use Rattle.transcript_model.specs.first.Lexeme.{Lexeme, Word, Number, Quoted, Mark, lexemes}
+use Rattle.transcript_model.proofs.ShortTexts.{AreShort, HasShortTexts}
 
 -- a number and a text of at most TEXT_BYTES bytes
 pub record IsPair (tuple : Row) : Type 0 where
@@ -27,98 +35,63 @@ abbrev pub TakesPairs : TableDef → Type 0
 TakesPairs table = (tuple : Row) → IsPair tuple → IsRowOf table tuple
 
 -- a CREATE of a table for such tuples, an INSERT of such tuples, or another statement
-abbrev pub IsPlain : Statement → Type 0
-IsPlain (statement.CreateTable table) = TakesPairs (definition_of table)
-IsPlain (statement.Insert table columns rows) = AllByRecursion IsPair rows
-IsPlain _ = Unit {0}
+abbrev pub IsSimple : Statement → Type 0
+IsSimple (statement.CreateTable table) = TakesPairs (definition_of table)
+IsSimple (statement.Insert table columns rows) = AllByRecursion IsPair rows
+IsSimple _ = Unit {0}
 
--- what is read has the property
-abbrev Reads : {A : Type 0} → (A → Type 0) → Option (A × List Lexeme) → Type 0
-Reads P None = Unit {0}
-Reads P (Some (read, rest)) = P read
+left : (a b : Bool) → a && b ≡ true → a ≡ true
+left true b both = refl
+left false b both = cc
 
--- so has what is read after it, whatever that is
-behind : {A B : Type 0} (P : B → Type 0) (next : A → Rule B) (first : Option (A × List Lexeme))
-    → ((read : A) (rest : List Lexeme) → Reads P (next read rest)) → Reads P (after_first next first)
-behind P next None more = tt
-behind P next (Some (read, rest)) more = more read rest
+right : (a b : Bool) → a && b ≡ true → b ≡ true
+right true b both = both
+right false b both = cc
 
--- or where the first has a property of its own
-behind_own : {A B : Type 0} (Q : A → Type 0) (P : B → Type 0) (next : A → Rule B) (first : Option (A × List Lexeme)) → Reads Q first
-    → ((read : A) (rest : List Lexeme) → Q read → Reads P (next read rest)) → Reads P (after_first next first)
-behind_own Q P next None has more = tt
-behind_own Q P next (Some (read, rest)) has more = more read rest has
+int-kind : (of : Kind) → is_int of ≡ true → of ≡ kind.Int
+int-kind kind.Int is = refl
+int-kind kind.Text is = cc
+int-kind kind.Sum is = cc
 
--- a table that the grammar creates takes pairs
-takes : (table key column : List ℕ) → IsPlain (create_of table key column)
+text-kind : (of : Kind) → is_text of ≡ true → of ≡ kind.Text
+text-kind kind.Int is = cc
+text-kind kind.Text is = refl
+text-kind kind.Sum is = cc
+
+-- a table of two such columns takes pairs
+takes : (name : List ℕ) (subject : Bool) (key column : ColumnDef) (rest : List Part) → rest ≡ []
+    → key.kind ≡ kind.Int → column.kind ≡ kind.Text
+    → TakesPairs (definition_of (record { name = name; subject = subject; parts = part.Column key ∷ part.Column column ∷ rest }))
 unfolding definition_of
-takes table key column tuple pair = rw (pair.is) (record { kinds = (refl, (refl, tt)); short = (tt, (pair.short, tt)) })
+takes name subject key column rest none int text tuple pair =
+    rw (pair.is, none) (record { kinds = (int, (text, tt)); short = (tt, (pair.short, tt)) })
 
-created : (table key column : List ℕ) (holds : Bool) (rest : List Lexeme) → Reads IsPlain (where_holds holds (create_of table key column) rest)
-created table key column true rest = takes table key column
-created table key column false rest = tt
+create_step : (create : CreateTable) (parts : List Part) → create.parts ≡ parts → are_two_columns parts ≡ true → TakesPairs (definition_of create)
+create_step create (part.Column key ∷ part.Column column ∷ []) is two =
+    let by : TakesPairs (definition_of (record { name = create.name; subject = create.subject; parts = part.Column key ∷ part.Column column ∷ [] })) =
+    takes create.name create.subject key column [] refl (int-kind key.kind (left _ _ (left _ _ (left _ _ (left _ _ two)))))
+    (text-kind column.kind (right _ _ (left _ _ (left _ _ two)))) in
+    let same : create ≡ record { name = create.name; subject = create.subject; parts = part.Column key ∷ part.Column column ∷ [] } =
+    (λ i. record { name = create.name; subject = create.subject; parts = is i }) in
+    rw same by
+create_step create _ is two = cc
 
-create-plain : (lexemes : List Lexeme) → Reads IsPlain (create lexemes)
-unfolding create
-create-plain lexemes =
-    behind IsPlain _ (word (codes "create") lexemes) (λ _ rest. behind IsPlain _ (word (codes "data_subject") rest) (λ _ rest.
-    behind IsPlain _ (word (codes "table") rest) (λ _ rest. behind IsPlain _ (name rest) (λ table rest.
-    behind IsPlain _ (mark 40 rest) (λ _ rest. behind IsPlain _ (name rest) (λ key rest.
-    behind IsPlain _ (word (codes "int") rest) (λ _ rest. behind IsPlain _ (word (codes "primary") rest) (λ _ rest.
-    behind IsPlain _ (word (codes "key") rest) (λ _ rest. behind IsPlain _ (mark 44 rest) (λ _ rest.
-    behind IsPlain _ (name rest) (λ column rest. behind IsPlain _ (word (codes "text") rest) (λ _ rest.
-    behind IsPlain _ (mark 41 rest) (λ _ rest. created table key column _ rest)))))))))))))
+insert_step : (rows : List (List Value)) → AreShort rows → is_pair rows ≡ true → AllByRecursion IsPair rows
+insert_step ((value.Int number ∷ value.Text bytes ∷ []) ∷ []) short is = (record { number = number; bytes = bytes; short = short.0.1.0; is = refl }, tt)
+insert_step _ short is = cc
 
--- a text of the grammar has at most TEXT_BYTES bytes
-text_step : (found : List ℕ) (rest : List Lexeme) (holds : Bool) → nat_le (length found) TEXT_BYTES ≡ holds
-    → Reads (λ bytes. length bytes ≤ TEXT_BYTES) (if holds then Some (found, rest) else None)
-text_step found rest true is = leb-true _ _ is
-text_step found rest false is = tt
+-- a statement that is built and can be read
+pub simple-built : (schema : Schema) (found : Statement) → HasShortTexts found → is_built schema found ≡ true → IsSimple found
+simple-built schema (statement.CreateTable create) short is = create_step create create.parts refl (right _ _ (left _ _ is))
+simple-built schema (statement.Insert table columns rows) short is = insert_step rows short (right _ _ is)
+simple-built schema _ short is = tt
 
-text-short : (lexemes : List Lexeme) → Reads (λ bytes. length bytes ≤ TEXT_BYTES) (text lexemes)
-unfolding text
-text-short [] = tt
-text-short (Word found ∷ rest) = tt
-text-short (Number found ∷ rest) = tt
-text-short (Quoted found ∷ rest) = text_step found rest _ refl
-text-short (Mark found ∷ rest) = tt
+built_step : (schema : Schema) (session : ℕ) (found : Statement) → (b : Bool) → (session == 1 && is_built schema found) ≡ b
+    → built schema session (Run found) ≡ Run found → is_built schema found ≡ true
+unfolding built
+built_step schema session found true is same = right _ _ is
+built_step schema session found false is same = let never : ◌≡◌ {A = Request} (Syntax 0) (Run found) = rw is at same in cc
 
-insert-plain : (lexemes : List Lexeme) → Reads IsPlain (insert lexemes)
-unfolding insert
-insert-plain lexemes =
-    behind IsPlain _ (word (codes "insert") lexemes) (λ _ rest. behind IsPlain _ (word (codes "into") rest) (λ _ rest.
-    behind IsPlain _ (name rest) (λ table rest. behind IsPlain _ (word (codes "values") rest) (λ _ rest.
-    behind IsPlain _ (mark 40 rest) (λ _ rest. behind IsPlain _ (int rest) (λ key rest.
-    behind IsPlain _ (mark 44 rest) (λ _ rest.
-    behind_own (λ bytes. length bytes ≤ TEXT_BYTES) IsPlain _ (text rest) (text-short rest) (λ column rest short.
-    behind IsPlain _ (mark 41 rest) (λ _ _. (record { number = key; bytes = column; short = short; is = refl }, tt))))))))))
-
-select-plain : (lexemes : List Lexeme) → Reads IsPlain (select lexemes)
-unfolding select
-select-plain lexemes =
-    behind IsPlain _ (word (codes "select") lexemes) (λ _ rest. behind IsPlain _ (mark 42 rest) (λ _ rest.
-    behind IsPlain _ (word (codes "from") rest) (λ _ rest. behind IsPlain _ (name rest) (λ _ _. tt))))
-
--- the statement, where there is one
-abbrev Is : Option Statement → Type 0
-Is None = Unit {0}
-Is (Some statement) = IsPlain statement
-
-whole-plain : (read : Option (Statement × List Lexeme)) → Reads IsPlain read → Is (whole read)
-whole-plain None plain = tt
-whole-plain (Some (statement, [])) plain = plain
-whole-plain (Some (statement, lexeme ∷ rest)) plain = tt
-
-first-plain : (first second : Option Statement) → Is first → Is second → Is (first_of first second)
-first-plain None second plain more = more
-first-plain (Some statement) second plain more = plain
-
-statement-plain : (lexemes : List Lexeme) → Is (statement_of lexemes)
-unfolding statement_of
-statement-plain lexemes = first-plain _ _ (whole-plain _ (create-plain lexemes))
-    (first-plain _ _ (whole-plain _ (insert-plain lexemes)) (whole-plain _ (select-plain lexemes)))
-
--- a statement of the grammar is such a CREATE, such an INSERT, or a SELECT
-pub plain-written : (statement : Statement) → IsFirstStatement statement → IsPlain statement
-plain-written statement written =
-    let plain = statement-plain (lexemes written.text) in rw written.reads at plain
+-- a statement that comes into the history as it is, is built
+pub is_built-of : (schema : Schema) (session : ℕ) (found : Statement) → built schema session (Run found) ≡ Run found → is_built schema found ≡ true
+is_built-of schema session found same = built_step schema session found _ refl same

@@ -1,6 +1,6 @@
--- pub mod BuiltStatements
+pub mod BuiltStatements
 pub mod PrintedLemmas
--- pub mod SerialLemmas
--- pub mod ShortTexts
+pub mod SerialLemmas
+pub mod ShortTexts
 pub mod SparedLemmas
 pub mod TranscriptLemmas

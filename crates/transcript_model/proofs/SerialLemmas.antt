@@ -1,11 +1,11 @@
 -- Every history of few entries is Serial.
-use Rattle.std.proofs.Common.{◌≡◌, ℕ, zero, suc, ◌+◌, ◌*◌, ◌≤◌, List, [], ◌∷◌, ◌++◌, length, map, fold, take, Bool, true, false, refl, ap, sym, subst, ◌∙◌, arith}
-use Rattle.std.specs.Prelude.{Option, Some, None, Result, Ok, Err, slice_get, slice_set, sum_by, nat_lt, ◌==◌, if◌then◌else◌}
+use Rattle.std.proofs.Common.{◌≡◌, ℕ, zero, suc, ◌+◌, ◌*◌, ◌≤◌, List, [], ◌∷◌, ◌++◌, length, map, fold, take, Bool, true, false, refl, ap, sym, subst, ◌∙◌, arith, append-nil}
+use Rattle.std.specs.Prelude.{Option, Some, None, Result, Ok, Err, slice_get, slice_set, sum_by, nat_lt, ◌==◌, ◌&&◌}
 use Rattle.std.specs.List.{AllByRecursion, list_any}
 use Rattle.std.proofs.lemmas.Bool.{lt-leb}
 use Rattle.std.proofs.lemmas.List.{length-append, length-map, length-take-le}
 use Rattle.std.proofs.lemmas.List.Sums.{sum_by_push}
-use Rattle.own_model.specs.declared.limit.TheConstants.{INPUT_CALLS, STORE_ROWS, STORE_WEIGHT}
+use Rattle.own_model.specs.declared.limit.TheConstants.{INPUT_CALLS, SESSIONS, STORE_ROWS, STORE_WEIGHT}
 use Rattle.own_base.specs.Row.{row_size}
 use Rattle.own_base.specs.declared.value.Key.{Key}
 use Rattle.own_model.specs.declared.create.CreateTable.{CreateTable}
@@ -17,21 +17,23 @@ use Rattle.own_model.specs.declared.schema.TableDef.{TableDef}
 use Rattle.own_model.specs.declared.script.ScriptCall.{ScriptCall}
 use Rattle.own_model.specs.declared.statement.Statement.{Statement}
 use Rattle.own_model.specs.declared.statement.Statement.TheVariants as statement
-use Rattle.history_model.specs.Built.{built}
+use Rattle.grammar_model.specs.Readable.{IsReadable}
+use Rattle.script_model.specs.Script.{HasCalls}
+use Rattle.history_model.specs.AreBuilt.{AreBuilt}
+use Rattle.history_model.specs.Built.{built, is_built}
 use Rattle.history_model.specs.Create.{create, definition_of}
 use Rattle.own_model.specs.Db.{Db, Row, Table, empty, key_of, table_from}
 use Rattle.history_model.specs.Fault.{fault, row_count, weight}
 use Rattle.history_model.specs.History.{History, World, flat, happens, left_by, world}
 use Rattle.history_model.specs.Made.{Called, Want, Spared, Unshown, Unmade, added, after_call, entry_of, made}
 use Rattle.transcript_model.specs.Transcript.{IsTranscript}
-use Rattle.transcript_model.specs.first.FirstRequest.{HasFirstRequest, IsFirstRequest}
 use Rattle.history_model.specs.Run.{has_key, insert, put, run, with_row, with_tuple}
-use Rattle.transcript_model.specs.first.Script.{script}
 use Rattle.history_model.specs.Serial.{Serial}
 use Rattle.history_model.specs.Sound.{AreRowsOf, IsRowOf}
 use Rattle.history_model.proofs.RisingKeys.{ordered-empty, ordered-flat}
-use Rattle.transcript_model.proofs.FirstStatements.{IsPair, IsPlain, TakesPairs, plain-written}
-use Rattle.transcript_model.proofs.FirstScripts.{AsksFirstRequest, all-append, read-script}
+use Rattle.transcript_model.proofs.BuiltStatements.{IsPair, IsSimple, TakesPairs, is_built-of, simple-built}
+use Rattle.transcript_model.proofs.ShortTexts.{written-short}
+use Rattle.script_model.proofs.InputCalls.{all-append, calls-few, calls-readable}
 use Rattle.history_model.proofs.TableLemmas.{IsAt, all-with_row, found-at, length-with_row, rows-append, rows-at, rows-set, size-with_row, sum-set}
 
 -- a number and a text take at most 4,224
@@ -105,38 +107,45 @@ few-create db most table takes few = record {
   light = (let same = sum_by_push (sum_by row_size) db.rows [] in let w = few.light in omega arith);
 }
 
--- a statement of the grammar adds one row at most
-few-run : (db : Db) (statement : Statement) (most : ℕ) → IsPlain statement → HasFew db most → HasFew (run db statement).db (most + 1)
+-- a statement that is built adds one row at most
+few-run : (db : Db) (statement : Statement) (most : ℕ) → IsSimple statement → HasFew db most → HasFew (run db statement).db (most + 1)
 unfolding run
-few-run db (statement.CreateTable table) most plain few = few-create db most table plain few
-few-run db (statement.Insert table None (tuple ∷ [])) most plain few = insert_step db table tuple most plain.0 few _ refl
-few-run db _ most plain few = more db most few
+few-run db (statement.CreateTable table) most simple few = few-create db most table simple few
+few-run db (statement.Insert table None (tuple ∷ [])) most simple few = insert_step db table tuple most simple.0 few _ refl
+few-run db _ most simple few = more db most few
 
--- so does a request
-few-left_by : (db : Db) (request : Request) (most : ℕ) → IsFirstRequest request → HasFew db most → HasFew (left_by db request) (most + 1)
+-- so does a request that can be read and is built
+few-left_by : (db : Db) (session : ℕ) (request : Request) (most : ℕ) → IsReadable request → built db.schema session request ≡ request → HasFew db most
+    → HasFew (left_by db request) (most + 1)
 unfolding left_by
-few-left_by db (Run statement) most readable few = few-run db statement most (plain-written statement readable) few
-few-left_by db (Syntax byte) most readable few = more db most few
-few-left_by db (Limit passed) most readable few = more db most few
-few-left_by db End most readable few = more db most few
+few-left_by db session (Run statement) most readable same few =
+    few-run db statement most (simple-built db.schema statement (written-short _ statement readable) (is_built-of db.schema session statement same)) few
+few-left_by db session (Syntax byte) most readable same few = more db most few
+few-left_by db session (Limit passed) most readable same few = more db most few
+few-left_by db session End most readable same few = more db most few
 
-few-fold : (before : World) (history : History) (most : ℕ) → AllByRecursion HasFirstRequest history → HasFew before.flat most
+-- an entry of a request that can be read
+abbrev pub HasReadable : Entry → Type 0
+HasReadable entry = IsReadable entry.request
+
+few-fold : (before : World) (history : History) (most : ℕ) → AllByRecursion HasReadable history → AreBuilt before.flat history → HasFew before.flat most
     → HasFew (fold happens before history).flat (most + length history)
-few-fold before [] most readable few = subst (HasFew before.flat) (omega arith) few
-few-fold before (entry ∷ history) most readable few =
-    let step = few-fold (happens before entry) history (most + 1) readable.1 (few-left_by before.flat entry.request most readable.0 few) in
+few-fold before [] most readable are_built few = subst (HasFew before.flat) (omega arith) few
+few-fold before (entry ∷ history) most readable are_built few =
+    let next = few-left_by before.flat entry.session.0 entry.request most readable.0 are_built.0 few in
+    let step = few-fold (happens before entry) history (most + 1) readable.1 are_built.1 next in
     subst (HasFew (fold happens before (entry ∷ history)).flat) (omega arith) step
 
 few-empty : HasFew empty 0
 few-empty = record { pairs = tt; rows = tt; count = omega arith; light = omega arith }
 
 -- a history leaves at most a row for each entry
-few-flat : (history : History) → AllByRecursion HasFirstRequest history → HasFew (flat empty history) (length history)
+few-flat : (history : History) → AllByRecursion HasReadable history → AreBuilt empty history → HasFew (flat empty history) (length history)
 unfolding flat world
-few-flat history readable = subst (HasFew (flat empty history)) (omega arith) (few-fold _ history 0 readable few-empty)
+few-flat history readable are_built = subst (HasFew (flat empty history)) (omega arith) (few-fold _ history 0 readable are_built few-empty)
 
 -- so few rows pass no limit
-faultless-few : (db : Db) (most : ℕ) → most ≤ INPUT_CALLS + 1 → HasFew db most → fault db ≡ None
+faultless-few : (db : Db) (most : ℕ) → most ≤ INPUT_CALLS + SESSIONS → HasFew db most → fault db ≡ None
 unfolding fault
 faultless-few db most limit few =
     let rows : nat_lt STORE_ROWS (row_count db) ≡ false = (let c = few.count in lt-leb _ _ (omega arith)) in
@@ -149,11 +158,16 @@ all-take P xs zero all = tt
 all-take P [] (suc n) all = tt
 all-take P (x ∷ xs) (suc n) all = (all.0, all-take P xs n all.1)
 
--- every history of at most INPUT_CALLS + 1 entries that can be read is Serial over the empty database
-pub serial-few : (history : History) → length history ≤ INPUT_CALLS + 1 → AllByRecursion HasFirstRequest history → Serial empty history
-serial-few history short readable = record {
+built-take : (db : Db) (history : History) (n : ℕ) → AreBuilt db history → AreBuilt db (take n history)
+built-take db history zero are_built = tt
+built-take db [] (suc n) are_built = tt
+built-take db (entry ∷ history) (suc n) are_built = (are_built.0, built-take (left_by db entry.request) history n are_built.1)
+
+-- every history of so few entries that can be read and are built is Serial over the empty database
+pub serial-few : (history : History) → length history ≤ INPUT_CALLS + SESSIONS → AllByRecursion HasReadable history → AreBuilt empty history → Serial empty history
+serial-few history short readable are_built = record {
   sound = λ place within.
-      let few = few-flat (take place history) (all-take HasFirstRequest history place readable) in
+      let few = few-flat (take place history) (all-take HasReadable history place readable) (built-take empty history place are_built) in
       let long : length (take place history) ≡ place = length-take-le place history within in
       record {
         faultless = faultless-few (flat empty (take place history)) (length (take place history)) (omega arith) few;
@@ -162,15 +176,23 @@ serial-few history short readable = record {
       };
 }
 
--- a request that comes into the history is still one that can be read
-built_step : (request : Request) → IsFirstRequest request → (b : Bool) → IsFirstRequest (if b then request else Syntax 0)
-built_step request readable true = readable
-built_step request readable false = tt
+-- a request that comes into the history can still be read, and is built
+record Comes (schema : Schema) (session : ℕ) (request : Request) : Type 0 where
+  readable : IsReadable (built schema session request)
+  same : built schema session (built schema session request) ≡ built schema session request
 
-readable-built : (schema : Schema) (request : Request) → IsFirstRequest request → IsFirstRequest (built schema request)
+comes_step : (schema : Schema) (session : ℕ) (statement : Statement) → IsReadable (Run statement) → (b : Bool) → (session == 1 && is_built schema statement) ≡ b
+    → Comes schema session (Run statement)
 unfolding built
-readable-built schema (Run (statement.CreateTable table)) readable = built_step (Run (statement.CreateTable table)) readable (length schema.tables == 0)
-readable-built schema _ readable = readable
+comes_step schema session statement readable true is = record { readable = rw is readable; same = rw is (rw is refl) }
+comes_step schema session statement readable false is = record { readable = rw is tt; same = rw is refl }
+
+comes : (schema : Schema) (session : ℕ) (request : Request) → IsReadable request → Comes schema session request
+unfolding built
+comes schema session (Run statement) readable = comes_step schema session statement readable _ refl
+comes schema session (Syntax byte) readable = record { readable = readable; same = refl }
+comes schema session (Limit passed) readable = record { readable = readable; same = refl }
+comes schema session End readable = record { readable = readable; same = refl }
 
 -- what holds of a list holds of a front
 all-front : {X Y : Type 0} (P : Y → Type 0) (f : X → Y) (xs : List X) (rest : List Y) → AllByRecursion P (map f xs ++ rest) → AllByRecursion (λ x. P (f x)) xs
@@ -178,58 +200,73 @@ all-front P f [] rest all = tt
 all-front P f (x ∷ xs) rest all = (all.0, all-front P f xs rest all.1)
 
 -- a call that asks for what can be read
-abbrev CalledFirstRequest : Called → Type 0
-CalledFirstRequest called = IsFirstRequest called.call.request
+abbrev AsksReadable : ScriptCall → Type 0
+AsksReadable call = IsReadable call.request
 
--- what calls make of a history has an entry for each of them at most, all of which can be read
-record IsMade (history : History) (most : ℕ) : Type 0 where
+abbrev CalledReadable : Called → Type 0
+CalledReadable called = AsksReadable called.call
+
+-- what calls make of a history has an entry for each of them at most, all of which can be read and are built
+record IsMade (base : Db) (history : History) (most : ℕ) : Type 0 where
   few : length history ≤ most
-  readable : AllByRecursion HasFirstRequest history
+  readable : AllByRecursion HasReadable history
+  are_built : AreBuilt base history
 
-made_step : (history : History) (entry : Entry) (want : Want) (most : ℕ) → IsFirstRequest entry.request → IsMade history most → IsMade (history ++ added entry want) (most + 1)
-made_step history entry Spared most readable is = record {
-  few = (let long = length-append history (entry ∷ []) in let few = is.few in omega arith);
-  readable = all-append HasFirstRequest history (entry ∷ []) is.readable (readable, tt);
-}
-made_step history entry Unshown most readable is = record {
-  few = (let long = length-append history (entry ∷ []) in let few = is.few in omega arith);
-  readable = all-append HasFirstRequest history (entry ∷ []) is.readable (readable, tt);
-}
-made_step history entry Unmade most readable is = record {
-  few = (let long = length-append history [] in let few = is.few in omega arith);
-  readable = all-append HasFirstRequest history [] is.readable tt;
-}
+built-last : (db : Db) (before : World) (history : History) (entry : Entry) → before.flat ≡ db → AreBuilt db history
+    → built (fold happens before history).flat.schema entry.session.0 entry.request ≡ entry.request → AreBuilt db (history ++ entry ∷ [])
+built-last db before [] entry same are_built last = ((let P : Db → Type 0 = λ d. built d.schema entry.session.0 entry.request ≡ entry.request in subst P same last), tt)
+built-last db before (first ∷ history) entry same are_built last =
+    (are_built.0, built-last (left_by db first.request) (happens before first) history entry (ap (λ d. left_by d first.request) same) are_built.1 last)
 
-made_fold : (base : Db) (called : List Called) (history : History) (most : ℕ) → AllByRecursion CalledFirstRequest called → IsMade history most
-    → IsMade (fold (after_call base) history called) (most + length called)
-made_fold base [] history most readable is = subst (IsMade history) (omega arith) is
+made_one : (base : Db) (history : History) (call : ScriptCall) (most : ℕ) → AsksReadable call → IsMade base history most
+    → IsMade base (history ++ entry_of base history call ∷ []) (most + 1)
+unfolding flat world
+made_one base history call most readable is =
+    let entry = entry_of base history call in
+    let come = comes (flat base history).schema call.session.0 call.request readable in
+    record {
+      few = (let long = length-append history (entry ∷ []) in let few = is.few in omega arith);
+      readable = all-append HasReadable history (entry ∷ []) is.readable (come.readable, tt);
+      are_built = built-last base _ history entry refl is.are_built come.same;
+    }
+
+made_step : (base : Db) (history : History) (call : ScriptCall) (want : Want) (most : ℕ) → AsksReadable call → IsMade base history most
+    → IsMade base (history ++ added (entry_of base history call) want) (most + 1)
+made_step base history call Spared most readable is = made_one base history call most readable is
+made_step base history call Unshown most readable is = made_one base history call most readable is
+made_step base history call Unmade most readable is =
+    rw append-nil (record { few = (let few = is.few in omega arith); readable = is.readable; are_built = is.are_built })
+
+made_fold : (base : Db) (called : List Called) (history : History) (most : ℕ) → AllByRecursion CalledReadable called → IsMade base history most
+    → IsMade base (fold (after_call base) history called) (most + length called)
+made_fold base [] history most readable is = subst (IsMade base history) (omega arith) is
 made_fold base (first ∷ called) history most readable is =
-    let next = made_step history (entry_of base history first.call) first.want most (readable-built (flat base history).schema first.call.request readable.0) is in
-    subst (IsMade (fold (after_call base) history (first ∷ called))) (omega arith)
+    let next = made_step base history first.call first.want most readable.0 is in
+    subst (IsMade base (fold (after_call base) history (first ∷ called))) (omega arith)
     (made_fold base called (after_call base history first) (most + 1) readable.1 next)
 
 -- what calls make that can be read
-is_made : (base : Db) (called : List Called) → AllByRecursion CalledFirstRequest called → IsMade (made base called) (length called)
+is_made : (base : Db) (called : List Called) → AllByRecursion CalledReadable called → IsMade base (made base called) (length called)
 unfolding made
-is_made base called readable = subst (IsMade (made base called)) (omega arith) (made_fold base called [] 0 readable (record { few = omega arith; readable = tt }))
+is_made base called readable =
+    subst (IsMade base (made base called)) (omega arith) (made_fold base called [] 0 readable (record { few = omega arith; readable = tt; are_built = tt }))
 
 -- the history that the first calls of an input make over the empty database is Serial
-pub serial-made : (bytes : List ℕ) (calls : List ScriptCall) (called : List Called) → script bytes ≡ Ok calls
+pub serial-made : (bytes : List ℕ) (calls : List ScriptCall) (called : List Called) → HasCalls bytes calls
     → (rest : List ScriptCall) → map (λ (c : Called). c.call) called ++ rest ≡ calls → Serial empty (made empty called)
-serial-made bytes calls called reads rest is =
-    let read = read-script bytes calls reads in
-    let readable : AllByRecursion CalledFirstRequest called =
-    all-front AsksFirstRequest (λ (c : Called). c.call) called rest (subst (AllByRecursion AsksFirstRequest) (sym is) read.readable) in
+serial-made bytes calls called has rest is =
+    let readable : AllByRecursion CalledReadable called =
+    all-front AsksReadable (λ (c : Called). c.call) called rest (subst (AllByRecursion AsksReadable) (sym is) (calls-readable bytes calls has)) in
     let history = is_made empty called readable in
     let appended = length-append (map (λ (c : Called). c.call) called) rest in
     let mapped = length-map called (λ (c : Called). c.call) in
     let long : length (map (λ (c : Called). c.call) called ++ rest) ≡ length calls = ap length is in
-    let few = read.few in
+    let few = calls-few bytes calls has in
     let short = history.few in
-    serial-few (made empty called) (omega arith) history.readable
+    serial-few (made empty called) (omega arith) history.readable history.are_built
 
 -- the history of a run over the first calls of an input is Serial
-pub serial-ran : (bytes : List ℕ) (calls front rest : List ScriptCall) (history : History) (text : List ℕ) → script bytes ≡ Ok calls
+pub serial-ran : (bytes : List ℕ) (calls front rest : List ScriptCall) (history : History) (text : List ℕ) → HasCalls bytes calls
     → front ++ rest ≡ calls → IsTranscript empty front history text → Serial empty history
-serial-ran bytes calls front rest history text reads is ran =
-    subst (Serial empty) (sym ran.history_is) (serial-made bytes calls ran.called reads rest (ap (λ calls. calls ++ rest) ran.calls_are ∙ is))
+serial-ran bytes calls front rest history text has is ran =
+    subst (Serial empty) (sym ran.history_is) (serial-made bytes calls ran.called has rest (ap (λ calls. calls ++ rest) ran.calls_are ∙ is))

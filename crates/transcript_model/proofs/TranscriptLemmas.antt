@@ -1,8 +1,7 @@
 -- A transcript, call by call.
-use Rattle.std.proofs.Common.{◌≡◌, ℕ, ◌+◌, List, [], ◌∷◌, ◌++◌, length, refl, ap, sym, subst, ◌∙◌, arith, append-nil, inl, inr}
+use Rattle.std.proofs.Common.{◌≡◌, ℕ, List, [], ◌∷◌, ◌++◌, length, refl, ap, sym, subst, ◌∙◌, arith, append-nil, inl, inr}
 use Rattle.std.specs.Prelude.{Option, None, Some}
 use Rattle.std.proofs.lemmas.List.{map-append}
-use Rattle.own_model.specs.declared.history.Entry.{Entry}
 use Rattle.own_model.specs.declared.reply.Reply.{Reply}
 use Rattle.own_model.specs.declared.script.ScriptCall.{ScriptCall}
 use Rattle.own_model.specs.Db.{Db}
@@ -10,7 +9,6 @@ use Rattle.history_model.specs.History.{History, flat, reply}
 use Rattle.history_model.specs.Made.{Want, Spared, Unshown, Unmade, Called, added, after_call, entry_of, made, place_by}
 use Rattle.history_model.specs.MayBeUnmade.{MayBeUnmade}
 use Rattle.history_model.proofs.UnmadeLemmas.{unmade-append}
-use Rattle.script_model.specs.Numbered.{count_of}
 use Rattle.script_model.proofs.Counts.{count-more, count-own}
 use Rattle.script_model.proofs.InputCalls.{all-append}
 use Rattle.text_model.specs.Lines.{reply_lines}

@@ -2,22 +2,24 @@
 //! history and list of calls.
 ghost use Rattle.std.specs.Prelude.{◌≡◌, ℕ, ◌+◌, ◌≤◌, List, ◌++◌, length};
 ghost use Rattle.std.specs.List.{AllByRecursion};
-ghost use Rattle.own_model.specs.declared.limit.TheConstants.{INPUT_CALLS};
+ghost use Rattle.own_model.specs.declared.limit.TheConstants.{INPUT_CALLS, SESSIONS};
 ghost use Rattle.own_model.specs.declared.script.ScriptCall.{ScriptCall};
 ghost use Rattle.own_model.specs.Db.{Db, empty};
+ghost use Rattle.grammar_model.specs.Readable.{IsReadable};
+ghost use Rattle.history_model.specs.AreBuilt.{AreBuilt};
 ghost use Rattle.history_model.specs.History.{History};
 ghost use Rattle.history_model.specs.Made.{Called, made};
 ghost use Rattle.history_model.specs.Serial.{Serial};
 ghost use Rattle.transcript_model.specs.Printed.{printed};
 ghost use Rattle.transcript_model.specs.TellsMemory.{TellsMemory};
 ghost use Rattle.transcript_model.specs.Transcript.{IsSpared, IsTranscript, spared};
-ghost use Rattle.transcript_model.specs.first.FirstRequest.{HasFirstRequest};
 
-/// Over the empty database a history of entries that can be read passes no limit at any place, where it has at most one
-/// for each call that an input may have, and one for the end; keys rise there, and rows have their tables' lengths and
-/// kinds.
+/// Over the empty database a history of requests that can be read and are built passes no limit at any place, where it has
+/// at most one for each call that an input may have, and one for the end of each session; keys rise there, and rows have
+/// their tables' lengths and kinds.
 pub fn short_readable_history_is_serial()
-    ensures { (history : History) → length history ≤ INPUT_CALLS + 1 → AllByRecursion HasFirstRequest history → Serial empty history }
+    ensures { (history : History) → length history ≤ INPUT_CALLS + SESSIONS
+        → AllByRecursion (λ entry. IsReadable entry.request) history → AreBuilt empty history → Serial empty history }
 {}
 
 /// Over one history, the text of calls is that of the first of them, and after it that of the rest.
