@@ -5,6 +5,7 @@ use Rattle.own_base.specs.declared.value.Value.{Value}
 use Rattle.own_base.specs.declared.value.Value.TheVariants as value
 use Rattle.own_model.specs.declared.create.Attr.{Attr}
 use Rattle.own_model.specs.declared.create.Attr.TheVariants as attr
+use Rattle.own_model.specs.declared.create.ColumnDef.{ColumnDef}
 use Rattle.own_model.specs.declared.create.Part.{Part}
 use Rattle.own_model.specs.declared.create.Part.TheVariants as part
 use Rattle.own_model.specs.declared.request.Request.{Request}
@@ -39,10 +40,13 @@ abbrev pub is_plain : List Attr → Bool
 is_plain [] = true
 is_plain _ = false
 
--- two columns: name INT PRIMARY KEY, and another name TEXT
+-- name INT PRIMARY KEY, and another name TEXT
+abbrev pub are_key_and_text : ColumnDef → ColumnDef → Bool
+are_key_and_text key column = is_int key.kind && is_key_alone key.attrs && is_text column.kind && is_plain column.attrs && not (bytes_eq key.name column.name)
+
+-- two columns alone, and such ones
 abbrev pub are_two_columns : List Part → Bool
-are_two_columns (part.Column key ∷ part.Column column ∷ []) =
-    is_int key.kind && is_key_alone key.attrs && is_text column.kind && is_plain column.attrs && not (bytes_eq key.name column.name)
+are_two_columns (part.Column key ∷ part.Column column ∷ []) = are_key_and_text key column
 are_two_columns _ = false
 
 -- one tuple of a number and a text

@@ -1,14 +1,6 @@
-pub mod CallTexts
-pub mod Cutting
-pub mod FrontLexemes
 pub mod LastEntry
-pub mod LexemeLemmas
-pub mod Numbering
 pub mod Placed
 pub mod Put
 pub mod Results
-pub mod RuleSteps
 pub mod Runs
-pub mod ScriptLemmas
 pub mod Serving
-pub mod Unquoting

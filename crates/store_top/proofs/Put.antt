@@ -6,7 +6,9 @@ use Rattle.std.specs.Prelude.{Result, Ok, Err, Some, slice_index_or, slice_set}
 use Rattle.own_base.specs.declared.value.Key.{Key}
 use Rattle.own_model.specs.declared.reply.Reply.{Reply}
 use Rattle.own_model.specs.Db as model
-use Rattle.history_model.specs.Create.{definition_of, create_text}
+use Rattle.own_model.specs.declared.statement.Statement.TheVariants.{CreateTable}
+use Rattle.text_model.specs.Canonical.{canonical}
+use Rattle.history_model.specs.Create.{definition_of}
 use Rattle.history_model.specs.Run.{Outcome, insert, put, with_tuple}
 use Rattle.store_top.specs.declared.flat.Table.{Table}
 use Rattle.store_top.specs.Flat.{after_put, db_of_tables, definition, rows_of, seen_at, text_of}
@@ -19,7 +21,7 @@ outcome a b r s p q = λ i. record { db = p i; reply = q i }
 db-set : (tables : List Table) (i : ℕ) (default new : Table) → new.create ≡ (slice_index_or tables i default).create
     → db_of_tables (slice_set tables i new) ≡ record (db_of_tables tables) { rows = slice_set (map rows_of tables) i (rows_of new) }
 db-set tables i default new same =
-    let texts = map-set_same text_of tables i new default (λ k. record { view = false; text = create_text (same k) }) in
+    let texts = map-set_same text_of tables i new default (λ k. record { view = false; text = canonical (CreateTable (same k)) }) in
     let definitions = map-set_same definition tables i new default (ap definition_of same) in
     let rows = map-set rows_of tables i new in
     λ k. record { creates = texts k; schema = record { tables = definitions k; views = []; edges = [] }; rows = rows k }

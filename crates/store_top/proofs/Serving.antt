@@ -5,14 +5,15 @@ use Rattle.std.specs.Io.KnownBytes.{Appends}
 use Rattle.std.proofs.lemmas.List.{length-append}
 use Rattle.own_model.specs.declared.script.ScriptCall.{ScriptCall}
 use Rattle.own_model.specs.Db.{empty}
+use Rattle.script_model.specs.Numbered.{AreNumbered}
 use Rattle.history_model.specs.History.{History}
 use Rattle.history_model.specs.Made.{Want, Spared, Unshown, Unmade, added, entry_of}
-use Rattle.script_model.specs.Transcript.{text_of_call}
-use Rattle.script_model.proofs.PrintedLemmas.{CallsBelow, EntriesBelow}
-use Rattle.script_model.proofs.TranscriptLemmas.{calls_below-more, entries_below-more, transcript-more, transcript-none}
+use Rattle.transcript_model.specs.Transcript.{text_of_call}
+use Rattle.transcript_model.proofs.PrintedLemmas.{CallsWithin, EntriesWithin}
+use Rattle.transcript_model.proofs.TranscriptLemmas.{calls_within-more, entries_within-more, transcript-more, transcript-none}
 use Rattle.store_top.specs.declared.steps.RunFault.{RunFault}
 use Rattle.store_top.specs.declared.steps.RunFault.TheVariants.{Write, Memory}
-use Rattle.store_top.specs.Steps.{IsNumbered, RunsTo, MakesCallTo, StopsAtCall, TellsCall, ToldBefore, ToldInPart}
+use Rattle.store_top.specs.Steps.{RunsTo, MakesCallTo, StopsAtCall, TellsCall, ToldBefore, ToldInPart}
 
 -- bytes that were appended one after another
 pub appends-more : (old mid new : Option (List ℕ)) (first second : List ℕ) → Appends old mid first → Appends mid new second → Appends old new (first ++ second)
@@ -38,9 +39,9 @@ appends-nothing (Some xs) = sym (append-nil xs)
 pub record Serving (calls done rest : List ScriptCall) (history : History) (old new : Option (List ℕ)) : Type 0 where
   pub whole : done ++ rest ≡ calls
   pub runs : RunsTo done history old new
-  pub numbered : IsNumbered (length done + 1) rest
-  pub calls_below : CallsBelow (length done + 1) done
-  pub entries_below : EntriesBelow (length done + 1) history
+  pub numbered : AreNumbered done rest
+  pub calls_within : CallsWithin done done
+  pub entries_within : EntriesWithin done history
   pub few : length history ≤ length done
 
 few_added : (history : History) (call : ScriptCall) (want : Want) → length (history ++ added (entry_of empty history call) want) ≤ length history + 1
@@ -49,13 +50,13 @@ few_added history call Unshown = omega (arith, length-append history (entry_of e
 few_added history call Unmade = rw append-nil (omega arith)
 
 -- none is served yet
-pub serving-none : (calls : List ScriptCall) (old : Option (List ℕ)) → IsNumbered 1 calls → Serving calls [] calls [] old old
+pub serving-none : (calls : List ScriptCall) (old : Option (List ℕ)) → AreNumbered [] calls → Serving calls [] calls [] old old
 serving-none calls old numbered = record {
   whole = refl;
   runs = record { text = []; transcript = transcript-none empty; written = appends-nothing old };
   numbered = numbered;
-  calls_below = tt;
-  entries_below = tt;
+  calls_within = tt;
+  entries_within = tt;
   few = omega arith;
 }
 
@@ -64,18 +65,18 @@ pub serving-more : (calls done : List ScriptCall) (call : ScriptCall) (rest : Li
     → Serving calls done (call ∷ rest) history old mid → (served : Unit {0}) → MakesCallTo call history after mid new (Ok served)
     → Serving calls (done ++ call ∷ []) rest after old new
 serving-more calls done call rest history after old mid new before served step =
-    let number = before.numbered.0 in
+    let next = before.numbered.0 in
     let long = length-append done (call ∷ []) in
     record {
       whole = append_assoc done (call ∷ []) rest ∙ before.whole;
       runs = record {
         text = _;
-        transcript = rw step.history_is (transcript-more empty done history before.runs.text call step.want before.runs.transcript (rw number before.calls_below) (rw number before.entries_below) step.spared);
+        transcript = rw step.history_is (transcript-more empty done history before.runs.text call step.want before.runs.transcript next before.calls_within before.entries_within step.spared);
         written = appends-more old mid new _ _ before.runs.written step.written;
       };
-      numbered = rw long before.numbered.1;
-      calls_below = rw long (calls_below-more (length done + 1) done call before.calls_below number);
-      entries_below = rw long (rw step.history_is (entries_below-more empty (length done + 1) history call step.want before.entries_below number));
+      numbered = before.numbered.1;
+      calls_within = calls_within-more done call next before.calls_within;
+      entries_within = rw step.history_is (entries_within-more empty done history call step.want next before.entries_within);
       few = let le = before.few in let more = few_added history call step.want in rw long (rw step.history_is (omega arith));
     }
 
@@ -85,7 +86,7 @@ module _ (calls done : List ScriptCall) (call : ScriptCall) (rest : List ScriptC
   stops_at : (result : Result (Unit {0}) RunFault) (step : MakesCallTo call history after mid new result) (Told : List ℕ → List ℕ → Type 0)
       → Told before.runs.text (text_of_call empty history call step.want) → StopsAtCall calls after Told
   stops_at result step Told told =
-      let number = before.numbered.0 in
+      let next = before.numbered.0 in
       record {
         done = done;
         last = call;
@@ -97,7 +98,7 @@ module _ (calls done : List ScriptCall) (call : ScriptCall) (rest : List ScriptC
         want = step.want;
         history_is = step.history_is;
         spared = step.spared;
-        made = rw step.history_is (transcript-more empty done history before.runs.text call step.want before.runs.transcript (rw number before.calls_below) (rw number before.entries_below) step.spared);
+        made = rw step.history_is (transcript-more empty done history before.runs.text call step.want before.runs.transcript next before.calls_within before.entries_within step.spared);
         told = told;
       }
 

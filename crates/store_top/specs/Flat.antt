@@ -4,15 +4,17 @@ use Rattle.own_base.specs.declared.value.Key.{Key}
 use Rattle.own_model.specs.declared.refusal.Refusal.TheVariants.{Duplicate}
 use Rattle.own_model.specs.declared.reply.Reply.{Reply}
 use Rattle.own_model.specs.declared.reply.Reply.TheVariants.{Counted, Refused}
-use Rattle.history_model.specs.Create.{create_text, definition_of}
+use Rattle.history_model.specs.Create.{definition_of}
 use Rattle.own_model.specs.Db as model
 use Rattle.own_model.specs.declared.schema.CreateText.{CreateText}
 use Rattle.own_model.specs.declared.schema.TableDef.{TableDef}
+use Rattle.own_model.specs.declared.statement.Statement.TheVariants.{CreateTable}
+use Rattle.text_model.specs.Canonical.{canonical}
 use Rattle.store_top.specs.declared.flat.Table.{Table}
 use Rattle.store_top.specs.declared.flat.Flat.{Flat}
 
 abbrev pub text_of : Table → CreateText
-text_of table = record { view = false; text = create_text table.create }
+text_of table = record { view = false; text = canonical (CreateTable table.create) }
 
 abbrev pub definition : Table → TableDef
 definition table = definition_of table.create

@@ -1,12 +1,8 @@
-pub mod CallText
 pub mod Engine
 pub mod Flat
 pub mod Gap
-pub mod Input
 pub mod KeyRef
-pub mod Read
-pub mod Reading
 pub mod Status
 pub mod Steps
 pub mod Top
-pub mod Whole
+pub mod Words

@@ -1,12 +1,12 @@
 -- What serving calls one after another does to a history and a sink.
-use Rattle.std.specs.Prelude.{◌≡◌, ℕ, ◌+◌, ◌<◌, List, [], ◌∷◌, ◌++◌, length, Option, take, Result, Ok, Err, IfOk}
+use Rattle.std.specs.Prelude.{◌≡◌, ℕ, ◌<◌, List, [], ◌∷◌, ◌++◌, length, Option, take, Result, Ok, Err, IfOk}
 use Rattle.std.specs.Io.KnownBytes.{Appends}
 use Rattle.own_model.specs.declared.script.ScriptCall.{ScriptCall}
 use Rattle.own_model.specs.Db.{empty}
 use Rattle.history_model.specs.History.{History, flat}
 use Rattle.history_model.specs.Made.{Want, Unmade, added, entry_of}
 use Rattle.history_model.specs.MayBeUnmade.{MayBeUnmade}
-use Rattle.script_model.specs.Transcript.{IsTranscript, text_of_call}
+use Rattle.transcript_model.specs.Transcript.{IsTranscript, text_of_call}
 use Rattle.store_top.specs.declared.steps.RunFault.{RunFault}
 use Rattle.store_top.specs.declared.steps.RunFault.TheVariants.{Write, Memory}
 
@@ -64,8 +64,3 @@ pub record StopsAtCall (calls : List ScriptCall) (history : History) (Told : Lis
   pub spared : want ≡ Unmade → MayBeUnmade (flat empty before) (entry_of empty before last).request
   pub made : IsTranscript empty (done ++ last ∷ []) history (text ++ text_of_call empty before last want)
   pub told : Told text (text_of_call empty before last want)
-
--- the calls are numbered one after another, from here on
-abbrev pub IsNumbered : ℕ → List ScriptCall → Type 0
-IsNumbered number [] = Unit {0}
-IsNumbered number (call ∷ calls) = (call.call ≡ number) × IsNumbered (number + 1) calls

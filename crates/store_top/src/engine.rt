@@ -4,7 +4,7 @@ ghost use Rattle.own_model.specs.Db.{empty};
 ghost use Rattle.history_model.specs.History.{flat, reply};
 ghost use Rattle.history_model.specs.Made.{entry_of};
 ghost use Rattle.history_model.specs.MayBeUnmade.{MayBeUnmade};
-ghost use Rattle.script_model.specs.Printed.{Tells};
+ghost use Rattle.transcript_model.specs.Printed.{Tells};
 ghost use Rattle.store_top.specs.Engine.{HoldsFlat, HoldsFlatBeforeLast};
 
 use crate::flat::Flat;
@@ -82,7 +82,7 @@ impl Engine {
         Entry {
             session,
             call,
-            request: self.flat.built(request),
+            request: self.flat.built(session, request),
             verdict: Verdict::Took,
         }
     }

@@ -7,18 +7,20 @@ ghost use Rattle.history_model.specs.Built.{built};
 ghost use Rattle.history_model.specs.Create.{create, is_primary as says_primary};
 ghost use Rattle.own_model.specs.Db.{as_key, empty, key_of, table_of, IsOrdered, IsRising};
 ghost use Rattle.history_model.specs.History.{answer_to, left_by};
-ghost use Rattle.script_model.specs.Printed.{MayTell};
+ghost use Rattle.transcript_model.specs.Printed.{MayTell};
 ghost use Rattle.history_model.specs.MayBeUnmade.{IsWithoutRows, MayBeUnmade};
 ghost use Rattle.history_model.specs.Run.{insert, run, select, with_tuple};
 ghost use Rattle.store_top.specs.Flat.{after_put, db_of, definition, rows_of, seen_at};
 ghost use Rattle.store_top.specs.Gap.{IsGap};
 ghost use Rattle.store_top.specs.KeyRef.{key_seen};
 
+use crate::built::is_built;
 use crate::key_ref::{KeyRef, compare, key_at, owned};
-use own_base::{Key, List, MakeCopy, Name, Row};
+use own_base::{Key, List, MakeCopy, Name, Row, SessionNo};
 use own_model::{Attr, CreateTable, Part, Refusal, Reply, Request, Statement};
 use std::alloc::{AllocError, Global};
 use std::cmp::Ordering;
+use std::mem::drop;
 
 /// A table: the CREATE that made it, and its rows in strictly rising key order.
 #[derive(Debug, Drop)]
@@ -129,14 +131,19 @@ impl Flat {
         }
     }
 
-    /// A request as it comes into the history: a CREATE where a table is there isn't built yet.
+    /// A session's request as it comes into the history: a statement that isn't built yet is refused as syntax.
     #[tactic(auto, unfolding(history_model::specs::Built::built))]
-    pub(crate) fn built(&self, request: Request) -> Request
-        ensures { result ≡ built (db_of self.now).schema request }
+    pub(crate) fn built(&self, session: SessionNo, request: Request) -> Request
+        ensures { result ≡ built (db_of self.now).schema session.0 request }
     {
         match request {
-            Request::Run(Statement::CreateTable(_)) if !self.tables.is_empty() => {
-                Request::Syntax(0)
+            Request::Run(statement) => {
+                if session == SessionNo(1) && is_built(self.tables.is_empty(), &statement) {
+                    Request::Run(statement)
+                } else {
+                    drop(statement);
+                    Request::Syntax(0)
+                }
             }
             request => request,
         }

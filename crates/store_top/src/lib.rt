@@ -2,17 +2,14 @@
 //! words of the program too.
 #![tactic(auto)]
 
-mod call_text;
+mod built;
 mod engine;
 mod flat;
-mod grammar;
 mod key_ref;
-mod lexeme;
-mod print;
 mod running;
-mod script;
 mod served;
 mod steps;
+mod words;
 
 pub use running::{run, step};
 pub use served::{Served, TopFault};

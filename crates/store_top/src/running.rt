@@ -3,19 +3,22 @@ ghost use Rattle.std.specs.Vec.{vec_capacity};
 ghost use Rattle.outer_world.specs.FaultCount.{CountRose};
 ghost use Rattle.own_model.specs.declared.script.InputFault.{InputFault as InputFaultSeen};
 ghost use Rattle.own_model.specs.Db.{empty};
+ghost use Rattle.script_model.specs.Numbered.{AreNumbered};
 ghost use Rattle.history_model.specs.Serial.{Serial};
 ghost use Rattle.store_top.specs.Engine.{HoldsFlat};
 ghost use Rattle.store_top.specs.Status.{status_of};
-ghost use Rattle.store_top.specs.Steps.{IsNumbered, ToldBefore, ToldInPart};
-ghost use Rattle.store_top.specs.Top.{is_step, IsBeforeCalls, IsWithoutDisk, ReadsAtMost, RefusesInput, RunsInPart, RunsWhole, ServesBytes, ServesCalls};
+ghost use Rattle.store_top.specs.Words.{mode_of};
+ghost use Rattle.store_top.specs.Steps.{ToldBefore, ToldInPart};
+ghost use Rattle.store_top.specs.Top.{IsBeforeCalls, IsUsageOrMemory, IsWithoutDisk, ReadsAtMost, RefusesInput, RunsInPart, RunsWhole, ServesBytes, ServesCalls};
 
 use crate::engine::Engine;
-use crate::script::read_script;
 use crate::served::{Served, TopFault, status};
 use crate::steps::{RunFault, serve_calls};
+use crate::words::{Mode, mode_of};
 use outer_world::{Disk, Gate, ReadAllFault, Sink, Source, read_all};
 use own_base::List;
 use own_model::{Entry, INPUT_BYTES, InputFault, ScriptCall};
+use sql_reader::read_script;
 use std::alloc::{AllocError, Global};
 use std::mem::drop;
 use std::sync::Wait;
@@ -40,19 +43,9 @@ fn without_calls(alloc: Global, fault: TopFault) -> Ended
     }
 }
 
-/// Whether the words are a mode with its arguments.
-fn is_step(words: &[String]) -> bool
-    ensures { result ≡ is_step (map string_bytes words.now) }
-{
-    match words {
-        [word] => word.as_bytes() == b"step".as_slice(),
-        _ => false,
-    }
-}
-
 /// Serves calls over no table.
 fn serve_script<W: Sink>(alloc: Global, calls: Vec<ScriptCall>, sink: &mut W) -> Ended
-    requires { IsNumbered 1 calls.items }
+    requires { AreNumbered [] calls.items }
     ensures { ServesCalls calls.items result.history (W.written sink.old) (W.written sink.new) (CountRose (W.faults sink.old) (W.faults sink.new))
         ((sink.new ≡ sink.old) × (result.history ≡ [])) result.fault }
 {
@@ -75,7 +68,7 @@ fn serve_engine<W: Sink>(
     requires holds { HoldsFlat engine }
     requires fresh { engine.history.items ≡ [] }
     requires room { vec_len calls ≤ vec_capacity engine.history }
-    requires numbered { IsNumbered 1 calls.items }
+    requires numbered { AreNumbered [] calls.items }
     ensures { ServesCalls calls.items result.history (W.written sink.old) (W.written sink.new) (CountRose (W.faults sink.old) (W.faults sink.new))
         ((sink.new ≡ sink.old) × (result.history ≡ [])) result.fault }
 {
@@ -173,7 +166,7 @@ pub fn step<R: Source, W: Sink, D>(
 
     // Where writing failed, or memory was refused, the run stopped at a call: those before it were made and told, none
     // after it was made. A write fault leaves a part of that call's text written, and out of memory nothing of it. Out of
-    // memory comes only where the input isn't too long.
+    // memory comes only where what was read isn't too long for an input.
     ensures in_part { result.fault ≡ Some TopFault.Write
         → RunsInPart (R.remaining source.old) (R.remaining source.new) result.history (ToldInPart (W.written sink.old) (W.written sink.new)) }
     ensures memory { result.fault ≡ Some TopFault.Memory
@@ -209,9 +202,11 @@ pub fn run<Rt: Threads + Wait + Sync, R: Source, W: Sink, D: Disk + Send, G: Gat
     ensures status { result.status ≡ status_of result.fault }
     ensures disk { result.disk ≡ disk }
 
-    // Usage comes exactly where the words are no mode with its arguments, and then nothing is read.
-    ensures usage { (result.fault ≡ Some TopFault.Usage) ↔ (is_step (map string_bytes words.now) ≡ false) }
-    ensures unread { result.fault ≡ Some TopFault.Usage → source.new ≡ source.old }
+    // Usage comes where the words are no mode with its arguments, and nowhere else; only out of memory may be told in its
+    // place. Then nothing is read.
+    ensures usage { result.fault ≡ Some TopFault.Usage → mode_of (map string_bytes words.now) ≡ None }
+    ensures unserved { mode_of (map string_bytes words.now) ≡ None → IsUsageOrMemory result.fault × (source.new ≡ source.old)
+        × (sink.new ≡ sink.old) × (result.history ≡ []) }
 
     // A read fault comes only where the source's count rose, and a write fault only where the sink's did.
     ensures read_fault { result.fault ≡ Some TopFault.Read → CountRose (R.faults source.old) (R.faults source.new) }
@@ -226,7 +221,7 @@ pub fn run<Rt: Threads + Wait + Sync, R: Source, W: Sink, D: Disk + Send, G: Gat
 
     // Where writing failed, or memory was refused, the run stopped at a call: those before it were made and told, none
     // after it was made. A write fault leaves a part of that call's text written, and out of memory nothing of it. Out of
-    // memory comes only where the input isn't too long.
+    // memory comes only where what was read isn't too long for an input.
     ensures in_part { result.fault ≡ Some TopFault.Write
         → RunsInPart (R.remaining source.old) (R.remaining source.new) result.history (ToldInPart (W.written sink.old) (W.written sink.new)) }
     ensures memory { result.fault ≡ Some TopFault.Memory
@@ -242,9 +237,9 @@ pub fn run<Rt: Threads + Wait + Sync, R: Source, W: Sink, D: Disk + Send, G: Gat
     // The history has one order, and leaves no bad state at any of its places.
     ensures serial { Serial empty result.history }
 {
-    if is_step(words) {
-        return step(alloc, source, sink, disk);
+    match mode_of(alloc, words) {
+        Ok(Some(Mode::Step)) => step(alloc, source, sink, disk),
+        Ok(None) => with_disk(without_calls(alloc, TopFault::Usage), disk),
+        Err(AllocError) => with_disk(without_calls(alloc, TopFault::Memory), disk),
     }
-    let ended = without_calls(alloc, TopFault::Usage);
-    with_disk(ended, disk)
 }

@@ -1,13 +1,15 @@
 ghost use Rattle.std.specs.Prelude.{◌≡◌, ◌<◌, ◌≤◌, [], vec_len, OnOk, Err};
 ghost use Rattle.std.specs.Vec.{vec_capacity};
 ghost use Rattle.outer_world.specs.FaultCount.{CountRose};
+ghost use Rattle.script_model.specs.Numbered.{AreNumbered};
 ghost use Rattle.store_top.specs.Engine.{HoldsFlat};
-ghost use Rattle.store_top.specs.Steps.{IsNumbered, MakesCall, MakesCallTo, RunsTo, StopsAtCall, ToldBefore, ToldInPart};
+ghost use Rattle.store_top.specs.Steps.{MakesCall, MakesCallTo, RunsTo, StopsAtCall, ToldBefore, ToldInPart};
 
 use crate::engine::Engine;
-use crate::print::print_reply;
 use outer_world::{Sink, write_all};
+use own_base::Text;
 use own_model::{Refusal, Reply, ScriptCall};
+use sql_print::print_reply;
 use std::alloc::{AllocError, Global};
 use std::mem::drop;
 
@@ -21,15 +23,11 @@ pub(crate) enum RunFault {
 }
 
 /// Serves a call, and gives its lines.
-fn lines_of_call(
-    engine: &mut Engine,
-    alloc: Global,
-    call: ScriptCall,
-) -> Result<Vec<u8>, AllocError>
+fn lines_of_call(engine: &mut Engine, alloc: Global, call: ScriptCall) -> Result<Text, AllocError>
     requires holds { HoldsFlat engine.old }
     requires room { vec_len engine.old.history < vec_capacity engine.old.history }
     ensures holds { HoldsFlat engine.new }
-    ensures makes { MakesCall (λ text. text.items) call engine.old.history.items engine.new.history.items result }
+    ensures makes { MakesCall (λ text. text) call engine.old.history.items engine.new.history.items result }
     ensures room { vec_capacity engine.old.history ≤ vec_capacity engine.new.history }
 {
     let session = call.session;
@@ -71,7 +69,7 @@ fn serve_call<W: Sink>(
     ensures counted { W.faults sink.old ≤ W.faults sink.new }
 {
     match lines_of_call(engine, alloc, call) {
-        Ok(text) => write_all(sink, &text).map_err(|_| RunFault::Write),
+        Ok(text) => write_all(sink, text.bytes()).map_err(|_| RunFault::Write),
         Err(AllocError) => Err(RunFault::Memory),
     }
 }
@@ -86,7 +84,7 @@ pub(crate) fn serve_calls<W: Sink>(
     requires holds { HoldsFlat engine.old }
     requires fresh { engine.old.history.items ≡ [] }
     requires room { vec_len calls ≤ vec_capacity engine.old.history }
-    requires numbered { IsNumbered 1 calls.items }
+    requires numbered { AreNumbered [] calls.items }
 
     ensures served { OnOk result (RunsTo calls.items engine.new.history.items (W.written sink.old) (W.written sink.new)) }
     ensures broken { result ≡ Err RunFault.Write → StopsAtCall calls.items engine.new.history.items (ToldInPart (W.written sink.old) (W.written sink.new)) }

@@ -3,7 +3,7 @@ use Rattle.std.proofs.lemmas.Result.{IfOk-weaker}
 use Rattle.own_model.specs.declared.history.Entry.{Entry}
 use Rattle.own_model.specs.Db.{empty}
 use Rattle.history_model.specs.Made.{Want, Spared, Unshown, Unmade, added}
-use Rattle.script_model.proofs.TranscriptLemmas.{told-last}
+use Rattle.transcript_model.proofs.TranscriptLemmas.{told-last}
 use Rattle.store_top.proofs.steps.lines_of_call.Goals as goal
 
 -- a call whose entry is added is made
