@@ -26,7 +26,9 @@ const FIRST: &str =
 const REFUSALS: &str =
     "CREATE DATA_SUBJECT TABLE users (id INT PRIMARY KEY, name TEXT); INSERT INTO users VALUES (5, 'Ann'); SELECT * FROM users;INSERT INTO users VALUES (5, 'Bo'); SELECT * FROM cats; BEGIN;";
 
-const CASES: [Case; 6] = [
+const SESSIONS: &str = "CREATE DATA_SUBJECT TABLE users (id INT PRIMARY KEY, name TEXT);\n-- session 2\nSELECT * FROM users; SELEC\n-- session 1\nSELECT * FROM users;";
+
+const CASES: [Case; 8] = [
     Case {
         word: "step",
         input: FIRST,
@@ -51,6 +53,24 @@ const CASES: [Case; 6] = [
         source_fails: &[],
         sink_fails: &[],
         status: 0,
+        entries: 0,
+        output: "",
+    },
+    Case {
+        word: "step",
+        input: SESSIONS,
+        source_fails: &[],
+        sink_fails: &[],
+        status: 0,
+        entries: 6,
+        output: "0 1.1 ok\n1 2.1 refused syntax 0\n2 2.2 refused syntax 5\n3 1.2 rows 0\n4 1.3 end\n5 2.3 end\n",
+    },
+    Case {
+        word: "step",
+        input: "SELECT * FROM users;\n-- session 17\n",
+        source_fails: &[],
+        sink_fails: &[],
+        status: 7,
         entries: 0,
         output: "",
     },
