@@ -5,4 +5,3 @@ pub mod KeyRef
 pub mod Status
 pub mod Steps
 pub mod Top
-pub mod Words

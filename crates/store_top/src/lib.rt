@@ -9,7 +9,6 @@ mod key_ref;
 mod running;
 mod served;
 mod steps;
-mod words;
 
 pub use running::{run, step};
 pub use served::{Served, TopFault};

@@ -7,18 +7,19 @@ ghost use Rattle.script_model.specs.Numbered.{AreNumbered};
 ghost use Rattle.history_model.specs.Serial.{Serial};
 ghost use Rattle.store_top.specs.Engine.{HoldsFlat};
 ghost use Rattle.store_top.specs.Status.{status_of};
-ghost use Rattle.store_top.specs.Words.{mode_of};
+ghost use Rattle.store_words.specs.Words.{mode_of};
 ghost use Rattle.store_top.specs.Steps.{ToldBefore, ToldInPart};
 ghost use Rattle.store_top.specs.Top.{IsBeforeCalls, IsUsageOrMemory, IsWithoutDisk, ReadsAtMost, RefusesInput, RunsInPart, RunsWhole, ServesBytes, ServesCalls};
 
 use crate::engine::Engine;
 use crate::served::{Served, TopFault, status};
 use crate::steps::{RunFault, serve_calls};
-use crate::words::{Mode, mode_of};
+
 use outer_world::{Disk, Gate, ReadAllFault, Sink, Source, read_all};
 use own_base::List;
 use own_model::{Entry, INPUT_BYTES, InputFault, ScriptCall};
 use sql_reader::read_script;
+use store_words::{Mode, mode_of};
 use std::alloc::{AllocError, Global};
 use std::mem::drop;
 use std::sync::Wait;
