@@ -1,2 +1,4 @@
+mod Numerals
 mod Rewriting
 mod Spelling
+mod WrittenTokens
