@@ -1,4 +1,6 @@
 mod Numerals
 mod Rewriting
 mod Spelling
+mod WrittenLists
 mod WrittenTokens
+mod WrittenValues

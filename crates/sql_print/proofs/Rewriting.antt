@@ -107,3 +107,23 @@ either one two = both_into (into (λ value out rest text. inl text) one) (into (
 -- [x]
 pub perhaps : {A : Type 0} {from to : Language A} {one : A → Words} → Rewrites from to one → Rewrites (optional from) (optional to) (words_of one)
 perhaps first = whole (either (then_made first (λ found. refl)) (then_pure refl))
+
+-- one rule and then another, where the words of the first are always the same
+pub then_rule : {A B : Type 0} {from to : Language A} {ahead : Words} {next behind : Language B} {two : B → Words} → Rewrites from to (λ _. ahead) → Rewrites next behind two → Rewrites (from >> next) (to >> behind) (λ value. ahead ++ two value)
+then_rule first second = whole (then_next first (λ _. ending second (λ found. refl)))
+
+-- a rule of which nothing is written
+pub then_skip : {A B : Type 0} {from other : Language A} {one : A → Words} {next : A → Language B} {to : Language B} {before : Words → Words} {words : B → Words} → Rewrites from other one → ((found : A) → Continues (next found) to before words) → Continues (from >>= next) to before words
+then_skip first later =
+    record {
+      goes = λ value terminals rest sound (found, middle, text, more). (later found).goes value middle rest (first.sound found terminals middle sound text) more;
+      sound = λ value terminals rest sound (found, middle, text, more). (later found).sound value middle rest (first.sound found terminals middle sound text) more;
+    }
+
+-- a value that is written so whatever the text was
+pub always : {A : Type 0} {made : A} {to : Language A} {before : Words → Words} {words : A → Words} (written : Words) → words made ≡ before written → Writes written (to made) → Continues (pure made) to before words
+always {to = to} {words = words} written same writes =
+    record {
+      goes = λ value terminals rest sound (is, ends). record { written = written; same = ap words is ∙ same; writes = subst (λ v. Writes written (to v)) (sym is) writes };
+      sound = λ value terminals rest sound (is, ends). subst AreSound ends sound;
+    }

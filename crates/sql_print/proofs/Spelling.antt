@@ -56,20 +56,26 @@ pub record Writes (words : Words) (rule : Terminals → Terminals → Type 0) : 
   pub holds : (out rest : Terminals) → Spells pieces out rest → rule out rest
 
 -- one rule and then another
-pub writes-then : {A B : Type 0} (first : Language A) (next : A → Language B) (found : A) (value : B) (one two : Words) → Writes one (first found) → Writes two (next found value) → Writes (one ++ two) ((first >>= next) value)
-writes-then first next found value one two before after =
+pub writes-both : (one two : Words) (first second : Terminals → Terminals → Type 0) → Writes one first → Writes two second → Writes (one ++ two) (λ out rest. (middle : Terminals) × first out middle × second middle rest)
+writes-both one two first second before after =
     record {
       pieces = before.pieces ++ after.pieces;
       are = ArePieces-append before.pieces after.pieces before.are after.are;
       same = (λ i. before.same i ++ after.same i) ∙ sym (map-append word_of before.pieces after.pieces);
       holds = λ out rest spells.
           let parts = Spells-split before.pieces after.pieces out rest spells in
-          (found, parts.0, before.holds out parts.0 parts.1, after.holds parts.0 rest parts.2);
+          (parts.0, before.holds out parts.0 parts.1, after.holds parts.0 rest parts.2);
     }
 
 -- a rule that follows of another
 pub writes-so : (words : Words) (rule other : Terminals → Terminals → Type 0) → ((out rest : Terminals) → rule out rest → other out rest) → Writes words rule → Writes words other
 writes-so words rule other so writes = record { pieces = writes.pieces; are = writes.are; same = writes.same; holds = λ out rest spells. so out rest (writes.holds out rest spells) }
+
+-- one rule and then another, which the value of the first may decide
+pub writes-then : {A B : Type 0} (first : Language A) (next : A → Language B) (found : A) (value : B) (one two : Words) → Writes one (first found) → Writes two (next found value) → Writes (one ++ two) ((first >>= next) value)
+writes-then first next found value one two before after =
+    writes-so (one ++ two) (λ out rest. (middle : Terminals) × first found out middle × next found value middle rest) ((first >>= next) value) (λ out rest (middle, text, more). (found, middle, text, more))
+    (writes-both one two (first found) (next found value) before after)
 
 -- one piece
 pub writes-piece : (piece : Piece) (rule : Terminals → Terminals → Type 0) → IsPiece piece → ((out rest : Terminals) → SpellsOne piece out rest → rule out rest) → Writes (word_of piece ∷ []) rule
@@ -84,6 +90,9 @@ writes-piece piece rule is holds =
 -- nothing
 pub writes-nothing : (rule : Terminals → Terminals → Type 0) → ((out : Terminals) → rule out out) → Writes [] rule
 writes-nothing rule holds = record { pieces = []; are = tt; same = refl; holds = λ out rest spells. subst (rule out) spells (holds out) }
+
+pub writes-pure : {A : Type 0} (made : A) → Writes [] (pure made made)
+writes-pure made = writes-nothing (pure made made) (λ out. (refl, refl))
 
 -- a terminal of a text: a name is no keyword, and no slot stands there
 abbrev pub IsSound : Terminal → Type 0

@@ -57,6 +57,17 @@ sign wanted spelled =
       λ out rest (start, same). (Written Mark wanted start, same, (bytes_eq-Decides wanted wanted).1 refl),
     ))
 
+-- a keyword and a mark are written so whatever a text was
+pub key-writes : (wanted : List ℕ) → IsSpelled Keyword wanted → Writes (wanted ∷ []) (word wanted tt)
+key-writes wanted spelled =
+    writes-piece (Single Keyword wanted) (word wanted tt) spelled
+    (λ out rest (start, same). (Written Keyword wanted start, same, (bytes_eq-Decides (str_to_ascii_lowercase wanted) (str_to_ascii_lowercase wanted)).1 refl))
+
+pub sign-writes : (wanted : List ℕ) → IsSpelled Mark wanted → Writes (wanted ∷ []) (mark wanted tt)
+sign-writes wanted spelled =
+    writes-piece (Single Mark wanted) (mark wanted tt) spelled
+    (λ out rest (start, same). (Written Mark wanted start, same, (bytes_eq-Decides wanted wanted).1 refl))
+
 -- what is in lower case stays as it is
 lowered_twice : (bytes : List ℕ) → map to_ascii_lowercase (map to_ascii_lowercase bytes) ≡ map to_ascii_lowercase bytes
 lowered_twice [] = refl
