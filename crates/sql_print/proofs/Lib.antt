@@ -1,6 +1,9 @@
+mod ConditionWords
+mod Levels
 mod Numerals
 mod Rewriting
 mod Spelling
+mod WrittenConditions
 mod WrittenLists
 mod WrittenTokens
 mod WrittenValues

@@ -1,0 +1,1 @@
+-- The rules of conditions: brackets stand where they are needed, and there a text has some too.
