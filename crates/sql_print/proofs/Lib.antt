@@ -1,5 +1,6 @@
 mod ConditionWords
 mod Levels
+mod NestedConditions
 mod Numerals
 mod Rewriting
 mod Spelling
