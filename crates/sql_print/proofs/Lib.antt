@@ -5,6 +5,8 @@ mod Numerals
 mod Rewriting
 mod Spelling
 mod WrittenConditions
+mod WrittenItems
 mod WrittenLists
+mod WrittenSelects
 mod WrittenTokens
 mod WrittenValues

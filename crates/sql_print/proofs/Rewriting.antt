@@ -127,3 +127,11 @@ always {to = to} {words = words} written same writes =
       goes = λ value terminals rest sound (is, ends). record { written = written; same = ap words is ∙ same; writes = subst (λ v. Writes written (to v)) (sym is) writes };
       sound = λ value terminals rest sound (is, ends). subst AreSound ends sound;
     }
+
+-- the same in other words
+pub reworded : {A : Type 0} {from to : Language A} {one words : A → Words} → Rewrites from to one → ((value : A) (terminals rest : Terminals) → from value terminals rest → one value ≡ words value) → Rewrites from to words
+reworded {to = to} rewrites same =
+    record {
+      writes = λ value terminals rest sound text. subst (λ l. Writes l (to value)) (same value terminals rest text) (rewrites.writes value terminals rest sound text);
+      sound = rewrites.sound;
+    }
