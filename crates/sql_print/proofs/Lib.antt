@@ -5,8 +5,10 @@ mod Numerals
 mod Rewriting
 mod Spelling
 mod WrittenConditions
+mod WrittenCreates
 mod WrittenItems
 mod WrittenLists
 mod WrittenSelects
+mod WrittenStatements
 mod WrittenTokens
 mod WrittenValues

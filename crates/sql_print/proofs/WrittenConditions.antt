@@ -19,7 +19,7 @@ use Rattle.sql_print.proofs.Levels.{Follows, part-conj, conj-cond, neg-more, con
 use Rattle.sql_print.proofs.Spelling.{Writes, AreSound, writes-so, writes-then, writes-pure}
 use Rattle.sql_print.proofs.Rewriting.{Rewrites, whole, either, then_next, then_made, then_pure, then_rule, perhaps}
 use Rattle.sql_print.proofs.WrittenLists.{in_list, in_brackets}
-use Rattle.sql_print.proofs.WrittenTokens.{key, sign, key-writes, sign-writes}
+use Rattle.sql_print.proofs.WrittenTokens.{key, present, sign-writes}
 use Rattle.sql_print.proofs.WrittenValues.{col, cmp, operand}
 
 -- in brackets
@@ -31,18 +31,13 @@ brackets-write inner value words writes =
     (writes-then (mark (codes ")")) (λ _. pure value) tt value (codes ")" ∷ []) [] (sign-writes (codes ")") refl) (writes-pure value)))
 
 module _ (limits : Limits) where
-  -- NOT or nothing
-  negation : Rewrites (optional (word (codes "NOT"))) (optional (word (codes "NOT"))) (λ negated. if is_there negated then codes "NOT" ∷ [] else [])
-  unfolding keywords
-  negation = whole (either (then_made (key (codes "NOT") (refl, refl)) (λ _. refl)) (then_pure refl))
-
   -- col cmp (col | literal) | col IS [NOT] NULL
   pub comparison : Rewrites (grammar.comparison limits) (grammar.comparison limits) cond_words
   unfolding grammar.comparison keywords
   comparison =
       whole
       (either (then_next (col limits) (λ column. then_next cmp (λ compares. then_made (operand limits) (λ right. ap (λ w. w.words) (compare-written column compares right)))))
-      (then_next (col limits) (λ column. then_next (key (codes "IS") (refl, refl)) (λ _. then_next negation (λ negated. then_made (key (codes "NULL") (refl, refl)) (λ _. ap (λ w. w.words) (null-written column (is_there negated))))))))
+      (then_next (col limits) (λ column. then_next (key (codes "IS") (refl, refl)) (λ _. then_next (present (codes "NOT") (refl, refl)) (λ negated. then_made (key (codes "NULL") (refl, refl)) (λ _. ap (λ w. w.words) (null-written column (is_there negated))))))))
 
   -- a comparison stands alone
   pub comparison-single : (value : Cond) (terminals rest : Terminals) → grammar.comparison limits value terminals rest → written value ≡ record { words = cond_words value; shape = Single }

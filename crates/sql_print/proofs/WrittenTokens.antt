@@ -1,6 +1,6 @@
 -- The rules of one terminal, and of a number with its sign.
 use Rattle.std.proofs.Common.{◌≡◌, ◌<◌, ◌≤◌, ◌+◌, ◌-◌, ◌^◌, ℕ, suc, zero, Bool, true, false, List, [], ◌∷◌, ◌++◌, refl, sym, ap, ◌∙◌, subst, inl, inr, arith, codes}
-use Rattle.std.specs.Prelude.{IsTrue, ◌&&◌, ◌||◌, ℤ, pos, negsuc, map, if◌then◌else◌, ◌⊎◌, nat_le}
+use Rattle.std.specs.Prelude.{Option, None, IsTrue, ◌&&◌, ◌||◌, ℤ, pos, negsuc, map, if◌then◌else◌, ◌⊎◌, nat_le}
 use Rattle.std.specs.Char.{to_ascii_lowercase}
 use Rattle.std.specs.Fmt.{decimal, signed_decimal}
 use Rattle.std.specs.List.{list_all, list_any}
@@ -15,13 +15,14 @@ use Rattle.sql_lex.specs.Keywords.{keywords, is_keyword}
 use Rattle.sql_lex.specs.Tokens as tokens
 use Rattle.sql_lex.specs.Tokens.{IsSpelled, is_number, quoted}
 use Rattle.grammar_model.specs.Grammar as grammar
-use Rattle.grammar_model.specs.Language.{Language, ◌>>=◌, ◌>>◌, ◌or◌, word, mark, one}
+use Rattle.grammar_model.specs.Language.{Language, ◌>>=◌, ◌>>◌, ◌or◌, word, mark, one, optional, pure}
 use Rattle.grammar_model.specs.Limits.{Limits}
+use Rattle.grammar_model.specs.Parts.{is_there}
 use Rattle.grammar_model.specs.Terminal.{Terminal, Terminals, Written, is_word, is_mark}
 use Rattle.grammar_model.specs.Values.{NameIs, NumberIs, TextIs, digits_after, signed}
 use Rattle.text_model.specs.Words.{Words}
-use Rattle.sql_print.proofs.Spelling.{Piece, Single, Signed, word_of, IsPiece, SpellsOne, Writes, writes-piece, IsSound, AreSound}
-use Rattle.sql_print.proofs.Rewriting.{Rewrites}
+use Rattle.sql_print.proofs.Spelling.{Piece, Single, Signed, word_of, IsPiece, SpellsOne, Writes, writes-piece, writes-then, writes-nothing, writes-pure, IsSound, AreSound}
+use Rattle.sql_print.proofs.Rewriting.{Rewrites, Continues, whole, either, then_made, then_pure, then_rule, then_skip, always, perhaps}
 use Rattle.sql_print.proofs.Numerals.{decimal_read}
 
 -- after one terminal of a text the others are of it
@@ -67,6 +68,21 @@ pub sign-writes : (wanted : List ℕ) → IsSpelled Mark wanted → Writes (want
 sign-writes wanted spelled =
     writes-piece (Single Mark wanted) (mark wanted tt) spelled
     (λ out rest (start, same). (Written Mark wanted start, same, (bytes_eq-Decides wanted wanted).1 refl))
+
+-- a keyword that is there or not
+pub present : (wanted : List ℕ) → IsSpelled Keyword wanted → Rewrites (optional (word wanted)) (optional (word wanted)) (λ found. if is_there found then wanted ∷ [] else [])
+present wanted spelled = whole (either (then_made (key wanted spelled) (λ _. refl)) (then_pure refl))
+
+-- a keyword, and one that may come after it, which is left out
+pub left_out-writes : {A : Type 0} (wanted more : List ℕ) → IsSpelled Keyword wanted → (made : A) → Writes (wanted ∷ []) ((word wanted >> optional (word more) >> pure made) made)
+left_out-writes wanted more spelled made =
+    writes-then (word wanted >> optional (word more)) (λ _. pure made) None made (wanted ∷ []) []
+    (writes-then (word wanted) (λ _. optional (word more)) tt None (wanted ∷ []) [] (key-writes wanted spelled) (writes-nothing (optional (word more) None) (λ out. inr (refl, refl))))
+    (writes-pure made)
+
+pub left_out : {A : Type 0} {made : A} {before : Words → Words} {words : A → Words} (wanted more : List ℕ) → IsSpelled Keyword wanted → IsSpelled Keyword more → words made ≡ before (wanted ∷ []) → Continues (word wanted >> optional (word more) >> pure made) (word wanted >> optional (word more) >> pure made) before words
+left_out {made = made} wanted more spelled other same =
+    then_skip (then_rule (key wanted spelled) (perhaps (key more other))) (λ _. always (wanted ∷ []) same (left_out-writes wanted more spelled made))
 
 -- what is in lower case stays as it is
 lowered_twice : (bytes : List ℕ) → map to_ascii_lowercase (map to_ascii_lowercase bytes) ≡ map to_ascii_lowercase bytes
