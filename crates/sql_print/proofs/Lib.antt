@@ -1,9 +1,11 @@
 mod ConditionWords
+mod CutWords
 mod Levels
 mod NestedConditions
 mod Numerals
 mod Rewriting
 mod Spelling
+mod WordEnds
 mod WrittenConditions
 mod WrittenCreates
 mod WrittenItems
