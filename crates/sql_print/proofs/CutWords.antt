@@ -12,7 +12,6 @@ use Rattle.sql_lex.specs.Filler.{Filler, Space, Fills, Skips, begins_filler}
 use Rattle.sql_lex.specs.Lexing.{Lexing, NextStandsAt, IsNext, IsAtEnd}
 use Rattle.sql_lex.specs.Tokens.{IsSpelled, Begins, goes_on, is_number, marks}
 use Rattle.grammar_model.specs.Terminal.{Terminals, Written, terminal_of}
-use Rattle.grammar_model.specs.Terminals.{IsCutInto, AreTerminals}
 use Rattle.text_model.specs.Words.{Words, spaced}
 use Rattle.sql_print.proofs.Spelling.{Piece, Single, Signed, word_of, IsPiece, ArePieces, Spells}
 use Rattle.sql_print.proofs.WordEnds.{EndsWord, stops-there, minus-stops, token-no_filler, minus-no_filler, some-bytes}
@@ -69,10 +68,15 @@ module _ (kind : TokenKind) (text front : List ℕ) (space : Bool) (bytes after 
             (subst (λ l. Begins kind (bytes ++ after) bytes l) (sym from_end) (record { split = refl; spelled = spelled; whole = whole }));
       }
 
--- from this place on the text is cut into tokens that the pieces spell
-record Cut (text front : List ℕ) (pieces : List Piece) : Type 0 where
+-- from here on these tokens come, and then the end
+abbrev pub Steps : Lexing → List Token → Type 0
+Steps lexing [] = IsAtEnd lexing
+Steps lexing (token ∷ tokens) = IsNext lexing token × Steps (record lexing { at = token.end }) tokens
+
+-- from this place on the text is tokens that the pieces spell
+pub record Cut (text front : List ℕ) (pieces : List Piece) : Type 0 where
   pub tokens : List Token
-  pub cut : IsCutInto (record { text = text; at = length front }) tokens
+  pub steps : Steps (record { text = text; at = length front }) tokens
   pub spells : Spells pieces (map terminal_of tokens) []
 
 -- one token more
@@ -80,7 +84,7 @@ cut-token : (space : Bool) (kind : TokenKind) (bytes : List ℕ) (pieces : List 
 cut-token space kind bytes pieces text front after is split ends rest =
     record {
       tokens = token_of kind bytes (length (front ++ gap space)) (length ((front ++ gap space) ++ bytes)) ∷ rest.tokens;
-      cut = inl (next-token kind text front space bytes after split is (stops-there kind bytes after ends) (token-no_filler kind bytes after is ends), rest.cut);
+      steps = (next-token kind text front space bytes after split is (stops-there kind bytes after ends) (token-no_filler kind bytes after is ends), rest.steps);
       spells = (map terminal_of rest.tokens, (length (front ++ gap space), refl), rest.spells);
     }
 
@@ -91,7 +95,7 @@ cut-minus digits pieces text before after space is split rest =
     let place = length (before ++ gap space) in
     record {
       tokens = token_of Mark (codes "-") place (length ((before ++ gap space) ++ codes "-")) ∷ rest.tokens;
-      cut = inl (next-token Mark text before space (codes "-") (digits ++ after) split refl (minus-stops digits after is) (minus-no_filler digits after is), rest.cut);
+      steps = (next-token Mark text before space (codes "-") (digits ++ after) split refl (minus-stops digits after is) (minus-no_filler digits after is), rest.steps);
       spells = (rest.spells.0, (place, rest.spells.1.0, ap (λ l. Written Mark (codes "-") place ∷ l) rest.spells.1.1), rest.spells.2);
     }
 
@@ -112,7 +116,7 @@ cut-end text front split =
     let same : text ≡ front = split ∙ append-nil front in
     record {
       tokens = [];
-      cut = record {
+      steps = record {
         onward = omega (arith, ap length same);
         within = omega arith;
         skips = record {
@@ -149,16 +153,11 @@ joined-tail : (piece : Piece) (pieces : List Piece) → join_with_byte 32 (map w
 joined-tail piece [] = sym (append-nil (word_of piece))
 joined-tail piece (next ∷ pieces) = ap (λ l. word_of piece ++ 32 ∷ l) (joined-tail next pieces)
 
-cut-words : (pieces : List Piece) → ArePieces pieces → Cut (spaced (map word_of pieces)) [] pieces
+-- the text of these words is tokens that they spell
+pub cut-words : (pieces : List Piece) → ArePieces pieces → Cut (spaced (map word_of pieces)) [] pieces
 unfolding spaced
 cut-words [] are = cut-end [] [] refl
 cut-words (piece ∷ pieces) are =
     let whole = joined-tail piece pieces in
     cut-piece false piece pieces (join_with_byte 32 (map word_of (piece ∷ pieces))) [] (tail pieces) are.0 whole (tail-ends pieces)
     (cut-tail pieces (join_with_byte 32 (map word_of (piece ∷ pieces))) (word_of piece) are.1 whole)
-
--- the text of these words has terminals that they spell
-pub spaced-terminals : (pieces : List Piece) → ArePieces pieces → (terminals : Terminals) × AreTerminals (spaced (map word_of pieces)) terminals × Spells pieces terminals []
-spaced-terminals pieces are =
-    let cut = cut-words pieces are in
-    (map terminal_of cut.tokens, (cut.tokens, cut.cut, refl), cut.spells)

@@ -3,6 +3,7 @@ mod CutWords
 mod Levels
 mod NestedConditions
 mod Numerals
+mod ReadsBack
 mod Rewriting
 mod Spelling
 mod WordEnds
