@@ -1,6 +1,6 @@
 -- The words of a canonical text, one space between, are cut into the terminals that they spell.
-use Rattle.std.proofs.Common.{◌≡◌, ◌<◌, ◌≤◌, ◌+◌, ◌-◌, ℕ, Bool, true, false, List, [], ◌∷◌, ◌++◌, length, take, drop, inl, inr, refl, sym, ap, ◌∙◌, subst, arith, codes, append_assoc}
-use Rattle.std.specs.Prelude.{map, slice_range, IsTrue, if◌then◌else◌}
+use Rattle.std.proofs.Common.{◌≡◌, ◌-◌, ℕ, Bool, true, false, List, [], ◌∷◌, ◌++◌, length, take, drop, refl, sym, ap, ◌∙◌, subst, arith, codes, append_assoc}
+use Rattle.std.specs.Prelude.{map, IsTrue}
 use Rattle.std.specs.List.{join_with_byte}
 use Rattle.std.proofs.Math.Seq.{drop-append_seam, take-append_seam, drop-length}
 use Rattle.std.proofs.lemmas.List.{append-nil, length-append}
@@ -8,11 +8,11 @@ use Rattle.sql_lex.specs.declared.token.Token.{Token}
 use Rattle.sql_lex.specs.declared.token.TokenKind.{TokenKind}
 use Rattle.sql_lex.specs.declared.token.TokenKind.TheVariants.{Number, Mark}
 use Rattle.sql_lex.specs.Bytes.{first_passes}
-use Rattle.sql_lex.specs.Filler.{Filler, Space, Fills, Skips, begins_filler}
-use Rattle.sql_lex.specs.Lexing.{Lexing, NextStandsAt, IsNext, IsAtEnd}
+use Rattle.sql_lex.specs.Filler.{Space, Skips, begins_filler}
+use Rattle.sql_lex.specs.Lexing.{Lexing, IsNext, IsAtEnd}
 use Rattle.sql_lex.specs.Tokens.{IsSpelled, Begins, goes_on, is_number, marks}
-use Rattle.grammar_model.specs.Terminal.{Terminals, Written, terminal_of}
-use Rattle.text_model.specs.Words.{Words, spaced}
+use Rattle.grammar_model.specs.Terminal.{Written, terminal_of}
+use Rattle.text_model.specs.Words.{spaced}
 use Rattle.sql_print.proofs.Spelling.{Piece, Single, Signed, word_of, IsPiece, ArePieces, Spells}
 use Rattle.sql_print.proofs.WordEnds.{EndsWord, stops-there, minus-stops, token-no_filler, minus-no_filler, some-bytes}
 

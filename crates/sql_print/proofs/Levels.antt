@@ -1,9 +1,9 @@
 -- What is a condition within some levels is one within more.
-use Rattle.std.proofs.Common.{◌≡◌, ◌+◌, ℕ, zero, suc, List, [], ◌∷◌, inl, inr, codes, refl}
+use Rattle.std.proofs.Common.{◌+◌, ℕ, zero, suc, List, [], ◌∷◌, inl, inr, codes, refl}
 use Rattle.own_model.specs.declared.condition.Cond.{Cond}
 use Rattle.own_model.specs.declared.condition.Cond.TheVariants as Cond
 use Rattle.grammar_model.specs.Grammar as grammar
-use Rattle.grammar_model.specs.Language.{Language, ◌>>=◌, ◌>>◌, many_from, word, pure, separated, bracketed}
+use Rattle.grammar_model.specs.Language.{Language, ◌>>=◌, ◌>>◌, many_from, word, pure, separated}
 use Rattle.grammar_model.specs.Limits.{Limits}
 use Rattle.grammar_model.specs.Parts.{list_of}
 use Rattle.grammar_model.specs.Terminal.{Terminals}

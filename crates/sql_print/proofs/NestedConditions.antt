@@ -1,5 +1,5 @@
 -- The rules of conditions, level by level.
-use Rattle.std.proofs.Common.{◌≡◌, ℕ, zero, suc, List, [], ◌∷◌, ◌++◌, refl, sym, ap, ◌∙◌, subst, inl, inr, codes}
+use Rattle.std.proofs.Common.{◌≡◌, ℕ, zero, suc, List, [], ◌∷◌, refl, sym, subst, inl, inr, codes}
 use Rattle.own_model.specs.declared.condition.Cond.{Cond}
 use Rattle.own_model.specs.declared.condition.Cond.TheVariants as Cond
 use Rattle.sql_lex.specs.Keywords.{keywords}
@@ -10,13 +10,13 @@ use Rattle.grammar_model.specs.Limits.{Limits}
 use Rattle.grammar_model.specs.Parts.{list_of}
 use Rattle.grammar_model.specs.Terminal.{Terminals}
 use Rattle.text_model.specs.Canonical.{where_words}
-use Rattle.text_model.specs.Condition.{written, cond_words, Single, AndList, OrList, in_and, in_or}
+use Rattle.text_model.specs.Condition.{written, cond_words, in_and, in_or}
 use Rattle.text_model.specs.Words.{Words, bracketed, separated}
 use Rattle.sql_print.proofs.ConditionWords.{every-written, some-written, not-written}
-use Rattle.sql_print.proofs.Spelling.{Writes, AreSound, writes-so, writes-then, writes-pure}
+use Rattle.sql_print.proofs.Spelling.{Writes, AreSound, writes-so}
 use Rattle.sql_print.proofs.Rewriting.{Rewrites, then_rule, perhaps}
 use Rattle.sql_print.proofs.WrittenLists.{in_list, in_brackets}
-use Rattle.sql_print.proofs.WrittenTokens.{key, key-writes}
+use Rattle.sql_print.proofs.WrittenTokens.{key}
 use Rattle.sql_print.proofs.WrittenConditions.{IsAs, Tight, IsNeg, IsConj, alone, single-neg, neg-conj, bracketed-neg, comparison, comparison-single}
 
 -- what is true of a rule's values; after them the terminals are still those of a text

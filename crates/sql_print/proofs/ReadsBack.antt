@@ -1,6 +1,6 @@
 -- The canonical text of a statement reads back as that statement.
 use Rattle.std.proofs.Common.{◌≡◌, ℕ, List, [], ◌∷◌, inl, inr, refl, sym, ap, ◌∙◌, subst, Ok}
-use Rattle.std.specs.Prelude.{map, Option, None, Some}
+use Rattle.std.specs.Prelude.{map, None, Some}
 use Rattle.own_model.specs.declared.limit.TheConstants.{NESTING_LEVELS}
 use Rattle.own_model.specs.declared.statement.Statement.{Statement}
 use Rattle.sql_lex.specs.declared.token.Token.{Token}
@@ -22,7 +22,7 @@ use Rattle.sql_reader.proofs.CutTexts.{Chain, Chain-end, IsTheAnswer, AreTermina
 use Rattle.sql_reader.proofs.FaultPlaces.{store_fair}
 use Rattle.sql_reader.proofs.WholeTexts.{reads_whole, read_of}
 use Rattle.sql_print.proofs.Spelling.{AreSound, IsSound, Writes, word_of}
-use Rattle.sql_print.proofs.CutWords.{Cut, Steps, cut-words}
+use Rattle.sql_print.proofs.CutWords.{Steps, cut-words}
 use Rattle.sql_print.proofs.WrittenStatements.{statement}
 
 -- a token of a text is sound

@@ -1,12 +1,12 @@
 -- Words that spell terminals, and rules of the grammar that hold of what words spell.
-use Rattle.std.proofs.Common.{◌≡◌, ℕ, Bool, false, List, [], ◌∷◌, ◌++◌, refl, sym, ap, ◌∙◌, subst, inl, inr, codes}
+use Rattle.std.proofs.Common.{◌≡◌, ℕ, false, List, [], ◌∷◌, ◌++◌, refl, sym, ◌∙◌, subst, codes}
 use Rattle.std.specs.Prelude.{map, IsTrue}
 use Rattle.std.proofs.lemmas.List.{map-append}
 use Rattle.sql_lex.specs.declared.token.TokenKind.{TokenKind}
 use Rattle.sql_lex.specs.declared.token.TokenKind.TheVariants.{Name, Keyword, Number, Quoted, Mark}
 use Rattle.sql_lex.specs.Keywords.{is_keyword}
 use Rattle.sql_lex.specs.Tokens.{IsSpelled, is_number}
-use Rattle.grammar_model.specs.Language.{Language, ◌>>=◌, ◌>>◌, ◌or◌, pure}
+use Rattle.grammar_model.specs.Language.{Language, ◌>>=◌, pure}
 use Rattle.grammar_model.specs.Terminal.{Terminal, Terminals, Written, Slot}
 use Rattle.text_model.specs.Words.{Words}
 

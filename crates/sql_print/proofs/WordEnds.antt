@@ -1,5 +1,5 @@
 -- Where the tokens of a canonical text end: at a space, at the end, or at the digits after a minus sign.
-use Rattle.std.proofs.Common.{◌≡◌, ◌<◌, ◌≤◌, ℕ, Bool, true, false, List, [], ◌∷◌, ◌++◌, length, refl, sym, ap, ◌∙◌, subst, arith, codes}
+use Rattle.std.proofs.Common.{◌≡◌, ◌<◌, ℕ, Bool, true, false, List, [], ◌∷◌, ◌++◌, length, refl, sym, ap, ◌∙◌, arith, codes}
 use Rattle.std.specs.Prelude.{◌==◌, ◌&&◌, ◌||◌, not, nat_eq, IsTrue}
 use Rattle.std.specs.Char.{is_ascii_digit}
 use Rattle.std.specs.List.{list_all, list_any, starts_with}
@@ -11,8 +11,8 @@ use Rattle.sql_lex.specs.declared.token.TokenKind.{TokenKind}
 use Rattle.sql_lex.specs.declared.token.TokenKind.TheVariants.{Name, Keyword, Number, Quoted, Mark}
 use Rattle.sql_lex.specs.Bytes.{is_space, begins_word, continues_word, first_passes}
 use Rattle.sql_lex.specs.Filler.{begins_filler}
-use Rattle.sql_lex.specs.Tokens.{IsSpelled, Begins, goes_on, is_mark, is_number, marks, quoted}
-use Rattle.sql_lex.proofs.FirstByte.{begins_kind, begins-first}
+use Rattle.sql_lex.specs.Tokens.{IsSpelled, goes_on, is_mark, is_number, marks, quoted}
+use Rattle.sql_lex.proofs.FirstByte.{begins-first}
 use Rattle.sql_lex.proofs.Marks.{both, not_true, mark-length}
 
 -- a space or the end comes next

@@ -1,24 +1,20 @@
 -- The rules of conditions: brackets stand where they are needed, and there a text has some too.
-use Rattle.std.proofs.Common.{◌≡◌, ℕ, zero, suc, Bool, true, false, List, [], ◌∷◌, ◌++◌, refl, sym, ap, ◌∙◌, subst, inl, inr, codes}
-use Rattle.std.specs.Prelude.{Option, ◌⊎◌, if◌then◌else◌}
+use Rattle.std.proofs.Common.{◌≡◌, ℕ, suc, [], ◌∷◌, ◌++◌, refl, sym, ap, ◌∙◌, subst, inl, inr, codes}
 use Rattle.own_model.specs.declared.condition.Cond.{Cond}
-use Rattle.own_model.specs.declared.condition.Cond.TheVariants as Cond
 use Rattle.sql_lex.specs.Keywords.{keywords}
 use Rattle.sql_lex.specs.Tokens.{marks}
 use Rattle.grammar_model.specs.Grammar as grammar
 use Rattle.grammar_model.specs.Language.{Language, ◌>>=◌, ◌>>◌, ◌or◌, pure, optional, word, mark}
 use Rattle.grammar_model.specs.Language as language
 use Rattle.grammar_model.specs.Limits.{Limits}
-use Rattle.grammar_model.specs.Parts.{is_there, list_of}
+use Rattle.grammar_model.specs.Parts.{is_there}
 use Rattle.grammar_model.specs.Terminal.{Terminals}
-use Rattle.text_model.specs.Canonical.{where_words}
-use Rattle.text_model.specs.Condition.{Written, written, written_step, cond_words, Shape, Single, AndList, OrList, in_and, in_or}
-use Rattle.text_model.specs.Words.{Words, bracketed, separated}
-use Rattle.sql_print.proofs.ConditionWords.{every-written, some-written, not-written, compare-written, null-written}
-use Rattle.sql_print.proofs.Levels.{Follows, part-conj, conj-cond, neg-more, conj-more, cond-more}
-use Rattle.sql_print.proofs.Spelling.{Writes, AreSound, writes-so, writes-then, writes-pure}
-use Rattle.sql_print.proofs.Rewriting.{Rewrites, whole, either, then_next, then_made, then_pure, then_rule, perhaps}
-use Rattle.sql_print.proofs.WrittenLists.{in_list, in_brackets}
+use Rattle.text_model.specs.Condition.{written, cond_words, Shape, Single, AndList, OrList, in_and, in_or}
+use Rattle.text_model.specs.Words.{Words, bracketed}
+use Rattle.sql_print.proofs.ConditionWords.{compare-written, null-written}
+use Rattle.sql_print.proofs.Levels.{part-conj, conj-cond, neg-more, conj-more, cond-more}
+use Rattle.sql_print.proofs.Spelling.{Writes, writes-so, writes-then, writes-pure}
+use Rattle.sql_print.proofs.Rewriting.{Rewrites, whole, either, then_next, then_made}
 use Rattle.sql_print.proofs.WrittenTokens.{key, present, sign-writes}
 use Rattle.sql_print.proofs.WrittenValues.{col, cmp, operand}
 

@@ -1,12 +1,10 @@
 -- The rules of CREATE.
-use Rattle.std.proofs.Common.{◌≡◌, ℕ, List, [], ◌∷◌, ◌++◌, refl, codes}
-use Rattle.own_model.specs.declared.create.Part.TheVariants as Part
+use Rattle.std.proofs.Common.{ℕ, [], ◌∷◌, refl, codes}
 use Rattle.sql_lex.specs.Keywords.{keywords}
 use Rattle.grammar_model.specs.Grammar as grammar
 use Rattle.grammar_model.specs.Limits.{Limits}
 use Rattle.text_model.specs.Canonical.{kind_word, ref_kind_word, refers_words, attr_words, column_def_words, part_words, create_words, view_words, statement_words}
-use Rattle.text_model.specs.Words.{Words}
-use Rattle.sql_print.proofs.Rewriting.{Rewrites, whole, either, ending, then_next, then_made, then_rule}
+use Rattle.sql_print.proofs.Rewriting.{Rewrites, whole, either, then_next, then_made, then_rule}
 use Rattle.sql_print.proofs.WrittenLists.{as_often, with_commas, in_brackets}
 use Rattle.sql_print.proofs.WrittenSelects.{unordered}
 use Rattle.sql_print.proofs.WrittenTokens.{key, present, left_out, name}

@@ -1,21 +1,19 @@
 -- The rules of a select's items.
-use Rattle.std.proofs.Common.{◌≡◌, ◌+◌, ℕ, Bool, true, false, List, [], ◌∷◌, ◌++◌, refl, sym, ap, ◌∙◌, subst, codes}
+use Rattle.std.proofs.Common.{◌≡◌, ◌+◌, ℕ, Bool, true, false, List, [], ◌∷◌, refl, subst, codes}
 use Rattle.std.specs.Prelude.{map}
 use Rattle.std.specs.Char.{to_ascii_lowercase}
-use Rattle.std.specs.List.{flat_map}
 use Rattle.own_model.specs.declared.select.Item.{Item}
-use Rattle.own_model.specs.declared.select.What.TheVariants as What
 use Rattle.sql_lex.specs.declared.token.TokenKind.TheVariants.{Name}
 use Rattle.sql_lex.specs.Keywords.{keywords}
 use Rattle.sql_lex.specs.Tokens.{IsSpelled, marks}
 use Rattle.grammar_model.specs.Grammar as grammar
-use Rattle.grammar_model.specs.Language.{Language, ◌>>=◌, ◌>>◌, ◌or◌, one, mark, whether}
+use Rattle.grammar_model.specs.Language.{Language, ◌>>◌, ◌or◌, one, mark, whether}
 use Rattle.grammar_model.specs.Limits.{Limits, fits}
 use Rattle.grammar_model.specs.Terminal.{Terminals, Written}
 use Rattle.grammar_model.specs.Values.{SlotIs}
 use Rattle.text_model.specs.Canonical.{what_words, item_words}
 use Rattle.text_model.specs.Words.{Words, words_of, listed}
-use Rattle.sql_print.proofs.Spelling.{Single, Writes, AreSound, IsSound, writes-piece}
+use Rattle.sql_print.proofs.Spelling.{Single, AreSound, IsSound, writes-piece}
 use Rattle.sql_print.proofs.Rewriting.{Rewrites, whole, either, ending, then_next, then_made, then_rule, perhaps}
 use Rattle.sql_print.proofs.WrittenLists.{as_often_from}
 use Rattle.sql_print.proofs.WrittenTokens.{key, sign, name}

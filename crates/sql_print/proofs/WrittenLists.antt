@@ -1,13 +1,13 @@
 -- Rules that come several times, and rules in brackets.
-use Rattle.std.proofs.Common.{◌≡◌, ◌+◌, ℕ, zero, suc, List, [], ◌∷◌, ◌++◌, refl, sym, ap, ◌∙◌, subst, codes}
+use Rattle.std.proofs.Common.{◌+◌, ℕ, List, [], ◌∷◌, refl, subst, codes}
 use Rattle.std.specs.List.{flat_map}
 use Rattle.sql_lex.specs.Tokens.{marks}
 use Rattle.grammar_model.specs.Language.{Language, ◌>>=◌, ◌>>◌, many_from, many, mark}
 use Rattle.grammar_model.specs.Language as language
 use Rattle.grammar_model.specs.Terminal.{Terminals}
-use Rattle.text_model.specs.Words.{Words, others, separated, listed, bracketed}
+use Rattle.text_model.specs.Words.{Words, separated, listed, bracketed}
 use Rattle.sql_print.proofs.Spelling.{Writes, AreSound, writes-both, writes-nothing}
-use Rattle.sql_print.proofs.Rewriting.{Rewrites, whole, ending, then_next, then_made, then_rule}
+use Rattle.sql_print.proofs.Rewriting.{Rewrites, whole, then_next, then_made, then_rule}
 use Rattle.sql_print.proofs.WrittenTokens.{sign}
 
 module _ {A : Type 0} (from to : ℕ → Language A) (words : A → Words) (each : (count : ℕ) → Rewrites (from count) (to count) words) where

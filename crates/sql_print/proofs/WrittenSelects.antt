@@ -1,6 +1,6 @@
 -- The rules of selects.
-use Rattle.std.proofs.Common.{◌≡◌, ℕ, Bool, false, List, [], ◌∷◌, ◌++◌, refl, sym, ap, ◌∙◌, inl, inr, codes, append_assoc}
-use Rattle.std.specs.Prelude.{Option, None, Some, if◌then◌else◌}
+use Rattle.std.proofs.Common.{◌≡◌, ℕ, false, [], ◌∷◌, ◌++◌, refl, sym, ap, ◌∙◌, inl, inr, codes, append_assoc}
+use Rattle.std.specs.Prelude.{Option, None, if◌then◌else◌}
 use Rattle.std.proofs.lemmas.List.{append-nil}
 use Rattle.own_model.specs.declared.select.Items.TheVariants as Items
 use Rattle.own_model.specs.declared.select.Order.{Order}
@@ -8,12 +8,12 @@ use Rattle.own_model.specs.declared.select.Select.{Select}
 use Rattle.sql_lex.specs.Keywords.{keywords}
 use Rattle.sql_lex.specs.Tokens.{marks}
 use Rattle.grammar_model.specs.Grammar as grammar
-use Rattle.grammar_model.specs.Language.{Language, ◌>>=◌, ◌>>◌, ◌or◌, mark, pure, word}
+use Rattle.grammar_model.specs.Language.{◌>>=◌, ◌>>◌, ◌or◌, mark, pure, word}
 use Rattle.grammar_model.specs.Limits.{Limits}
 use Rattle.grammar_model.specs.Terminal.{Terminals}
-use Rattle.text_model.specs.Canonical.{items_words, join_words, order_words, select_words, where_words, item_words}
-use Rattle.text_model.specs.Words.{Words, words_of, column_words, listed}
-use Rattle.sql_print.proofs.Spelling.{Writes, writes-nothing}
+use Rattle.text_model.specs.Canonical.{items_words, join_words, order_words, select_words, where_words}
+use Rattle.text_model.specs.Words.{Words, words_of, column_words}
+use Rattle.sql_print.proofs.Spelling.{writes-nothing}
 use Rattle.sql_print.proofs.Rewriting.{Rewrites, whole, either, both_into, into, ending, then_next, then_made, then_pure, then_rule, then_skip, always, perhaps, reworded}
 use Rattle.sql_print.proofs.NestedConditions.{condition}
 use Rattle.sql_print.proofs.WrittenItems.{items, citem, gitem}

@@ -1,10 +1,10 @@
 -- The rules of statements.
-use Rattle.std.proofs.Common.{◌≡◌, ℕ, List, [], ◌∷◌, ◌++◌, refl, inl, inr, codes}
+use Rattle.std.proofs.Common.{ℕ, [], refl, inl, inr, codes}
 use Rattle.own_model.specs.declared.statement.Statement.TheVariants as Statement
 use Rattle.sql_lex.specs.Keywords.{keywords}
 use Rattle.grammar_model.specs.Grammar as grammar
 use Rattle.grammar_model.specs.Limits.{Limits}
-use Rattle.grammar_model.specs.Language.{◌>>=◌, ◌>>◌, optional, pure, word}
+use Rattle.grammar_model.specs.Language.{◌>>◌, optional, pure, word}
 use Rattle.text_model.specs.Canonical.{statement_words}
 use Rattle.text_model.specs.Words as words
 use Rattle.text_model.specs.Words.{Words}

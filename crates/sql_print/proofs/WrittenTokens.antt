@@ -1,6 +1,6 @@
 -- The rules of one terminal, and of a number with its sign.
-use Rattle.std.proofs.Common.{◌≡◌, ◌<◌, ◌≤◌, ◌+◌, ◌-◌, ◌^◌, ℕ, suc, zero, Bool, true, false, List, [], ◌∷◌, ◌++◌, refl, sym, ap, ◌∙◌, subst, inl, inr, arith, codes}
-use Rattle.std.specs.Prelude.{Option, None, IsTrue, ◌&&◌, ◌||◌, ℤ, pos, negsuc, map, if◌then◌else◌, ◌⊎◌, nat_le}
+use Rattle.std.proofs.Common.{◌≡◌, ◌≤◌, ◌-◌, ◌^◌, ℕ, suc, zero, Bool, true, false, List, [], ◌∷◌, refl, sym, ap, ◌∙◌, subst, inl, inr, arith, codes}
+use Rattle.std.specs.Prelude.{None, IsTrue, ◌&&◌, ℤ, pos, negsuc, map, if◌then◌else◌}
 use Rattle.std.specs.Char.{to_ascii_lowercase}
 use Rattle.std.specs.Fmt.{decimal, signed_decimal}
 use Rattle.std.specs.List.{list_all, list_any}
@@ -15,7 +15,7 @@ use Rattle.sql_lex.specs.Keywords.{keywords, is_keyword}
 use Rattle.sql_lex.specs.Tokens as tokens
 use Rattle.sql_lex.specs.Tokens.{IsSpelled, is_number, quoted}
 use Rattle.grammar_model.specs.Grammar as grammar
-use Rattle.grammar_model.specs.Language.{Language, ◌>>=◌, ◌>>◌, ◌or◌, word, mark, one, optional, pure}
+use Rattle.grammar_model.specs.Language.{◌>>◌, word, mark, one, optional, pure}
 use Rattle.grammar_model.specs.Limits.{Limits}
 use Rattle.grammar_model.specs.Parts.{is_there}
 use Rattle.grammar_model.specs.Terminal.{Terminal, Terminals, Written, is_word, is_mark}

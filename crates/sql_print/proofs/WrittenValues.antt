@@ -1,19 +1,19 @@
 -- The rules of values, columns and names.
-use Rattle.std.proofs.Common.{◌≡◌, ℕ, List, [], ◌∷◌, ◌++◌, refl, inl, inr, codes}
+use Rattle.std.proofs.Common.{◌≡◌, ℕ, List, [], ◌∷◌, refl, inl, inr, codes}
 use Rattle.std.specs.Prelude.{Option, None, Some}
 use Rattle.std.specs.Fmt.{signed_decimal}
 use Rattle.own_model.specs.declared.condition.Cmp.TheVariants as Cmp
 use Rattle.sql_lex.specs.Keywords.{keywords}
 use Rattle.sql_lex.specs.Tokens.{marks}
 use Rattle.grammar_model.specs.Grammar as grammar
-use Rattle.grammar_model.specs.Language.{◌>>=◌, ◌>>◌, ◌or◌, mark, pure}
+use Rattle.grammar_model.specs.Language.{◌>>◌, mark, pure}
 use Rattle.grammar_model.specs.Limits.{Limits}
 use Rattle.grammar_model.specs.Parts.{col_of}
 use Rattle.text_model.specs.Canonical.{expr_words, set_words, tuple_words}
 use Rattle.text_model.specs.Condition.{cmp_word, operand_words}
-use Rattle.text_model.specs.Words.{Words, words_of, word, listed, literal_word, literal_words, names_words, column_words, key_word}
+use Rattle.text_model.specs.Words.{words_of, word, literal_word, literal_words, names_words, column_words, key_word}
 use Rattle.sql_print.proofs.Spelling.{Writes, writes-then, writes-pure}
-use Rattle.sql_print.proofs.Rewriting.{Rewrites, whole, either, both_into, into, ending, then_next, then_made, then_pure, then_rule, then_skip, always, perhaps}
+use Rattle.sql_print.proofs.Rewriting.{Rewrites, whole, either, both_into, into, then_next, then_made, then_rule, then_skip, always, perhaps}
 use Rattle.sql_print.proofs.WrittenTokens.{key, sign, sign-writes, name, text, int}
 use Rattle.sql_print.proofs.WrittenLists.{with_commas, in_brackets}
 
