@@ -21,26 +21,31 @@ separated-map separator shown words (first ∷ parts) = ap (λ l. words (shown f
     others-map [] = refl
     others-map (next ∷ parts) = ap (λ l. (separator ∷ words (shown next)) ++ l) (others-map parts)
 
+-- an AND list, its members in brackets where they are lists
 pub every-written : (parts : List Cond) → written (Cond.Every parts) ≡ record { words = separated (codes "AND") (λ part. in_and (written part)) parts; shape = AndList }
 unfolding written
 every-written parts =
     ap written (sym (Cond.rolls-Every parts)) ∙ fold-roll-Cond Written written_step (Cond-F.Every parts)
     ∙ ap (λ w. record { words = w; shape = AndList }) (separated-map (codes "AND") written in_and parts)
 
+-- an OR list, its members in brackets where they are OR lists
 pub some-written : (parts : List Cond) → written (Cond.Some1 parts) ≡ record { words = separated (codes "OR") (λ part. in_or (written part)) parts; shape = OrList }
 unfolding written
 some-written parts =
     ap written (sym (Cond.rolls-Some1 parts)) ∙ fold-roll-Cond Written written_step (Cond-F.Some1 parts)
     ∙ ap (λ w. record { words = w; shape = OrList }) (separated-map (codes "OR") written in_or parts)
 
+-- NOT, and its condition
 pub not-written : (part : Cond) → written (Cond.Not part) ≡ written_step (Cond-F.Not (written part))
 unfolding written
 not-written part = ap written (sym (Cond.rolls-Not part)) ∙ fold-roll-Cond Written written_step (Cond-F.Not part)
 
+-- a comparison
 pub compare-written : (left : ColRef) (sign : Cmp) (right : Operand) → written (Cond.Compare left sign right) ≡ written_step (Cond-F.Compare left sign right)
 unfolding written
 compare-written left sign right = ap written (sym (Cond.rolls-Compare left sign right)) ∙ fold-roll-Cond Written written_step (Cond-F.Compare left sign right)
 
+-- IS NULL or IS NOT NULL
 pub null-written : (column : ColRef) (negated : Bool) → written (Cond.IsNull column negated) ≡ written_step (Cond-F.IsNull column negated)
 unfolding written
 null-written column negated = ap written (sym (Cond.rolls-IsNull column negated)) ∙ fold-roll-Cond Written written_step (Cond-F.IsNull column negated)

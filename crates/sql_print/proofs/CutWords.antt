@@ -25,25 +25,31 @@ abbrev gap : Bool → List ℕ
 gap true = 32 ∷ []
 gap false = []
 
+-- after a space or nothing, what begins with no filler comes next
 gap-skips : (space : Bool) (after : List ℕ) → begins_filler after ≡ false → Skips (gap space ++ after) after
 gap-skips true after none = record { fillers = Space 32 ∷ []; fills = (after, refl, refl, refl); no_more = none }
 gap-skips false after none = record { fillers = []; fills = refl; no_more = none }
 
 module _ (kind : TokenKind) (text front : List ℕ) (space : Bool) (bytes after : List ℕ) (split : text ≡ ((front ++ gap space) ++ bytes) ++ after) where
+  -- where the token begins
   abbrev start : ℕ
   start = length (front ++ gap space)
 
+  -- where it ends
   abbrev end : ℕ
   end = length ((front ++ gap space) ++ bytes)
 
+  -- the text after the front
   from_front : drop (length front) text ≡ gap space ++ (bytes ++ after)
   from_front =
       ap (drop (length front)) (split ∙ append_assoc (front ++ gap space) bytes after ∙ append_assoc front (gap space) (bytes ++ after))
       ∙ drop-append_seam front (gap space ++ (bytes ++ after))
 
+  -- the text from the token on
   from_start : drop start text ≡ bytes ++ after
   from_start = ap (drop start) (split ∙ append_assoc (front ++ gap space) bytes after) ∙ drop-append_seam (front ++ gap space) (bytes ++ after)
 
+  -- the text after the token
   from_end : drop end text ≡ after
   from_end = ap (drop end) split ∙ drop-append_seam ((front ++ gap space) ++ bytes) after
 
@@ -133,6 +139,7 @@ abbrev tail : List Piece → List ℕ
 tail [] = []
 tail (piece ∷ pieces) = 32 ∷ (word_of piece ++ tail pieces)
 
+-- what follows a word is a space or the end
 tail-ends : (pieces : List Piece) → EndsWord (tail pieces)
 tail-ends [] = tt
 tail-ends (piece ∷ pieces) = refl
@@ -141,6 +148,7 @@ tail-ends (piece ∷ pieces) = refl
 spaced-split : (front word after : List ℕ) → front ++ 32 ∷ (word ++ after) ≡ ((front ++ 32 ∷ []) ++ word) ++ after
 spaced-split front word after = sym (append_assoc (front ++ 32 ∷ []) word after ∙ append_assoc front (32 ∷ []) (word ++ after))
 
+-- the words after the first are tokens that they spell
 cut-tail : (pieces : List Piece) (text front : List ℕ) → ArePieces pieces → text ≡ front ++ tail pieces → Cut text front pieces
 cut-tail [] text front are split = cut-end text front split
 cut-tail (piece ∷ pieces) text front are split =

@@ -40,6 +40,7 @@ no-parts : (divides : Language (Unit {0})) (rule : Language Cond) (terminals res
 no-parts divides rule terminals rest (part, middle, text, (more, behind, many, (same, ends))) = cc
 
 module _ (limits : Limits) (levels : ℕ) (negs : Makes (grammar.neg limits levels) (IsNeg limits levels)) where
+  -- a member of an AND list at this level
   abbrev neg : Language Cond
   neg = grammar.neg limits levels
 
@@ -48,6 +49,7 @@ module _ (limits : Limits) (levels : ℕ) (negs : Makes (grammar.neg limits leve
   unfolding keywords
   members = in_list (key (codes "AND") (refl, refl)) (rewrites-of neg (IsNeg limits levels) (λ part. in_and (written part)) negs (λ value is. is.within))
 
+  -- an AND list needs no brackets in an OR list
   every-conj : (parts : List Cond) → Writes (separated (codes "AND") (λ part. in_and (written part)) parts) (grammar.conj neg (Cond.Every parts)) → IsConj limits levels (Cond.Every parts)
   every-conj parts writes =
       record {
@@ -55,6 +57,7 @@ module _ (limits : Limits) (levels : ℕ) (negs : Makes (grammar.neg limits leve
         within = subst (λ w. Writes (in_or w) (grammar.conj neg (Cond.Every parts))) (sym (every-written parts)) writes;
       }
 
+  -- members of an AND list make a member of an OR list
   parts-conj : (parts : List Cond) (terminals rest : Terminals) → AreSound terminals → language.separated (word (codes "AND")) neg parts terminals rest → IsConj limits levels (list_of Cond.Every parts)
   unfolding grammar.conj
   parts-conj [] terminals rest sound text = absurd (no-parts (word (codes "AND")) neg terminals rest text)
@@ -65,6 +68,7 @@ module _ (limits : Limits) (levels : ℕ) (negs : Makes (grammar.neg limits leve
       (writes-so (separated (codes "AND") (λ part. in_and (written part)) parts) (language.separated (word (codes "AND")) neg parts) (grammar.conj neg (Cond.Every parts))
       (λ out behind list. (parts, behind, list, (refl, refl))) (members.writes parts terminals rest sound text))
 
+  -- the rule of AND lists makes members of OR lists
   conjs : Makes (grammar.conj neg) (IsConj limits levels)
   unfolding grammar.conj
   conjs =
@@ -78,6 +82,7 @@ module _ (limits : Limits) (levels : ℕ) (negs : Makes (grammar.neg limits leve
   unfolding keywords
   choices = in_list (key (codes "OR") (refl, refl)) (rewrites-of (grammar.conj neg) (IsConj limits levels) (λ part. in_or (written part)) conjs (λ value is. is.within))
 
+  -- members of an OR list make a condition, in the narrowest rule that there is
   parts-tight : (parts : List Cond) (terminals rest : Terminals) → AreSound terminals → language.separated (word (codes "OR")) (grammar.conj neg) parts terminals rest → Tight limits levels (list_of Cond.Some1 parts)
   unfolding grammar.cond
   parts-tight [] terminals rest sound text = absurd (no-parts (word (codes "OR")) (grammar.conj neg) terminals rest text)
@@ -106,6 +111,7 @@ module _ (limits : Limits) (levels : ℕ) (negs : Makes (grammar.neg limits leve
   enclosed : Rewrites (language.bracketed (grammar.cond neg)) (language.bracketed (grammar.cond neg)) (λ value. bracketed (cond_words value))
   enclosed = in_brackets (rewrites-of (grammar.cond neg) (Tight limits levels) cond_words conds (λ value tight. alone limits levels value (written value).words (written value).shape tight))
 
+  -- one level more makes members of AND lists
   deeper-is : (value : Cond) (terminals rest : Terminals) → AreSound terminals → grammar.neg limits (suc levels) value terminals rest → IsNeg limits (suc levels) value
   unfolding grammar.neg
   deeper-is value terminals rest sound (inl (inner, middle, text, (is, ends))) =
@@ -121,6 +127,7 @@ module _ (limits : Limits) (levels : ℕ) (negs : Makes (grammar.neg limits leve
       opened : mark (codes "(") opens terminals after → AreSound after
       opened (terminal, same, is) = (subst AreSound same sound).1
 
+  -- after a member at one level more the terminals are still those of a text
   deeper-sound : (value : Cond) (terminals rest : Terminals) → AreSound terminals → grammar.neg limits (suc levels) value terminals rest → AreSound rest
   unfolding grammar.neg
   deeper-sound value terminals rest sound (inl (inner, middle, text, (is, ends))) = subst AreSound ends (negated.sound inner terminals middle sound text)
@@ -140,6 +147,7 @@ deepest limits =
       sound = (comparison limits).sound;
     }
 
+-- every level makes members of AND lists
 negs_of : (limits : Limits) (levels : ℕ) → Makes (grammar.neg limits levels) (IsNeg limits levels)
 negs_of limits zero = deepest limits
 negs_of limits (suc levels) = deeper limits levels (negs_of limits levels)

@@ -33,6 +33,7 @@ token-sound Number bytes start spelled = tt
 token-sound Quoted bytes start spelled = tt
 token-sound Mark bytes start spelled = tt
 
+-- what stands for a byte that begins no token is sound
 lost-sound : (lexing : Lexing) (token : Token) → IsLost lexing token → IsSound (terminal_of token)
 lost-sound lexing token lost = subst (λ kind. IsSound (Written kind token.text.now token.start)) (sym lost.kind) tt
 
@@ -42,6 +43,7 @@ tokens-sound lexing [] cut = tt
 tokens-sound lexing (token ∷ tokens) (inl (next, cut)) = (token-sound token.kind token.text.now token.start next.begins.spelled, tokens-sound (record lexing { at = token.end }) tokens cut)
 tokens-sound lexing (token ∷ tokens) (inr (lost, none)) = (lost-sound lexing token lost, subst (λ l. AreSound (map terminal_of l)) (sym none) tt)
 
+-- so they are where nothing is said of the tokens
 terminals-sound : (text : List ℕ) (terminals : Terminals) → AreTerminals text terminals → AreSound terminals
 terminals-sound text terminals (tokens, cut, same) = subst AreSound (sym same) (tokens-sound (record { text = text; at = 0 }) tokens cut)
 

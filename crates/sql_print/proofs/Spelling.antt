@@ -15,14 +15,17 @@ pub data Piece : Type 0 where
   Single : TokenKind → List ℕ → Piece
   Signed : List ℕ → Piece
 
+-- the bytes of the word
 abbrev pub word_of : Piece → List ℕ
 word_of (Single kind bytes) = bytes
 word_of (Signed digits) = 45 ∷ digits
 
+-- the word is spelled as that token, or those two
 abbrev pub IsPiece : Piece → Type 0
 IsPiece (Single kind bytes) = IsSpelled kind bytes
 IsPiece (Signed digits) = IsTrue (is_number digits)
 
+-- each is
 abbrev pub ArePieces : List Piece → Type 0
 ArePieces [] = Unit {0}
 ArePieces (piece ∷ pieces) = IsPiece piece × ArePieces pieces
@@ -44,6 +47,7 @@ Spells-split (piece ∷ one) two out rest spells =
     let parts = Spells-split one two spells.0 rest spells.2 in
     (parts.0, (spells.0, spells.1, parts.1), parts.2)
 
+-- two such lists are one
 pub ArePieces-append : (one two : List Piece) → ArePieces one → ArePieces two → ArePieces (one ++ two)
 ArePieces-append [] two first second = second
 ArePieces-append (piece ∷ one) two first second = (first.0, ArePieces-append one two first.1 second)
@@ -91,6 +95,7 @@ writes-piece piece rule is holds =
 pub writes-nothing : (rule : Terminals → Terminals → Type 0) → ((out : Terminals) → rule out out) → Writes [] rule
 writes-nothing rule holds = record { pieces = []; are = tt; same = refl; holds = λ out rest spells. subst (rule out) spells (holds out) }
 
+-- a rule without terminals
 pub writes-pure : {A : Type 0} (made : A) → Writes [] (pure made made)
 writes-pure made = writes-nothing (pure made made) (λ out. (refl, refl))
 
@@ -103,6 +108,7 @@ IsSound (Written Quoted bytes start) = Unit {0}
 IsSound (Written Mark bytes start) = Unit {0}
 IsSound Slot = ⊥
 
+-- each terminal is one of a text
 abbrev pub AreSound : Terminals → Type 0
 AreSound [] = Unit {0}
 AreSound (terminal ∷ terminals) = IsSound terminal × AreSound terminals

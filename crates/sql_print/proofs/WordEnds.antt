@@ -20,6 +20,7 @@ abbrev pub EndsWord : List ℕ → Type 0
 EndsWord [] = Unit {0}
 EndsWord (byte ∷ bytes) = byte ≡ 32
 
+-- with one part false, both do not hold
 and_false : (b : Bool) → (b && false) ≡ false
 and_false true = refl
 and_false false = refl
@@ -65,18 +66,22 @@ first-no_filler : (byte : ℕ) (bytes : List ℕ) → is_space byte ≡ false �
 first-no_filler byte bytes space dash =
     ap (λ b. b || starts_with nat_eq (byte ∷ bytes) (45 ∷ 45 ∷ [])) space ∙ ap (λ b. b && starts_with nat_eq bytes (45 ∷ [])) dash
 
+-- a word begins no filler
 word-no_filler : (bytes : List ℕ) → first_passes begins_word bytes ≡ true → begins_filler bytes ≡ false
 word-no_filler [] begins = absurd (false≢true begins)
 word-no_filler (byte ∷ bytes) begins = first-no_filler byte bytes (grind (arith, begins)) (grind (arith, begins))
 
+-- a number begins no filler
 digit-no_filler : (bytes : List ℕ) → first_passes is_ascii_digit bytes ≡ true → begins_filler bytes ≡ false
 digit-no_filler [] begins = absurd (false≢true begins)
 digit-no_filler (byte ∷ bytes) begins = first-no_filler byte bytes (grind (arith, begins)) (grind (arith, begins))
 
+-- a text in quotes begins no filler
 quote-no_filler : (bytes : List ℕ) → first_passes (λ byte. byte == 39) bytes ≡ true → begins_filler bytes ≡ false
 quote-no_filler [] begins = absurd (false≢true begins)
 quote-no_filler (byte ∷ bytes) begins = first-no_filler byte bytes (grind (arith, begins)) (grind (arith, begins))
 
+-- what is not so is false
 not-true : (b : Bool) → not b ≡ true → b ≡ false
 not-true true is = absurd (false≢true is)
 not-true false is = refl
@@ -86,6 +91,7 @@ mark-no_space : (byte : ℕ) → is_mark (byte ∷ []) ≡ true → is_space byt
 unfolding marks
 mark-no_space byte mark = not-true (is_space byte) (passes_among (first_passes (λ b. not (is_space b))) marks (byte ∷ []) refl mark)
 
+-- a mark that a space or the end follows begins no filler
 mark-no_filler : (bytes after : List ℕ) → is_mark bytes ≡ true → EndsWord after → begins_filler (bytes ++ after) ≡ false
 unfolding marks
 mark-no_filler [] after mark ends = absurd (omega (arith, (mark-length [] mark).0))

@@ -86,6 +86,7 @@ module _ (limits : Limits) where
   unfolding grammar.citem item_words
   citem = whole (then_next column (λ found. then_made alias (λ _. refl)))
 
+  -- col | COUNT ( * ) | SUM ( col )
   any_what : Rewrites (grammar.column limits or (grammar.count limits or grammar.sum limits)) (grammar.column limits or (grammar.count limits or grammar.sum limits)) what_words
   any_what = whole (either (ending column (λ _. refl)) (either (ending count (λ _. refl)) (ending sum (λ _. refl))))
 

@@ -11,6 +11,7 @@ use Rattle.sql_print.proofs.Rewriting.{Rewrites, whole, then_next, then_made, th
 use Rattle.sql_print.proofs.WrittenTokens.{sign}
 
 module _ {A : Type 0} (from to : ℕ → Language A) (words : A → Words) (each : (count : ℕ) → Rewrites (from count) (to count) words) where
+  -- the words of each value, one after another
   many-writes : (values : List A) (count : ℕ) (terminals rest : Terminals) → AreSound terminals → many_from from count values terminals rest → Writes (flat_map words values) (many_from to count values)
   many-writes [] count terminals rest sound text = writes-nothing (many_from to count []) (λ out. refl)
   many-writes (value ∷ values) count terminals rest sound (middle, one, more) =
@@ -18,6 +19,7 @@ module _ {A : Type 0} (from to : ℕ → Language A) (words : A → Words) (each
       ((each count).writes value terminals middle sound one)
       (many-writes values (count + 1) middle rest ((each count).sound value terminals middle sound one) more)
 
+  -- after all of them the terminals are still those of a text
   many-sound : (values : List A) (count : ℕ) (terminals rest : Terminals) → AreSound terminals → many_from from count values terminals rest → AreSound rest
   many-sound [] count terminals rest sound text = subst AreSound text sound
   many-sound (value ∷ values) count terminals rest sound (middle, one, more) = many-sound values (count + 1) middle rest ((each count).sound value terminals middle sound one) more

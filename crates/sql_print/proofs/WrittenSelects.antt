@@ -61,18 +61,21 @@ module _ (limits : Limits) (levels : ℕ) where
   unfolding items_words marks
   shown = whole (either (then_made (sign (codes "*") refl) (λ _. refl)) (then_made (items limits (citem limits)) (λ _. refl)))
 
+  -- SELECT (* | citem {, citem}) FROM name [[INNER] JOIN name ON col = col] [WHERE cond]
   plain : Rewrites (grammar.plain limits levels) (grammar.plain limits levels) front_words
   unfolding grammar.plain keywords
   plain =
       whole (then_next (key (codes "SELECT") (refl, refl)) (λ _. then_next shown (λ found. then_next (key (codes "FROM") (refl, refl)) (λ _.
       then_next (name limits) (λ from. then_next (perhaps join) (λ joined. then_next (condition limits levels) (λ cond. then_pure refl)))))))
 
+  -- SELECT gitem {, gitem} FROM name [WHERE cond] [GROUP BY col]
   grouped : Rewrites (grammar.grouped limits levels) (grammar.grouped limits levels) front_words
   unfolding grammar.grouped items_words keywords
   grouped =
       whole (then_next (key (codes "SELECT") (refl, refl)) (λ _. then_next (items limits (gitem limits)) (λ found. then_next (key (codes "FROM") (refl, refl)) (λ _.
       then_next (name limits) (λ from. then_next (condition limits levels) (λ cond. then_made (perhaps group) (λ grouping. refl)))))))
 
+  -- a select without its order
   front : Rewrites (grammar.plain limits levels or grammar.grouped limits levels) (grammar.plain limits levels or grammar.grouped limits levels) front_words
   front = whole (either (ending plain (λ _. refl)) (ending grouped (λ _. refl)))
 

@@ -1,5 +1,5 @@
 -- The rules of statements.
-use Rattle.std.proofs.Common.{ℕ, [], refl, inl, inr, codes}
+use Rattle.std.proofs.Common.{ℕ, refl, inl, inr, codes}
 use Rattle.own_model.specs.declared.statement.Statement.TheVariants as Statement
 use Rattle.sql_lex.specs.Keywords.{keywords}
 use Rattle.grammar_model.specs.Grammar as grammar
@@ -8,16 +8,16 @@ use Rattle.grammar_model.specs.Language.{◌>>◌, optional, pure, word}
 use Rattle.text_model.specs.Canonical.{statement_words}
 use Rattle.text_model.specs.Words as words
 use Rattle.text_model.specs.Words.{Words}
-use Rattle.sql_print.proofs.Spelling.{Writes, writes-so, writes-then, writes-pure}
+use Rattle.sql_print.proofs.Spelling.{Writes, writes-so}
 use Rattle.sql_print.proofs.Rewriting.{Rewrites, whole, either, both_into, into, ending, then_next, then_made, then_rule, then_skip, always, perhaps}
 use Rattle.sql_print.proofs.NestedConditions.{condition}
 use Rattle.sql_print.proofs.WrittenCreates.{create, view}
 use Rattle.sql_print.proofs.WrittenLists.{with_commas, in_brackets}
 use Rattle.sql_print.proofs.WrittenSelects.{select}
-use Rattle.sql_print.proofs.WrittenTokens.{key, key-writes, left_out, left_out-writes, name}
+use Rattle.sql_print.proofs.WrittenTokens.{key, lone-writes, left_out, left_out-writes, name}
 use Rattle.sql_print.proofs.WrittenValues.{names, tuple, set, data_key}
 
--- BEGIN, COMMIT and ROLLBACK as they are written
+-- BEGIN as it is written
 begin-writes : Writes (words.word (codes "BEGIN")) (grammar.control Statement.Begin)
 unfolding grammar.control keywords
 begin-writes =
@@ -25,17 +25,19 @@ begin-writes =
     writes-so (words.word (codes "BEGIN")) ((begin >> pure Statement.Begin) Statement.Begin) (grammar.control Statement.Begin) (λ out rest text. inl text)
     (left_out-writes (codes "BEGIN") (codes "TRANSACTION") (refl, refl) Statement.Begin)
 
+-- COMMIT as it is written
 commit-writes : Writes (words.word (codes "COMMIT")) (grammar.control Statement.Commit)
 unfolding grammar.control keywords
 commit-writes =
     writes-so (words.word (codes "COMMIT")) ((word (codes "COMMIT") >> pure Statement.Commit) Statement.Commit) (grammar.control Statement.Commit) (λ out rest text. inr (inl text))
-    (writes-then (word (codes "COMMIT")) (λ _. pure Statement.Commit) tt Statement.Commit (words.word (codes "COMMIT")) [] (key-writes (codes "COMMIT") (refl, refl)) (writes-pure Statement.Commit))
+    (lone-writes (codes "COMMIT") (refl, refl) Statement.Commit)
 
+-- ROLLBACK as it is written
 rollback-writes : Writes (words.word (codes "ROLLBACK")) (grammar.control Statement.Rollback)
 unfolding grammar.control keywords
 rollback-writes =
     writes-so (words.word (codes "ROLLBACK")) ((word (codes "ROLLBACK") >> pure Statement.Rollback) Statement.Rollback) (grammar.control Statement.Rollback) (λ out rest text. inr (inr (inl text)))
-    (writes-then (word (codes "ROLLBACK")) (λ _. pure Statement.Rollback) tt Statement.Rollback (words.word (codes "ROLLBACK")) [] (key-writes (codes "ROLLBACK") (refl, refl)) (writes-pure Statement.Rollback))
+    (lone-writes (codes "ROLLBACK") (refl, refl) Statement.Rollback)
 
 -- control, of which CTX and TRANSACTION are left out
 control : Rewrites grammar.control grammar.control statement_words

@@ -33,6 +33,7 @@ module _ (limits : Limits) where
   unfolding marks
   dotted = then_rule (sign (codes ".") refl) (name limits)
 
+  -- a column's words are its first name, and a dot and its second where there is one
   column-split : (first : List ℕ) (second : Option (List ℕ)) → column_words (col_of first second) ≡ first ∷ words_of (λ found. codes "." ∷ found ∷ []) second
   unfolding column_words
   column-split first None = refl
