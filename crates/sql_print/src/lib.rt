@@ -1,2 +1,4 @@
 //! Writes statements, values and replies as text.
 #![tactic(auto)]
+
+pub mod laws;

@@ -1,0 +1,17 @@
+mod ConditionWords
+mod CutWords
+mod Levels
+mod NestedConditions
+mod Numerals
+mod ReadsBack
+mod Rewriting
+mod Spelling
+mod WordEnds
+mod WrittenConditions
+mod WrittenCreates
+mod WrittenItems
+mod WrittenLists
+mod WrittenSelects
+mod WrittenStatements
+mod WrittenTokens
+mod WrittenValues
