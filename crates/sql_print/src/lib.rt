@@ -1,2 +1,5 @@
 //! Writes statements, values and replies as text.
 #![tactic(auto)]
+
+mod draft;
+mod quoted;
