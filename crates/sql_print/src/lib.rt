@@ -3,3 +3,9 @@
 
 mod draft;
 mod quoted;
+mod refusal;
+mod reply;
+mod value;
+
+pub use reply::print_reply;
+pub use value::print_value;
