@@ -1,7 +1,6 @@
 -- Texts with a bar between, of which the first is written before the others.
 use Rattle.std.proofs.Common.{◌≡◌, ℕ, List, [], ◌∷◌, ◌++◌, map, length, get_or, drop, ◌<◌, sym, ap, ◌∙◌, arith, append-nil}
 use Rattle.std.specs.List.{flat_map, join_with_byte}
-
 use Rattle.own_base.specs.declared.value.Value.{Value}
 use Rattle.own_model.specs.declared.reply.Cell.{Cell}
 use Rattle.text_model.specs.Lines.{barred}

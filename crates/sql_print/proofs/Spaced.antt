@@ -1,7 +1,9 @@
 -- Words that follow others, part by part.
-use Rattle.std.proofs.Common.{◌≡◌, ◌<◌, ℕ, List, [], ◌∷◌, ◌++◌, length, get_or, drop, codes, refl, sym, ap, ◌∙◌, arith, append-nil}
+use Rattle.std.proofs.Common.{◌≡◌, ◌<◌, ℕ, List, [], ◌∷◌, ◌++◌, length, get_or, drop, codes, refl, sym, ap, ◌∙◌, arith, append-nil, append_assoc}
 use Rattle.std.specs.List.{flat_map}
 use Rattle.std.proofs.lemmas.Grind.{flat_map-append}
+use Rattle.own_model.specs.declared.select.Select.{Select}
+use Rattle.text_model.specs.Canonical.{select_words}
 use Rattle.text_model.specs.Words.{Words, listed, others, spaced}
 use Rattle.sql_print.specs.Spaces.{after_spaces}
 
@@ -28,5 +30,19 @@ unfolding spaced
 spaced-first first [] = sym (append-nil first)
 spaced-first first (second ∷ rest) = ap (λ l. first ++ 32 ∷ l) (spaced-first second rest)
 
--- the words of a statement, part by part
-pub ruleset spacing = (spaced-first, after_spaces-append)
+-- three pieces, each after those before it
+pub three-pieces : (old a b c : List ℕ) → ((old ++ a) ++ b) ++ c ≡ old ++ (a ++ (b ++ c))
+three-pieces old a b c = simp append_assoc
+
+-- four pieces
+pub four-pieces : (old a b c d : List ℕ) → (((old ++ a) ++ b) ++ c) ++ d ≡ old ++ (a ++ (b ++ (c ++ d)))
+four-pieces old a b c d = simp append_assoc
+
+-- five pieces
+pub five-pieces : (old a b c d e : List ℕ) → ((((old ++ a) ++ b) ++ c) ++ d) ++ e ≡ old ++ (a ++ (b ++ (c ++ (d ++ e))))
+five-pieces old a b c d e = simp append_assoc
+
+-- a select after a space
+pub after_spaces-select : (select : Select) → after_spaces (select_words select) ≡ 32 ∷ spaced (select_words select)
+unfolding select_words
+after_spaces-select select = ap (λ l. 32 ∷ l) (sym (spaced-first _ _))

@@ -2,13 +2,16 @@
 #![tactic(auto)]
 
 mod condition;
+mod create;
 mod draft;
 mod quoted;
 mod refusal;
 mod reply;
 mod select;
+mod statement;
 mod value;
 mod word;
 
 pub use reply::print_reply;
+pub use statement::print_statement;
 pub use value::print_value;

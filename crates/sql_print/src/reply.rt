@@ -158,11 +158,8 @@ fn push_lines_below(draft: &mut Draft, reply: &Reply) -> Result<(), AllocError>
         Reply::Rows(rows) => push_rows(draft, rows.items()),
         Reply::Got(rows) => push_got_rows(draft, rows.items()),
         Reply::Graph(lines) => push_lines(draft, lines.items()),
-        Reply::Done
-        | Reply::Counted(_)
-        | Reply::Forgot { .. }
-        | Reply::Ended
-        | Reply::Refused(_) => Ok(()),
+        Reply::Done | Reply::Counted(_) | Reply::Forgot { .. } | Reply::Ended | Reply::Refused(_) =>
+            Ok(()),
     }
 }
 

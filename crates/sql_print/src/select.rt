@@ -1,6 +1,7 @@
 ghost use Rattle.std.specs.Prelude.{◌≡◌, ◌++◌, ◌∷◌, [], codes, OnOk};
 ghost use Rattle.text_model.specs.Canonical.{item_words, items_words, join_words, order_words, select_words, what_words, where_words};
 ghost use Rattle.text_model.specs.Words.{column_words, spaced, words_of};
+ghost use Rattle.sql_print.specs.Parts.{source_words};
 ghost use Rattle.sql_print.specs.Spaces.{after_spaces};
 
 use crate::condition::push_condition;
@@ -138,18 +139,26 @@ fn push_order(draft: &mut Draft, order: &Option<Order>) -> Result<(), AllocError
     }
 }
 
-/// Writes a select, with no space before it.
-#[tactic(auto, using(crate::proofs::Spaced::spacing), unfolding(text_model::specs::Canonical::select_words))]
-pub fn push_select(draft: &mut Draft, select: &Select) -> Result<(), AllocError>
-    ensures { OnOk result (draft.new ≡ draft.old ++ spaced (select_words select.now)) }
+/// Writes a select from its FROM on.
+fn push_source(draft: &mut Draft, select: &Select) -> Result<(), AllocError>
+    ensures { OnOk result (draft.new ≡ draft.old ++ after_spaces (source_words select.now)) }
 {
-    draft.push("SELECT")?;
-    push_items(draft, &select.items)?;
     draft.push(" FROM")?;
     select.from.push_words(draft)?;
     push_join(draft, &select.join)?;
     push_where(draft, &select.cond)?;
     push_group(draft, &select.group)?;
     push_order(draft, &select.order)?;
+    Ok(())
+}
+
+/// Writes a select, with no space before it.
+#[tactic(auto, unfolding(text_model::specs::Canonical::select_words))]
+pub fn push_select(draft: &mut Draft, select: &Select) -> Result<(), AllocError>
+    ensures { OnOk result (draft.new ≡ draft.old ++ spaced (select_words select.now)) }
+{
+    draft.push("SELECT")?;
+    push_items(draft, &select.items)?;
+    push_source(draft, select)?;
     Ok(())
 }
