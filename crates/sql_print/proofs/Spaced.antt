@@ -1,10 +1,10 @@
 -- Words that follow others, part by part.
-use Rattle.std.proofs.Common.{◌≡◌, ◌<◌, ℕ, List, [], ◌∷◌, ◌++◌, length, get_or, drop, codes, refl, sym, ap, ◌∙◌, arith, append-nil, append_assoc}
+use Rattle.std.proofs.Common.{◌≡◌, ◌<◌, ℕ, List, [], ◌∷◌, ◌++◌, length, get_or, drop, refl, sym, ap, ◌∙◌, arith, append-nil, append_assoc}
 use Rattle.std.specs.List.{flat_map}
 use Rattle.std.proofs.lemmas.Grind.{flat_map-append}
 use Rattle.own_model.specs.declared.select.Select.{Select}
 use Rattle.text_model.specs.Canonical.{select_words}
-use Rattle.text_model.specs.Words.{Words, listed, others, spaced}
+use Rattle.text_model.specs.Words.{Words, others, separated, spaced}
 use Rattle.sql_print.specs.Spaces.{after_spaces}
 
 -- the words of one after those of another
@@ -16,13 +16,13 @@ pub after_spaces-parts : {A : Type 0} (words : A → Words) (parts : List A) →
 after_spaces-parts words [] = refl
 after_spaces-parts words (part ∷ parts) = after_spaces-append (words part) (flat_map words parts) ∙ ap (λ l. after_spaces (words part) ++ l) (after_spaces-parts words parts)
 
--- the words of parts with a comma between, of which the first is this
-pub after_spaces-listed : {A : Type 0} (words : A → Words) (parts : List A) (first : A) → 0 < length parts → first ≡ get_or parts 0 first
-    → after_spaces (listed words parts) ≡ after_spaces (words first) ++ flat_map (λ part. 32 ∷ 44 ∷ after_spaces (words part)) (drop 1 parts)
-after_spaces-listed words [] first some is = absurd (omega (arith, some))
-after_spaces-listed words (part ∷ parts) first some is =
-    after_spaces-append (words part) (others (codes ",") words parts)
-    ∙ (λ i. after_spaces (words (sym is i)) ++ after_spaces-parts (λ part. codes "," ∷ words part) parts i)
+-- the words of parts with a separator between, of which the first is this
+pub after_spaces-separated : {A : Type 0} (separator : List ℕ) (words : A → Words) (parts : List A) (first : A) → 0 < length parts → first ≡ get_or parts 0 first
+    → after_spaces (separated separator words parts) ≡ after_spaces (words first) ++ flat_map (λ part. after_spaces (separator ∷ words part)) (drop 1 parts)
+after_spaces-separated separator words [] first some is = absurd (omega (arith, some))
+after_spaces-separated separator words (part ∷ parts) first some is =
+    after_spaces-append (words part) (others separator words parts)
+    ∙ (λ i. after_spaces (words (sym is i)) ++ after_spaces-parts (λ part. separator ∷ words part) parts i)
 
 -- the first word, and each other after a space
 pub spaced-first : (first : List ℕ) (rest : Words) → spaced (first ∷ rest) ≡ first ++ after_spaces rest

@@ -1,6 +1,7 @@
 -- Parts of statements that stand after the first words.
 use Rattle.std.specs.Prelude.{List, ℕ, Bool, Option, [], ◌∷◌, ◌++◌, codes, if◌then◌else◌}
 use Rattle.own_base.specs.declared.value.Value.{Value}
+use Rattle.own_model.specs.declared.select.ColRef.{ColRef}
 use Rattle.own_model.specs.declared.select.Select.{Select}
 use Rattle.text_model.specs.Canonical.{join_words, order_words, tuple_words, where_words}
 use Rattle.text_model.specs.Words.{Words, bracketed, column_words, listed, names_words, words_of}
@@ -21,3 +22,7 @@ values_words rows = codes "VALUES" ∷ listed tuple_words rows
 -- whether a table's rows are data subjects
 abbrev pub subject_words : Bool → Words
 subject_words subject = if subject then codes "DATA_SUBJECT" ∷ [] else []
+
+-- a test for NULL
+abbrev pub null_test_words : ColRef → Bool → Words
+null_test_words column negated = column_words column ++ codes "IS" ∷ ((if negated then codes "NOT" ∷ [] else []) ++ codes "NULL" ∷ [])
