@@ -1,4 +1,18 @@
 //! Writes statements, values and replies as text.
 #![tactic(auto)]
 
+mod condition;
+mod create;
+mod draft;
 pub mod laws;
+mod quoted;
+mod refusal;
+mod reply;
+mod select;
+mod statement;
+mod value;
+mod word;
+
+pub use reply::print_reply;
+pub use statement::print_statement;
+pub use value::print_value;

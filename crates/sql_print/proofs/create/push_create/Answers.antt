@@ -1,0 +1,9 @@
+use Rattle.std.proofs.Common.{append-nil}
+use Rattle.text_model.specs.Canonical.{create_words}
+use Rattle.sql_print.proofs.Spaced.{after_spaces-append, five-pieces, spaced-first}
+use Rattle.sql_print.proofs.create.push_create.Goals as goal
+
+-- each part goes after those before it
+pub returns : goal.returns
+unfolding create_words
+returns c = rw (spaced-first, after_spaces-append, c.in_ok-push_bracketed.ensures, c.items.ensures, c.in_ok-push_words.ensures, append-nil, c.in_ok-push-2.ensures, c.in_ok-push_subject.ensures, c.in_ok-push.ensures, five-pieces)

@@ -1,0 +1,6 @@
+use Rattle.std.proofs.lemmas.Str.{IsCharBoundary-after_ascii}
+use Rattle.sql_print.proofs.quoted.split_around.Goals as goal
+
+-- the byte is ASCII
+pub range_from-requires : goal.range_from-requires
+range_from-requires c = λ _. IsCharBoundary-after_ascii c.args.text.now c.args.at c.utf8.text c.requires.within c.requires.ascii

@@ -1,0 +1,8 @@
+use Rattle.std.proofs.Common.{◌≡◌, ◌++◌, take}
+use Rattle.std.specs.List.{flat_map}
+use Rattle.text_model.specs.Lines.{row_line}
+use Rattle.sql_print.proofs.reply.push_rows.Given as goal
+
+-- the lines so far are written
+abbrev pub invariant-loop-row : goal.invariant-loop-row
+invariant-loop-row l = l.draft ≡ l.initial.draft ++ flat_map row_line (take l.row-index l.rows)

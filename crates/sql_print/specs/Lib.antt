@@ -1,0 +1,4 @@
+pub mod Escapes
+pub mod Parts
+pub mod Spaces
+pub mod Within
