@@ -1,0 +1,190 @@
+//! Refusals, and what a reply says of each.
+
+use own_base::{Key, Name, Place, SessionNo, Text};
+use own_model::{LimitName, Refusal, Reply};
+use sql_print::print_reply;
+use std::alloc::{AllocError, Global};
+use std::mem::drop;
+use std::test::Fail;
+
+/// The lines of a call without a place that was refused, the 4th of session 16.
+fn refused(alloc: Global, refusal: Refusal) -> Result<Text, AllocError> {
+    let reply = Reply::Refused(refusal);
+    let lines = print_reply(alloc, None, SessionNo(16), 4, &reply);
+    drop(reply);
+    lines
+}
+
+/// What each refusal of `PLAIN` says.
+const PLAIN: [&str; 10] = [
+    "refused syntax 17",
+    "refused count 2 3",
+    "refused inside",
+    "refused outside",
+    "refused busy 12",
+    "refused doomed 18446744073709551615",
+    "refused big 16777217",
+    "disk",
+    "down 0",
+    "memory",
+];
+
+fn plain(which: usize) -> Refusal {
+    match which {
+        0 => Refusal::Syntax(17),
+        1 => Refusal::Count { got: 2, wanted: 3 },
+        2 => Refusal::Inside,
+        3 => Refusal::Outside,
+        4 => Refusal::Busy(SessionNo(12)),
+        5 => Refusal::Doomed(Place(18_446_744_073_709_551_615)),
+        6 => Refusal::TooBig(16_777_217),
+        7 => Refusal::Disk,
+        8 => Refusal::Down(Place(0)),
+        _ => Refusal::Memory,
+    }
+}
+
+/// What each refusal with a name says, where it is `acc`.
+const NAMED: [&str; 11] = [
+    "refused table acc",
+    "refused column acc",
+    "refused kind acc",
+    "refused taken acc",
+    "refused schema 9 acc",
+    "refused rows acc",
+    "refused key acc",
+    "refused subject acc",
+    "refused null acc",
+    "refused range acc",
+    "refused conflict 3 acc *",
+];
+
+fn named(alloc: Global, which: usize) -> Result<Refusal, AllocError> {
+    let name = Name::from_str(alloc, "acc")?;
+    Ok(match which {
+        0 => Refusal::NoTable(name),
+        1 => Refusal::NoColumn(name),
+        2 => Refusal::WrongKind(name),
+        3 => Refusal::NameTaken(name),
+        4 => Refusal::BadSchema { rule: 9, name },
+        5 => Refusal::HasRows(name),
+        6 => Refusal::KeyWrite(name),
+        7 => Refusal::NotSubject(name),
+        8 => Refusal::NullValue(name),
+        9 => Refusal::Range(name),
+        _ => Refusal::Conflict {
+            session: SessionNo(3),
+            table: name,
+            key: None,
+        },
+    })
+}
+
+/// What each refusal with a row says, where it is the row `it's` of `acc`.
+const OF_ROWS: [&str; 4] = [
+    "refused duplicate acc 'it''s'",
+    "refused absent acc 'it''s'",
+    "refused owner acc 'it''s'",
+    "refused conflict 3 acc 'it''s'",
+];
+
+fn of_row(alloc: Global, which: usize) -> Result<Refusal, AllocError> {
+    let table = Name::from_str(alloc, "acc")?;
+    let key = Key::Text(Text::from_str(alloc, "it's")?);
+    Ok(match which {
+        0 => Refusal::Duplicate { table, key },
+        1 => Refusal::NoSubject { table, key },
+        2 => Refusal::Owner { table, key },
+        _ => Refusal::Conflict {
+            session: SessionNo(3),
+            table,
+            key: Some(key),
+        },
+    })
+}
+
+/// What each refusal with two names says, where they are `acc` and `col`, and the row is -5.
+const OF_PAIRS: [&str; 3] = [
+    "refused cycle acc col",
+    "refused unique acc -5 col",
+    "refused reference acc -5 col",
+];
+
+fn of_pair(alloc: Global, which: usize) -> Result<Refusal, AllocError> {
+    let table = Name::from_str(alloc, "acc")?;
+    let column = Name::from_str(alloc, "col")?;
+    let key = Key::Int(-5);
+    Ok(match which {
+        0 => Refusal::Cycle {
+            table,
+            through: column,
+        },
+        1 => Refusal::Unique { table, key, column },
+        _ => Refusal::Reference { table, key, column },
+    })
+}
+
+const LIMITS: [(LimitName, &str); 12] = [
+    (LimitName::Statement, "refused limit statement 65536"),
+    (LimitName::Nesting, "refused limit nesting 64"),
+    (LimitName::Text, "refused limit text 4096"),
+    (LimitName::Items, "refused limit items 64"),
+    (LimitName::Name, "refused limit name 64"),
+    (LimitName::Columns, "refused limit columns 32"),
+    (LimitName::Tables, "refused limit tables 64"),
+    (LimitName::Views, "refused limit views 32"),
+    (LimitName::Reply, "refused limit reply 1000000"),
+    (LimitName::Rows, "refused limit rows 1000000"),
+    (LimitName::Weight, "refused limit weight 1073741824"),
+    (LimitName::Room, "refused limit room 4611686018427387904"),
+];
+
+/// The line of such a call, of which this is what it says.
+fn line(alloc: Global, said: &str) -> Result<String, AllocError> {
+    format!(in alloc; "- 16.4 {said}\n")
+}
+
+#[test]
+fn refusals_say_why(rt: HostRuntime) -> Result<(), Fail> {
+    let alloc = rt.alloc();
+    for (which, said) in PLAIN.iter().enumerate() {
+        assert_eq!(rt;
+            refused(alloc, plain(which))?.as_str(),
+            line(alloc, said)?.as_str()
+        );
+    }
+    for (limit, said) in LIMITS {
+        assert_eq!(rt;
+            refused(alloc, Refusal::Limit(limit))?.as_str(),
+            line(alloc, said)?.as_str()
+        );
+    }
+    Ok(())
+}
+
+#[test]
+fn refusals_name_what_shows_it(rt: HostRuntime) -> Result<(), Fail> {
+    let alloc = rt.alloc();
+    for (which, said) in NAMED.iter().enumerate() {
+        let refusal = named(alloc, which)?;
+        assert_eq!(rt;
+            refused(alloc, refusal)?.as_str(),
+            line(alloc, said)?.as_str()
+        );
+    }
+    for (which, said) in OF_ROWS.iter().enumerate() {
+        let refusal = of_row(alloc, which)?;
+        assert_eq!(rt;
+            refused(alloc, refusal)?.as_str(),
+            line(alloc, said)?.as_str()
+        );
+    }
+    for (which, said) in OF_PAIRS.iter().enumerate() {
+        let refusal = of_pair(alloc, which)?;
+        assert_eq!(rt;
+            refused(alloc, refusal)?.as_str(),
+            line(alloc, said)?.as_str()
+        );
+    }
+    Ok(())
+}

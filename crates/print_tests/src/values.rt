@@ -1,0 +1,56 @@
+//! Values as a reply shows them.
+
+use own_base::{Text, Value};
+use sql_print::print_value;
+use std::alloc::{AllocError, Global};
+use std::test::Fail;
+
+/// A text as a reply shows it.
+fn shown(alloc: Global, text: &str) -> Result<Text, AllocError> {
+    let value = Value::Text(Text::from_str(alloc, text)?);
+    print_value(alloc, &value)
+}
+
+#[test]
+fn texts_are_shown_on_one_line(rt: HostRuntime) -> Result<(), Fail> {
+    for (text, wanted) in [
+        ("", "''"),
+        ("Ann", "'Ann'"),
+        ("it's", "'it''s'"),
+        ("'", "''''"),
+        ("\t", "'\\09'"),
+        ("a\nb\r", "'a\\0ab\\0d'"),
+        ("\0\u{1f} ~", "'\\00\\1f ~'"),
+        ("a\\b", "'a\\5cb'"),
+        ("\u{7f}\u{80}", "'\\7f\u{80}'"),
+        (
+            "\u{e9}'\u{20ac}\\\u{1f600}",
+            "'\u{e9}''\u{20ac}\\5c\u{1f600}'",
+        ),
+    ] {
+        assert_eq!(rt; shown(rt.alloc(), text)?.as_str(), wanted);
+    }
+    Ok(())
+}
+
+#[test]
+fn numbers_are_shown_in_decimal(rt: HostRuntime) -> Result<(), Fail> {
+    let alloc = rt.alloc();
+    for (value, wanted) in [
+        (Value::Null, "NULL"),
+        (Value::Int(0), "0"),
+        (Value::Int(9_223_372_036_854_775_807), "9223372036854775807"),
+        (
+            Value::Int(-9_223_372_036_854_775_807 - 1),
+            "-9223372036854775808",
+        ),
+        (Value::Sum(-1), "-1"),
+        (
+            Value::Sum(9_223_372_036_854_775_807_000_000),
+            "9223372036854775807000000",
+        ),
+    ] {
+        assert_eq!(rt; print_value(alloc, &value)?.as_str(), wanted);
+    }
+    Ok(())
+}
