@@ -1,0 +1,4 @@
+//! Reads the script of an input.
+#![tactic(auto)]
+
+mod piece;
