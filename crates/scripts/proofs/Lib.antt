@@ -1,1 +1,2 @@
 pub mod FrontPieces
+pub mod SessionLines

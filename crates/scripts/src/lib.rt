@@ -2,3 +2,4 @@
 #![tactic(auto)]
 
 mod piece;
+mod session_line;
