@@ -1,2 +1,4 @@
 pub mod FrontPieces
 pub mod SessionLines
+pub mod Marking
+pub mod Scanning

@@ -3,3 +3,4 @@
 
 mod piece;
 mod session_line;
+mod stretch;
