@@ -2,3 +2,4 @@ pub mod FrontPieces
 pub mod SessionLines
 pub mod Marking
 pub mod Scanning
+pub mod Counting
