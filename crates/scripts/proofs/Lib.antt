@@ -3,3 +3,4 @@ pub mod SessionLines
 pub mod Marking
 pub mod Scanning
 pub mod Counting
+pub mod OnePiece
