@@ -4,3 +4,5 @@ pub mod Marking
 pub mod Scanning
 pub mod Counting
 pub mod OnePiece
+pub mod Numbering
+pub mod Reading

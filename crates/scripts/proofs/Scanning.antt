@@ -29,7 +29,7 @@ abbrev pub begins_after : Bool → List Piece → Bool
 begins_after begins [] = begins
 begins_after begins (piece ∷ pieces) = begins_after (ends_line piece) pieces
 
-begins_after-push : (begins : Bool) (pieces : List Piece) (piece : Piece) → begins_after begins (pieces ++ piece ∷ []) ≡ ends_line piece
+pub begins_after-push : (begins : Bool) (pieces : List Piece) (piece : Piece) → begins_after begins (pieces ++ piece ∷ []) ≡ ends_line piece
 begins_after-push begins [] piece = refl
 begins_after-push begins (first ∷ pieces) piece = begins_after-push (ends_line first) pieces piece
 
@@ -255,7 +255,9 @@ scan-semicolon bytes from at begins start end text more scanned front =
       inner = scanned.inner;
       is_met = refl;
       within = omega arith;
+      order = omega (arith, scanned.from_within);
       goes_on = inl (omega (arith, scanned.from_within));
+      at_end = λ wrong. absurd (let never : ⊥ = cc in never);
       boundary = IsCharBoundary-after_ascii bytes at text more (omega arith);
     })
 
@@ -282,7 +284,9 @@ scan-line bytes from at begins start end len found line more scanned front means
       inner = scanned.inner;
       is_met = subst (λ n. IsLineMet line n found) place (subst (λ l. IsLineMet l at found) is.1 means);
       within = omega (arith, front.within, length-drop at bytes);
+      order = omega (arith, scanned.from_within);
       goes_on = inl (omega (arith, scanned.from_within, is.0));
+      at_end = λ wrong. absurd (let never : ⊥ = cc in never);
       boundary = line_boundary bytes (at + len) (omega (arith, front.within, length-drop at bytes)) (subst EndsLine (drop-drop len at bytes) front.fits.1.1);
     })
 
@@ -296,7 +300,9 @@ scan-end bytes from at begins start end past scanned =
       inner = scanned.inner;
       is_met = refl;
       within = scanned.within;
+      order = scanned.from_within;
       goes_on = inr refl;
+      at_end = λ is. sym same;
       boundary = boundary;
     })
 

@@ -1,3 +1,5 @@
 pub mod Fronts
 pub mod Stretches
 pub mod Counts
+pub mod InputFaults
+pub mod TextCalls

@@ -43,7 +43,9 @@ pub record IsStretchAt (bytes : List ℕ) (from : ℕ) (stretch : Stretch) (foun
   pub inner : AllByRecursion (λ piece. is_inner piece ≡ true) stretch.pieces
   pub is_met : IsMet (from + length (marks_in stretch)) stretch.ending found
   pub within : next ≤ length bytes
+  pub order : from ≤ next
   pub goes_on : (from < next) ⊎ (stretch.ending ≡ AtEnd)
+  pub at_end : stretch.ending ≡ AtEnd → next ≡ length bytes
   pub boundary : IsCharBoundary bytes next
 
 -- the marks from the first that isn't empty to the last
@@ -81,3 +83,11 @@ pub record IsStretch (bytes : List ℕ) (from : ℕ) (found : Found) : Type 0 wh
   pub call : (session : ℕ) → call_in session from stretch ≡ call_with session found.start (is_closed stretch.ending) found.text.now
   pub short : length found.text.now ≤ length bytes
   pub start_within : found.start ≤ length bytes
+
+abbrev pub is_closing : Met → Bool
+is_closing met.Semicolon = true
+is_closing _ = false
+
+-- the call of what is found, if there is one
+abbrev pub call_of_text : ℕ → Found → List Part
+call_of_text session found = call_with session found.start (is_closing found.ending) found.text.now

@@ -3,5 +3,8 @@
 
 mod calls;
 mod piece;
+mod script;
 mod session_line;
 mod stretch;
+
+pub use script::read_script;

@@ -4,7 +4,7 @@ ghost use Rattle.std.specs.Prelude.{◌≡◌, ◌<◌, ◌≤◌, ◌+◌, ◌^
 ghost use Rattle.std.specs.Str.{IsCharBoundary};
 ghost use Rattle.script_model.specs.Piece.{bytes_of, SessionLine};
 ghost use Rattle.scripts.specs.Fronts.{AtFront};
-ghost use Rattle.scripts.specs.Stretches.{IsScan, IsStretch, IsLineEnding};
+ghost use Rattle.scripts.specs.Stretches.{IsScan, IsStretch, IsLineEnding, is_closing};
 
 use crate::piece::{Front, front_of};
 use crate::session_line::session_of;
@@ -19,6 +19,15 @@ pub enum Ending {
     BadLine(usize),
     /// The end of the input.
     End,
+}
+
+impl Ending {
+    /// A semicolon closes the text.
+    pub fn closes(&self) -> bool
+        ensures { result ≡ is_closing self.now }
+    {
+        matches!(self, Ending::Semicolon)
+    }
 }
 
 /// Where the text of a stretch begins and ends, what the stretch meets, and the byte after that. Where the two places
