@@ -6,3 +6,4 @@ pub mod Counting
 pub mod OnePiece
 pub mod Numbering
 pub mod Reading
+pub mod Ends

@@ -207,8 +207,8 @@ module _ (bytes : List ℕ) (at session : ℕ) (calls : List ScriptCall) (read :
   -- the call of the stretch is wrong, or memory was refused
   pub call_fault : (fault : InputFault) → IsFaultIn (length calls) (call_of_text session found) fault → IsTextFault bytes fault
   call_fault Memory wrong = text_fault Memory tt
-  call_fault TooLong wrong = text_fault TooLong (call_wrong TooLong wrong)
-  call_fault (NotText byte) wrong = text_fault (NotText byte) (call_wrong (NotText byte) wrong)
+  call_fault TooLong wrong = absurd wrong
+  call_fault (NotText byte) wrong = absurd wrong
   call_fault (BadSession byte) wrong = text_fault (BadSession byte) (call_wrong (BadSession byte) wrong)
   call_fault (TooManyCalls byte) wrong = text_fault (TooManyCalls byte) (call_wrong (TooManyCalls byte) wrong)
 
@@ -220,6 +220,11 @@ module _ (bytes : List ℕ) (at session : ℕ) (calls : List ScriptCall) (read :
       text_fault (BadSession place) (fault_then (BadSession place) (λ rest.
       ap (λ l. first_of (faults_after (length calls) (call_of_text session found ++ (l ++ rest)))) bad
       ∙ later_fault calls (call_of_text session found) after (BadLine place ∷ rest) (BadSession place) takes (line_fault (length after) place rest)))
+
+  pub line_within : (place : ℕ) → found.ending ≡ met.BadLine place → place ≤ length bytes
+  line_within place same =
+      let line = met_bad_line (end_of at is.stretch) place is.stretch.ending found.ending is.at.is_met same in
+      omega (arith, line.3, next_is bytes at is.stretch found.ending found.next is.at, is.at.within)
 
   -- what is read goes on after the stretch
   go_on : (next_session : ℕ) (after : List ScriptCall) → is.stretch.ending ≢ AtEnd → bad_line (end_of at is.stretch) is.stretch.ending ≡ [] → session_after session is.stretch.ending ≡ next_session → 1 ≤ next_session → next_session ≤ SESSIONS

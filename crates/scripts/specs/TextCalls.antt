@@ -4,7 +4,7 @@ use Rattle.own_model.specs.declared.limit.TheConstants.{INPUT_CALLS}
 use Rattle.own_model.specs.declared.request.Request.{Request}
 use Rattle.own_model.specs.declared.request.Request.TheVariants.{End}
 use Rattle.own_model.specs.declared.script.InputFault.{InputFault}
-use Rattle.own_model.specs.declared.script.InputFault.TheVariants.{Memory}
+use Rattle.own_model.specs.declared.script.InputFault.TheVariants.{TooLong, NotText, BadSession, TooManyCalls, Memory}
 use Rattle.own_model.specs.declared.script.ScriptCall.{ScriptCall}
 use Rattle.script_model.specs.Asked.{AreAskedBy}
 use Rattle.script_model.specs.CallText.{Part}
@@ -23,8 +23,11 @@ pub record Takes (before : List ScriptCall) (parts : List Part) (after : List Sc
 
 -- the fault is the first that is wrong with parts before which so many calls come, or memory was refused
 abbrev pub IsFaultIn : ℕ → List Part → InputFault → Type 0
+IsFaultIn count parts TooLong = ⊥
+IsFaultIn count parts (NotText byte) = ⊥
+IsFaultIn count parts (BadSession byte) = first_of (faults_after count parts) ≡ Some (BadSession byte)
+IsFaultIn count parts (TooManyCalls byte) = first_of (faults_after count parts) ≡ Some (TooManyCalls byte)
 IsFaultIn count parts Memory = Unit {0}
-IsFaultIn count parts fault = first_of (faults_after count parts) ≡ Some fault
 
 -- the calls of a text, without the Ends
 pub record HasTextCalls (bytes : List ℕ) (calls : List ScriptCall) : Type 0 where

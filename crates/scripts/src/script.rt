@@ -99,11 +99,13 @@ pub fn read_script(alloc: Global, bytes: &[u8]) -> Result<Script, InputFault>
         Err(error) => return Err(InputFault::NotText(error.valid_up_to() as u32)),
     };
     let mut calls = read_calls(alloc, text)?;
-    if add_ends(&mut calls).is_err() {
-        drop(calls);
-        return Err(InputFault::Memory);
+    match add_ends(&mut calls) {
+        Ok(()) => Ok(Script {
+            calls: calls.into_list(),
+        }),
+        Err(AllocError) => {
+            drop(calls);
+            Err(InputFault::Memory)
+        }
     }
-    Ok(Script {
-        calls: calls.into_list(),
-    })
 }
