@@ -20,7 +20,7 @@ use Rattle.scripts.specs.TextCalls.{HasTextCalls, IsTextFault, ends_after}
 use Rattle.scripts.proofs.Counting.{count_of-other}
 use Rattle.scripts.proofs.Numbering.{numbered_after-nil, numbered_after-cons, numbered_after-append}
 
-range_more : (first count : ℕ) → range_with_len first (suc count) ≡ range_with_len first count ++ (first + count) ∷ []
+pub range_more : (first count : ℕ) → range_with_len first (suc count) ≡ range_with_len first count ++ (first + count) ∷ []
 range_more first zero = ap (λ n. n ∷ []) (omega arith)
 range_more first (suc count) = let same : first + 1 + count ≡ first + suc count = omega arith in ap (λ l. first ∷ l) (range_more (first + 1) count ∙ ap (λ n. range_with_len (first + 1) count ++ n ∷ []) same)
 

@@ -7,3 +7,4 @@ pub mod OnePiece
 pub mod Numbering
 pub mod Reading
 pub mod Ends
+pub mod Dealing

@@ -3,3 +3,4 @@ pub mod Stretches
 pub mod Counts
 pub mod InputFaults
 pub mod TextCalls
+pub mod Lists

@@ -5,6 +5,7 @@ mod calls;
 mod piece;
 mod script;
 mod session_line;
+mod sessions;
 mod stretch;
 
 pub use script::read_script;
