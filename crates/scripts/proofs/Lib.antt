@@ -8,3 +8,4 @@ pub mod Numbering
 pub mod Reading
 pub mod Ends
 pub mod Dealing
+pub mod OneScript
