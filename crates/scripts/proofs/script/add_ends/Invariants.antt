@@ -1,5 +1,0 @@
-use Rattle.scripts.proofs.Ends.{EndsTo}
-use Rattle.scripts.proofs.script.add_ends.Given as goal
-
-abbrev pub invariant-loop-session : goal.invariant-loop-session
-invariant-loop-session l = EndsTo l.initial.calls.list.items l.session l.calls.list.items

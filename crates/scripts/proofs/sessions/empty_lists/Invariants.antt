@@ -1,5 +1,0 @@
-use Rattle.scripts.proofs.Dealing.{EmptyTo}
-use Rattle.scripts.proofs.sessions.empty_lists.Given as goal
-
-abbrev pub invariant-loop-session : goal.invariant-loop-session
-invariant-loop-session l = EmptyTo l._session l.lists.items

@@ -1,9 +1,0 @@
-use Rattle.std.proofs.Common.{length, ◌-◌}
-use Rattle.scripts.proofs.Scanning.{ScannedTo}
-use Rattle.scripts.proofs.stretch.scan.Given as goal
-
-abbrev pub invariant-loop-at : goal.invariant-loop-at
-invariant-loop-at l = ScannedTo l.text l.from l.at l.begins l.start l.end
-
-abbrev pub decreases-loop-at : goal.decreases-loop-at
-decreases-loop-at l = length l.bytes - l.at
