@@ -16,5 +16,6 @@ pub mod ReaderRight
 pub mod Repeats
 pub mod Rules
 pub mod SameReading
+pub mod Scripts
 pub mod WholeEnds
 pub mod WholeTexts

@@ -1,2 +1,4 @@
 pub mod AnswerOf
+pub mod InputFaults
 pub mod reading
+pub mod scripts

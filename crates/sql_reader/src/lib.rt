@@ -1,7 +1,8 @@
-//! Reads the SQL statements of the store: `read_statement` gives the statement that a text is, or the place at which it
-//! is none.
+//! Reads what the store is asked for: `read_script` gives the calls of an input, or why it has none, and `split` those of
+//! each session; `read_statement` gives the statement that a text is, or the place at which it is none.
 #![tactic(auto)]
 
+mod calls;
 mod condition;
 mod create;
 mod cursor;
@@ -9,11 +10,18 @@ mod fault;
 pub mod laws;
 mod list;
 mod literal;
+mod piece;
 mod read;
 mod rule;
+mod script;
 mod select;
+mod session_line;
+mod sessions;
 mod statement;
+mod stretch;
 mod tokens;
 
 pub use fault::ReadFault;
 pub use read::read_statement;
+pub use script::read_script;
+pub use sessions::split;

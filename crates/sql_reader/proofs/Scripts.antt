@@ -1,0 +1,11 @@
+pub mod Counting
+pub mod Dealing
+pub mod Ends
+pub mod FrontPieces
+pub mod Marking
+pub mod Numbering
+pub mod OnePiece
+pub mod OneScript
+pub mod Reading
+pub mod Scanning
+pub mod SessionLines

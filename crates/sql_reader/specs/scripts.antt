@@ -1,0 +1,5 @@
+pub mod Counts
+pub mod Fronts
+pub mod Lists
+pub mod Stretches
+pub mod TextCalls
