@@ -17,16 +17,16 @@ fn refused(alloc: Global, refusal: Refusal) -> Result<Text, AllocError> {
 
 /// What each refusal of `PLAIN` says.
 const PLAIN: [&str; 10] = [
-    "refused syntax 17",
-    "refused count 2 3",
-    "refused inside",
-    "refused outside",
-    "refused busy 12",
-    "refused doomed 18446744073709551615",
-    "refused big 16777217",
-    "disk",
-    "down 0",
-    "memory",
+    "- 16.4 refused syntax 17\n",
+    "- 16.4 refused count 2 3\n",
+    "- 16.4 refused inside\n",
+    "- 16.4 refused outside\n",
+    "- 16.4 refused busy 12\n",
+    "- 16.4 refused doomed 18446744073709551615\n",
+    "- 16.4 refused big 16777217\n",
+    "- 16.4 disk\n",
+    "- 16.4 down 0\n",
+    "- 16.4 memory\n",
 ];
 
 fn plain(which: usize) -> Refusal {
@@ -46,17 +46,17 @@ fn plain(which: usize) -> Refusal {
 
 /// What each refusal with a name says, where it is `acc`.
 const NAMED: [&str; 11] = [
-    "refused table acc",
-    "refused column acc",
-    "refused kind acc",
-    "refused taken acc",
-    "refused schema 9 acc",
-    "refused rows acc",
-    "refused key acc",
-    "refused subject acc",
-    "refused null acc",
-    "refused range acc",
-    "refused conflict 3 acc *",
+    "- 16.4 refused table acc\n",
+    "- 16.4 refused column acc\n",
+    "- 16.4 refused kind acc\n",
+    "- 16.4 refused taken acc\n",
+    "- 16.4 refused schema 9 acc\n",
+    "- 16.4 refused rows acc\n",
+    "- 16.4 refused key acc\n",
+    "- 16.4 refused subject acc\n",
+    "- 16.4 refused null acc\n",
+    "- 16.4 refused range acc\n",
+    "- 16.4 refused conflict 3 acc *\n",
 ];
 
 fn named(alloc: Global, which: usize) -> Result<Refusal, AllocError> {
@@ -82,10 +82,10 @@ fn named(alloc: Global, which: usize) -> Result<Refusal, AllocError> {
 
 /// What each refusal with a row says, where it is the row `it's` of `acc`.
 const OF_ROWS: [&str; 4] = [
-    "refused duplicate acc 'it''s'",
-    "refused absent acc 'it''s'",
-    "refused owner acc 'it''s'",
-    "refused conflict 3 acc 'it''s'",
+    "- 16.4 refused duplicate acc 'it''s'\n",
+    "- 16.4 refused absent acc 'it''s'\n",
+    "- 16.4 refused owner acc 'it''s'\n",
+    "- 16.4 refused conflict 3 acc 'it''s'\n",
 ];
 
 fn of_row(alloc: Global, which: usize) -> Result<Refusal, AllocError> {
@@ -105,9 +105,9 @@ fn of_row(alloc: Global, which: usize) -> Result<Refusal, AllocError> {
 
 /// What each refusal with two names says, where they are `acc` and `col`, and the row is -5.
 const OF_PAIRS: [&str; 3] = [
-    "refused cycle acc col",
-    "refused unique acc -5 col",
-    "refused reference acc -5 col",
+    "- 16.4 refused cycle acc col\n",
+    "- 16.4 refused unique acc -5 col\n",
+    "- 16.4 refused reference acc -5 col\n",
 ];
 
 fn of_pair(alloc: Global, which: usize) -> Result<Refusal, AllocError> {
@@ -125,39 +125,33 @@ fn of_pair(alloc: Global, which: usize) -> Result<Refusal, AllocError> {
 }
 
 const LIMITS: [(LimitName, &str); 12] = [
-    (LimitName::Statement, "refused limit statement 65536"),
-    (LimitName::Nesting, "refused limit nesting 64"),
-    (LimitName::Text, "refused limit text 4096"),
-    (LimitName::Items, "refused limit items 64"),
-    (LimitName::Name, "refused limit name 64"),
-    (LimitName::Columns, "refused limit columns 32"),
-    (LimitName::Tables, "refused limit tables 64"),
-    (LimitName::Views, "refused limit views 32"),
-    (LimitName::Reply, "refused limit reply 1000000"),
-    (LimitName::Rows, "refused limit rows 1000000"),
-    (LimitName::Weight, "refused limit weight 1073741824"),
-    (LimitName::Room, "refused limit room 4611686018427387904"),
+    (
+        LimitName::Statement,
+        "- 16.4 refused limit statement 65536\n",
+    ),
+    (LimitName::Nesting, "- 16.4 refused limit nesting 64\n"),
+    (LimitName::Text, "- 16.4 refused limit text 4096\n"),
+    (LimitName::Items, "- 16.4 refused limit items 64\n"),
+    (LimitName::Name, "- 16.4 refused limit name 64\n"),
+    (LimitName::Columns, "- 16.4 refused limit columns 32\n"),
+    (LimitName::Tables, "- 16.4 refused limit tables 64\n"),
+    (LimitName::Views, "- 16.4 refused limit views 32\n"),
+    (LimitName::Reply, "- 16.4 refused limit reply 1000000\n"),
+    (LimitName::Rows, "- 16.4 refused limit rows 1000000\n"),
+    (
+        LimitName::Weight,
+        "- 16.4 refused limit weight 1073741824\n",
+    ),
+    (
+        LimitName::Room,
+        "- 16.4 refused limit room 4611686018427387904\n",
+    ),
 ];
-
-/// The line of such a call, of which this is what it says.
-fn line(alloc: Global, said: &str) -> Result<String, AllocError> {
-    format!(in alloc; "- 16.4 {said}\n")
-}
 
 #[test]
 fn refusals_say_why(rt: HostRuntime) -> Result<(), Fail> {
-    let alloc = rt.alloc();
-    for (which, said) in PLAIN.iter().enumerate() {
-        assert_eq!(rt;
-            refused(alloc, plain(which))?.as_str(),
-            line(alloc, said)?.as_str()
-        );
-    }
-    for (limit, said) in LIMITS {
-        assert_eq!(rt;
-            refused(alloc, Refusal::Limit(limit))?.as_str(),
-            line(alloc, said)?.as_str()
-        );
+    for (which, wanted) in PLAIN.iter().enumerate() {
+        assert_eq!(rt; refused(rt.alloc(), plain(which))?.as_str(), *wanted);
     }
     Ok(())
 }
@@ -165,25 +159,39 @@ fn refusals_say_why(rt: HostRuntime) -> Result<(), Fail> {
 #[test]
 fn refusals_name_what_shows_it(rt: HostRuntime) -> Result<(), Fail> {
     let alloc = rt.alloc();
-    for (which, said) in NAMED.iter().enumerate() {
+    for (which, wanted) in NAMED.iter().enumerate() {
         let refusal = named(alloc, which)?;
-        assert_eq!(rt;
-            refused(alloc, refusal)?.as_str(),
-            line(alloc, said)?.as_str()
-        );
+        assert_eq!(rt; refused(alloc, refusal)?.as_str(), *wanted);
     }
-    for (which, said) in OF_ROWS.iter().enumerate() {
+    Ok(())
+}
+
+#[test]
+fn refusals_tell_the_row(rt: HostRuntime) -> Result<(), Fail> {
+    let alloc = rt.alloc();
+    for (which, wanted) in OF_ROWS.iter().enumerate() {
         let refusal = of_row(alloc, which)?;
-        assert_eq!(rt;
-            refused(alloc, refusal)?.as_str(),
-            line(alloc, said)?.as_str()
-        );
+        assert_eq!(rt; refused(alloc, refusal)?.as_str(), *wanted);
     }
-    for (which, said) in OF_PAIRS.iter().enumerate() {
+    Ok(())
+}
+
+#[test]
+fn refusals_tell_two_names(rt: HostRuntime) -> Result<(), Fail> {
+    let alloc = rt.alloc();
+    for (which, wanted) in OF_PAIRS.iter().enumerate() {
         let refusal = of_pair(alloc, which)?;
+        assert_eq!(rt; refused(alloc, refusal)?.as_str(), *wanted);
+    }
+    Ok(())
+}
+
+#[test]
+fn refusals_tell_the_limit(rt: HostRuntime) -> Result<(), Fail> {
+    for (limit, wanted) in LIMITS {
         assert_eq!(rt;
-            refused(alloc, refusal)?.as_str(),
-            line(alloc, said)?.as_str()
+            refused(rt.alloc(), Refusal::Limit(limit))?.as_str(),
+            wanted
         );
     }
     Ok(())

@@ -7,13 +7,6 @@ use std::alloc::{AllocError, Global};
 use std::mem::drop;
 use std::test::Fail;
 
-/// The lines of a reply at place 70, to call 3 of session 2.
-fn lines(alloc: Global, reply: Reply) -> Result<Text, AllocError> {
-    let lines = print_reply(alloc, Some(Place(70)), SessionNo(2), 3, &reply);
-    drop(reply);
-    lines
-}
-
 /// NULL, -5 and a text.
 fn values(alloc: Global) -> Result<Vec<Value>, AllocError> {
     let text = Text::from_str(alloc, "a|b")?;
@@ -49,37 +42,43 @@ fn graph(alloc: Global) -> Result<Reply, AllocError> {
     Ok(Reply::Graph(List::from_vec(lines)))
 }
 
-#[test]
-fn replies_without_rows(rt: HostRuntime) -> Result<(), Fail> {
-    let alloc = rt.alloc();
-    let forgot = Reply::Forgot {
-        removed: 12,
-        changed: 4_294_967_295,
-    };
-    assert_eq!(rt; lines(alloc, Reply::Done)?.as_str(), "70 2.3 ok\n");
-    assert_eq!(rt; lines(alloc, Reply::Counted(0))?.as_str(), "70 2.3 ok 0\n");
-    assert_eq!(rt; lines(alloc, Reply::Ended)?.as_str(), "70 2.3 end\n");
-    assert_eq!(rt;
-        lines(alloc, forgot)?.as_str(),
-        "70 2.3 forgot 12 removed 4294967295 changed\n"
-    );
-    Ok(())
+/// The lines of each reply, at place 70, to call 3 of session 2.
+const LINES: [&str; 7] = [
+    "70 2.3 ok\n",
+    "70 2.3 ok 0\n",
+    "70 2.3 end\n",
+    "70 2.3 forgot 12 removed 4294967295 changed\n",
+    "70 2.3 rows 2\n  NULL|-5|'a|b'\n  -170141183460469231731\n",
+    "70 2.3 got 1\n  acc|1|HIDDEN\n",
+    "70 2.3 graph 2\n  a -> b\n  \n",
+];
+
+fn reply(alloc: Global, which: usize) -> Result<Reply, AllocError> {
+    match which {
+        0 => Ok(Reply::Done),
+        1 => Ok(Reply::Counted(0)),
+        2 => Ok(Reply::Ended),
+        3 => Ok(Reply::Forgot {
+            removed: 12,
+            changed: 4_294_967_295,
+        }),
+        4 => rows(alloc),
+        5 => got(alloc),
+        _ => graph(alloc),
+    }
+}
+
+fn lines(alloc: Global, which: usize) -> Result<Text, AllocError> {
+    let reply = reply(alloc, which)?;
+    let lines = print_reply(alloc, Some(Place(70)), SessionNo(2), 3, &reply);
+    drop(reply);
+    lines
 }
 
 #[test]
-fn replies_with_rows(rt: HostRuntime) -> Result<(), Fail> {
-    let alloc = rt.alloc();
-    assert_eq!(rt;
-        lines(alloc, rows(alloc)?)?.as_str(),
-        "70 2.3 rows 2\n  NULL|-5|'a|b'\n  -170141183460469231731\n"
-    );
-    assert_eq!(rt;
-        lines(alloc, got(alloc)?)?.as_str(),
-        "70 2.3 got 1\n  acc|1|HIDDEN\n"
-    );
-    assert_eq!(rt;
-        lines(alloc, graph(alloc)?)?.as_str(),
-        "70 2.3 graph 2\n  a -> b\n  \n"
-    );
+fn replies_have_their_lines(rt: HostRuntime) -> Result<(), Fail> {
+    for (which, wanted) in LINES.iter().enumerate() {
+        assert_eq!(rt; lines(rt.alloc(), which)?.as_str(), *wanted);
+    }
     Ok(())
 }

@@ -33,24 +33,31 @@ fn texts_are_shown_on_one_line(rt: HostRuntime) -> Result<(), Fail> {
     Ok(())
 }
 
+/// What each number of `number` is shown as.
+const NUMBERS: [&str; 6] = [
+    "NULL",
+    "0",
+    "9223372036854775807",
+    "-9223372036854775808",
+    "-1",
+    "9223372036854775807000000",
+];
+
+fn number(which: usize) -> Value {
+    match which {
+        0 => Value::Null,
+        1 => Value::Int(0),
+        2 => Value::Int(9_223_372_036_854_775_807),
+        3 => Value::Int(-9_223_372_036_854_775_807 - 1),
+        4 => Value::Sum(-1),
+        _ => Value::Sum(9_223_372_036_854_775_807_000_000),
+    }
+}
+
 #[test]
 fn numbers_are_shown_in_decimal(rt: HostRuntime) -> Result<(), Fail> {
-    let alloc = rt.alloc();
-    for (value, wanted) in [
-        (Value::Null, "NULL"),
-        (Value::Int(0), "0"),
-        (Value::Int(9_223_372_036_854_775_807), "9223372036854775807"),
-        (
-            Value::Int(-9_223_372_036_854_775_807 - 1),
-            "-9223372036854775808",
-        ),
-        (Value::Sum(-1), "-1"),
-        (
-            Value::Sum(9_223_372_036_854_775_807_000_000),
-            "9223372036854775807000000",
-        ),
-    ] {
-        assert_eq!(rt; print_value(alloc, &value)?.as_str(), wanted);
+    for (which, wanted) in NUMBERS.iter().enumerate() {
+        assert_eq!(rt; print_value(rt.alloc(), &number(which))?.as_str(), *wanted);
     }
     Ok(())
 }

@@ -13,22 +13,27 @@ use Rattle.text_model.specs.Condition.Shape.{Single, AndList, OrList}
 use Rattle.text_model.specs.Words.{Words, column_words, separated}
 use Rattle.sql_print.specs.Parts.{null_test_words}
 
+-- an AND list, with its parts as they are written
 pub written-Every : (parts : List Cond) → written (Every parts) ≡ written_step (Cond-F.Every (map written parts))
 unfolding written
 written-Every parts = ap written (sym (rolls-Every parts)) ∙ fold-roll-Cond Written written_step (Cond-F.Every parts)
 
+-- an OR list, with its parts as they are written
 pub written-Some1 : (parts : List Cond) → written (Some1 parts) ≡ written_step (Cond-F.Some1 (map written parts))
 unfolding written
 written-Some1 parts = ap written (sym (rolls-Some1 parts)) ∙ fold-roll-Cond Written written_step (Cond-F.Some1 parts)
 
+-- NOT and a part, with its parts as they are written
 pub written-Not : (part : Cond) → written (Not part) ≡ written_step (Cond-F.Not (written part))
 unfolding written
 written-Not part = ap written (sym (rolls-Not part)) ∙ fold-roll-Cond Written written_step (Cond-F.Not part)
 
+-- a comparison
 pub written-Compare : (left : ColRef) (comparison : Cmp) (right : Operand) → written (Compare left comparison right) ≡ written_step (Cond-F.Compare left comparison right)
 unfolding written
 written-Compare left comparison right = ap written (sym (rolls-Compare left comparison right)) ∙ fold-roll-Cond Written written_step (Cond-F.Compare left comparison right)
 
+-- a test for NULL
 pub written-IsNull : (column : ColRef) (negated : Bool) → written (IsNull column negated) ≡ written_step (Cond-F.IsNull column negated)
 unfolding written
 written-IsNull column negated = ap written (sym (rolls-IsNull column negated)) ∙ fold-roll-Cond Written written_step (Cond-F.IsNull column negated)
@@ -38,38 +43,48 @@ separated-map : {A B : Type 0} (separator : List ℕ) (words : B → Words) (by 
 separated-map separator words by [] = refl
 separated-map separator words by (first ∷ rest) = ap (λ l. words (by first) ++ l) (flat_map-map (λ part. separator ∷ words part) by rest)
 
--- what a condition is as a part of another, by its variant
+-- an AND list as a part of another condition
 pub shape-Every : (parts : List Cond) → (written (Every parts)).shape ≡ AndList
 shape-Every parts = ap (λ w. w.shape) (written-Every parts)
 
+-- an OR list as a part of another condition
 pub shape-Some1 : (parts : List Cond) → (written (Some1 parts)).shape ≡ OrList
 shape-Some1 parts = ap (λ w. w.shape) (written-Some1 parts)
 
+-- NOT and a part as a part of another condition
 pub shape-Not : (part : Cond) → (written (Not part)).shape ≡ Single
 shape-Not part = ap (λ w. w.shape) (written-Not part)
 
+-- a comparison as a part of another condition
 pub shape-Compare : (left : ColRef) (comparison : Cmp) (right : Operand) → (written (Compare left comparison right)).shape ≡ Single
 shape-Compare left comparison right = ap (λ w. w.shape) (written-Compare left comparison right)
 
+-- a test for NULL as a part of another condition
 pub shape-IsNull : (column : ColRef) (negated : Bool) → (written (IsNull column negated)).shape ≡ Single
 shape-IsNull column negated = ap (λ w. w.shape) (written-IsNull column negated)
 
+-- what a condition is as a part of another
 pub ruleset shapes = (shape-Every, shape-Some1, shape-Not, shape-Compare, shape-IsNull)
 
--- the words of a condition, by its variant
+-- the words of an AND list
 pub words-Every : (parts : List Cond) → (written (Every parts)).words ≡ separated (codes "AND") (λ part. in_and (written part)) parts
 words-Every parts = ap (λ w. w.words) (written-Every parts) ∙ separated-map (codes "AND") in_and written parts
 
+-- the words of an OR list
 pub words-Some1 : (parts : List Cond) → (written (Some1 parts)).words ≡ separated (codes "OR") (λ part. in_or (written part)) parts
 words-Some1 parts = ap (λ w. w.words) (written-Some1 parts) ∙ separated-map (codes "OR") in_or written parts
 
+-- the words of NOT and a part
 pub words-Not : (part : Cond) → (written (Not part)).words ≡ codes "NOT" ∷ in_and (written part)
 words-Not part = ap (λ w. w.words) (written-Not part)
 
+-- the words of a comparison
 pub words-Compare : (left : ColRef) (comparison : Cmp) (right : Operand) → (written (Compare left comparison right)).words ≡ column_words left ++ cmp_word comparison ∷ operand_words right
 words-Compare left comparison right = ap (λ w. w.words) (written-Compare left comparison right)
 
+-- the words of a test for NULL
 pub words-IsNull : (column : ColRef) (negated : Bool) → (written (IsNull column negated)).words ≡ null_test_words column negated
 words-IsNull column negated = ap (λ w. w.words) (written-IsNull column negated)
 
+-- the words of a condition
 pub ruleset words = (words-Every, words-Some1, words-Not, words-Compare, words-IsNull)

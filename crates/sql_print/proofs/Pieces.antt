@@ -37,6 +37,7 @@ no_quote-same bytes plain = λ k d within.
       | inr h ↦ ap (λ b. if b then 39 ∷ 39 ∷ [] else get_or bytes k d ∷ []) h.0
     ]
 
+-- the same, by what the two tests answer
 shown-same : (byte : ℕ) (quote other : Bool) → (quote || other) ≡ false → (if quote then 39 ∷ 39 ∷ [] else if other then 92 ∷ hex_digit (byte / 16) ∷ hex_digit (byte % 16) ∷ [] else byte ∷ []) ≡ byte ∷ []
 shown-same byte true other plain = absurd (true≢false plain)
 shown-same byte false true plain = absurd (true≢false plain)

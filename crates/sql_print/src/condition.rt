@@ -37,7 +37,7 @@ impl Worded for Operand {
     }
 }
 
-/// A part with AND between its neighbours or after NOT, or with OR between them.
+/// Where a part of a condition stands: in an AND list or after NOT, or in an OR list.
 #[derive(Clone, Copy)]
 enum Within {
     And,

@@ -12,6 +12,7 @@ use own_model::{
 };
 use std::alloc::AllocError;
 
+/// What a reply calls a limit.
 #[tactic(auto, unfolding(text_model::specs::Refused::limit_name))]
 fn limit_name(limit: LimitName) -> &'static str
     ensures { result.now ≡ limit_name limit }
@@ -32,6 +33,7 @@ fn limit_name(limit: LimitName) -> &'static str
     }
 }
 
+/// The number that a limit is.
 #[tactic(auto, unfolding(text_model::specs::Refused::limit_number))]
 fn limit_number(limit: LimitName) -> u64
     ensures { result ≡ limit_number limit }
@@ -72,42 +74,42 @@ fn push_held(draft: &mut Draft, table: &Name, key: &Option<Key>) -> Result<(), A
     push_held_key(draft, key)
 }
 
-/// Writes why a call was refused, with the name of what shows it.
-fn push_named(draft: &mut Draft, why: &str, name: &Name) -> Result<(), AllocError>
-    ensures { OnOk result (draft.new ≡ draft.old ++ (why.now ++ name.now)) }
+/// Writes what stands before a name, and the name.
+fn push_named(draft: &mut Draft, before: &str, name: &Name) -> Result<(), AllocError>
+    ensures { OnOk result (draft.new ≡ draft.old ++ (before.now ++ name.now)) }
 {
-    draft.push(why)?;
+    draft.push(before)?;
     draft.push(name.as_str())
 }
 
-/// Writes why a call was refused, with the number that shows it.
-fn push_numbered(draft: &mut Draft, why: &str, number: u64) -> Result<(), AllocError>
-    ensures { OnOk result (draft.new ≡ draft.old ++ (why.now ++ decimal number)) }
+/// Writes what stands before a number, and the number.
+fn push_numbered(draft: &mut Draft, before: &str, number: u64) -> Result<(), AllocError>
+    ensures { OnOk result (draft.new ≡ draft.old ++ (before.now ++ decimal number)) }
 {
-    draft.push(why)?;
+    draft.push(before)?;
     draft.push_number(number)
 }
 
-/// Writes why a call was refused, with the row that shows it.
-fn push_row(draft: &mut Draft, why: &str, table: &Name, key: &Key) -> Result<(), AllocError>
-    ensures { OnOk result (draft.new ≡ draft.old ++ (why.now ++ (table.now <+> shown_key key.now))) }
+/// Writes what stands before a row, and the row's table and key.
+fn push_row(draft: &mut Draft, before: &str, table: &Name, key: &Key) -> Result<(), AllocError>
+    ensures { OnOk result (draft.new ≡ draft.old ++ (before.now ++ (table.now <+> shown_key key.now))) }
 {
-    push_named(draft, why, table)?;
+    push_named(draft, before, table)?;
     draft.push(" ")?;
     push_key(draft, key)
 }
 
-/// Writes why a call was refused, with the row and its column that show it.
+/// Writes what stands before a column of a row, and the row's table and key and the column.
 fn push_column_of_row(
     draft: &mut Draft,
-    why: &str,
+    before: &str,
     table: &Name,
     key: &Key,
     column: &Name,
 ) -> Result<(), AllocError>
-    ensures { OnOk result (draft.new ≡ draft.old ++ (why.now ++ (table.now <+> shown_key key.now <+> column.now))) }
+    ensures { OnOk result (draft.new ≡ draft.old ++ (before.now ++ (table.now <+> shown_key key.now <+> column.now))) }
 {
-    push_row(draft, why, table, key)?;
+    push_row(draft, before, table, key)?;
     draft.push(" ")?;
     draft.push(column.as_str())
 }
