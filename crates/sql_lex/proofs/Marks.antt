@@ -21,7 +21,7 @@ not_true true h = absurd (h refl)
 not_true false h = refl
 
 -- what each of a list passes, one of them passes
-passes_among : (test : List ℕ → Bool) (all : List (List ℕ)) (bytes : List ℕ) → list_all test all ≡ true → list_any (λ mark. bytes_eq mark bytes) all ≡ true → test bytes ≡ true
+pub passes_among : (test : List ℕ → Bool) (all : List (List ℕ)) (bytes : List ℕ) → list_all test all ≡ true → list_any (λ mark. bytes_eq mark bytes) all ≡ true → test bytes ≡ true
 passes_among test [] bytes each among = absurd (false≢true among)
 passes_among test (mark ∷ all) bytes each among =
     let parts = both (test mark) (list_all test all) each in

@@ -2,18 +2,16 @@
 use Rattle.std.proofs.Common.{◌≡◌, ◌<◌, ℕ, Bool, true, false, List, [], ◌∷◌, ◌++◌, length, refl, sym, ap, ◌∙◌, arith, codes}
 use Rattle.std.specs.Prelude.{◌==◌, ◌&&◌, ◌||◌, not, nat_eq, IsTrue}
 use Rattle.std.specs.Char.{is_ascii_digit}
-use Rattle.std.specs.List.{list_all, list_any, starts_with}
-use Rattle.std.specs.Str.{bytes_eq}
+use Rattle.std.specs.List.{list_all, starts_with}
 use Rattle.std.proofs.lemmas.Bool.{false≢true}
 use Rattle.std.proofs.lemmas.List.Folds.{list_all-append}
-use Rattle.std.proofs.lemmas.Slice.Eq.{bytes_eq-Decides}
 use Rattle.sql_lex.specs.declared.token.TokenKind.{TokenKind}
 use Rattle.sql_lex.specs.declared.token.TokenKind.TheVariants.{Name, Keyword, Number, Quoted, Mark}
 use Rattle.sql_lex.specs.Bytes.{is_space, begins_word, continues_word, first_passes}
 use Rattle.sql_lex.specs.Filler.{begins_filler}
 use Rattle.sql_lex.specs.Tokens.{IsSpelled, goes_on, is_mark, is_number, marks, quoted}
 use Rattle.sql_lex.proofs.FirstByte.{begins-first}
-use Rattle.sql_lex.proofs.Marks.{both, not_true, mark-length}
+use Rattle.sql_lex.proofs.Marks.{both, not_true, mark-length, passes_among}
 
 -- a space or the end comes next
 abbrev pub EndsWord : List ℕ → Type 0
@@ -24,18 +22,6 @@ EndsWord (byte ∷ bytes) = byte ≡ 32
 and_false : (b : Bool) → (b && false) ≡ false
 and_false true = refl
 and_false false = refl
-
--- what all members of a list pass, one of them passes
-passes_among : (test : List ℕ → Bool) (all : List (List ℕ)) (bytes : List ℕ) → list_all test all ≡ true → list_any (λ mark. bytes_eq mark bytes) all ≡ true → test bytes ≡ true
-passes_among test [] bytes each among = absurd (false≢true among)
-passes_among test (mark ∷ all) bytes each among = by (bytes_eq mark bytes) refl (passes_among test all bytes passes.1)
-  where
-    passes : (test mark ≡ true) × (list_all test all ≡ true)
-    passes = both (test mark) (list_all test all) each
-
-    by : (answer : Bool) → bytes_eq mark bytes ≡ answer → (list_any (λ mark. bytes_eq mark bytes) all ≡ true → test bytes ≡ true) → test bytes ≡ true
-    by true same others = ap test (sym ((bytes_eq-Decides mark bytes).0 same)) ∙ passes.0
-    by false other others = others (sym (ap (λ b. b || list_any (λ mark. bytes_eq mark bytes) all) other) ∙ among)
 
 -- no mark has a space
 mark-spaced : (bytes : List ℕ) → is_mark (bytes ++ 32 ∷ []) ≡ false

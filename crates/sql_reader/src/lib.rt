@@ -24,4 +24,4 @@ mod tokens;
 pub use fault::ReadFault;
 pub use read::read_statement;
 pub use script::read_script;
-pub use sessions::split;
+pub use sessions::Split;

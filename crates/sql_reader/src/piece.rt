@@ -9,12 +9,12 @@ ghost use Rattle.sql_reader.specs.scripts.Fronts.{IsFront};
 /// What stands at the front of an input's bytes.
 #[derive(Clone, Copy, Debug, PartialEq, Eq)]
 pub enum Front {
-    /// So many bytes that are empty: one of white space, or those of a comment.
+    /// That many bytes that are empty: one of white space, or those of a comment.
     Empty(usize),
     /// A piece of a text: how many bytes it has, and how many of them come up to its last that isn't empty.
     Text { len: usize, held: usize },
     Semicolon,
-    /// A session line of so many bytes.
+    /// A session line of that many bytes.
     SessionLine(usize),
 }
 

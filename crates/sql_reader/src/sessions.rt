@@ -3,7 +3,7 @@
 ghost use Rattle.std.specs.Prelude.{◌≡◌, ◌<◌, [], ◌∷◌, ◌++◌, length, map, All, IfOk, OnOk};
 ghost use Rattle.own_model.specs.declared.limit.TheConstants.{SESSIONS};
 ghost use Rattle.script_model.specs.Session.{sessions};
-ghost use Rattle.script_model.specs.Split.{IsOfASession, split as split_calls};
+ghost use Rattle.script_model.specs.Split.{IsOfASession, split};
 ghost use Rattle.sql_reader.specs.scripts.Lists.{lists_of};
 
 use own_base::{List, SessionNo};
@@ -55,14 +55,13 @@ fn gather(
     })
 }
 
-/// The calls of each session that has one, by session number, and each session's in their order. Where memory is
-/// refused, the script is given up.
-pub fn split(alloc: Global, script: Script) -> Result<List<SessionCalls>, AllocError>
-    requires { All IsOfASession script.calls }
-    ensures { IfOk result (λ sessions. sessions ≡ split_calls script.calls) }
+/// The calls of each session that has one.
+fn split_calls(alloc: Global, calls: Vec<ScriptCall>) -> Result<List<SessionCalls>, AllocError>
+    requires { All IsOfASession calls.items }
+    ensures { IfOk result (λ sessions. sessions ≡ split calls.items) }
 {
     let mut lists = empty_lists(alloc)?;
-    deal(script.calls.into_vec(), &mut lists)?;
+    deal(calls, &mut lists)?;
     let mut sessions = List::new(alloc);
     let mut session = 1;
     for calls in lists {
@@ -70,4 +69,26 @@ pub fn split(alloc: Global, script: Script) -> Result<List<SessionCalls>, AllocE
         session += 1;
     }
     Ok(sessions)
+}
+
+/// What has calls of sessions, and can be split by them.
+pub trait Split {
+    ghost use Rattle.std.specs.Prelude.{List as Seq};
+    ghost use Rattle.own_model.specs.declared.script.ScriptCall.{ScriptCall as Call};
+
+    ghost calls: { Self → Seq Call };
+
+    /// The calls of each session that has one, by session number, and each session's in their order. Where memory is
+    /// refused, the calls are given up.
+    fn split(self, alloc: Global) -> Result<List<SessionCalls>, AllocError>
+        requires { All IsOfASession (calls self) }
+        ensures { IfOk result (λ sessions. sessions ≡ split (calls self)) };
+}
+
+impl Split for Script {
+    ghost calls = { λ script. script.calls };
+
+    fn split(self, alloc: Global) -> Result<List<SessionCalls>, AllocError> {
+        split_calls(alloc, self.calls.into_vec())
+    }
 }

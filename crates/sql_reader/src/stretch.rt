@@ -50,7 +50,7 @@ pub struct Stretch<'a> {
     pub next: usize,
 }
 
-/// What the session line of so many bytes at a place means.
+/// What the session line of that many bytes at a place means.
 fn line_ending(bytes: &[u8], at: usize, len: usize) -> Ending
     requires within { at + len ≤ length bytes.now }
     requires long { 11 ≤ len }

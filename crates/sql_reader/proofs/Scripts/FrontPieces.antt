@@ -20,7 +20,7 @@ drop_past : (xs ys : List ℕ) (count : ℕ) → drop (length xs + count) (xs ++
 drop_past [] ys count = let none : 0 + count ≡ count = omega arith in ap (λ n. drop n ys) none
 drop_past (x ∷ xs) ys count = let more : suc (length xs) + count ≡ suc (length xs + count) = omega arith in rw more (drop_past xs ys count)
 
--- the piece is these bytes, and so many of those after them
+-- the piece is these bytes, and that many of those after them
 AtFront-parts : (begins : Bool) (piece : Piece) (bytes front rest : List ℕ) (len count : ℕ) → bytes ≡ front ++ rest → len ≡ length front + count → count ≤ length rest → bytes_of piece ≡ front ++ take count rest → IsPiece begins piece (drop count rest) → AtFront begins bytes piece len
 AtFront-parts begins piece bytes front rest len count split long within is fits =
     record {

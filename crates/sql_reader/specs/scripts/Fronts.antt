@@ -6,7 +6,7 @@ use Rattle.script_model.specs.CallText.{Mark, marks_of}
 use Rattle.sql_reader.specs.declared.piece.Front.{Front}
 use Rattle.sql_reader.specs.declared.piece.Front.TheVariants as front
 
--- the piece stands at the front of the bytes, and has so many
+-- the piece stands at the front of the bytes, and has that many
 pub record AtFront (begins : Bool) (bytes : List ℕ) (piece : Piece) (len : ℕ) : Type 0 where
   pub within : len ≤ length bytes
   pub is : take len bytes ≡ bytes_of piece
@@ -25,7 +25,7 @@ pub record IsTight (marks : List Mark) : Type 0 where
   pub first : begins_full marks ≡ true
   pub last : begins_full (reverse marks) ≡ true
 
--- so many bytes, of which the first and the last aren't empty, and then empty ones
+-- that many bytes, of which the first and the last aren't empty, and then empty ones
 pub record Holds (marks : List Mark) (held : ℕ) : Type 0 where
   pub text : List Mark
   pub back : List Mark

@@ -20,7 +20,7 @@ IsLineMet line at (met.BadLine place) = (session_of line ≡ None) × (place ≡
 IsLineMet line at met.Semicolon = ⊥
 IsLineMet line at met.End = ⊥
 
--- what the session line of so many bytes at a place means
+-- what the session line of that many bytes at a place means
 abbrev pub IsLineEnding : List ℕ → ℕ → ℕ → Met → Type 0
 IsLineEnding bytes at len found = IsLineMet (slice_range bytes (at + 11) (at + len)) at found
 

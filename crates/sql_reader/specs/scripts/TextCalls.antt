@@ -21,7 +21,7 @@ pub record Takes (before : List ScriptCall) (parts : List Part) (after : List Sc
   pub right : faults_after (length before) parts ≡ []
   pub added : after ≡ before ++ numbered_after before (askings_of (texts_in parts) requests)
 
--- the fault is the first that is wrong with parts before which so many calls come, or memory was refused
+-- the fault is the first that is wrong with parts before which that many calls come, or memory was refused
 abbrev pub IsFaultIn : ℕ → List Part → InputFault → Type 0
 IsFaultIn count parts TooLong = ⊥
 IsFaultIn count parts (NotText byte) = ⊥

@@ -1,6 +1,0 @@
-use Rattle.std.specs.Vec.Iter.{into_iter_items}
-use Rattle.sql_reader.proofs.Scripts.Dealing.{Gathered}
-use Rattle.sql_reader.proofs.sessions.split.Given as goal
-
-abbrev pub invariant-loop-calls : goal.invariant-loop-calls
-invariant-loop-calls l = Gathered l.fn.script.calls l.session (into_iter_items l.calls-iterator) l.sessions
