@@ -14,16 +14,15 @@ ghost use Rattle.store_top.specs.Top.{IsBeforeCalls, IsUsageOrMemory, IsWithoutD
 use crate::engine::Engine;
 use crate::served::{Served, TopFault, status};
 use crate::steps::{RunFault, serve_calls};
-
 use outer_world::{Disk, Gate, ReadAllFault, Sink, Source, read_all};
 use own_base::List;
 use own_model::{Entry, INPUT_BYTES, InputFault, ScriptCall};
 use sql_reader::read_script;
-use store_words::{Mode, mode_of};
 use std::alloc::{AllocError, Global};
 use std::mem::drop;
 use std::sync::Wait;
 use std::thread::Threads;
+use store_words::{Mode, mode_of};
 
 /// How a run ended, without its disk.
 #[derive(Debug)]
