@@ -4,6 +4,7 @@ pub mod Ends
 pub mod FrontPieces
 pub mod Marking
 pub mod Numbering
+pub mod OfSessions
 pub mod OnePiece
 pub mod OneScript
 pub mod Reading

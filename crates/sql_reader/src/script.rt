@@ -1,9 +1,10 @@
 //! The script of an input: the calls of its sessions.
 
-ghost use Rattle.std.specs.Prelude.{◌≡◌, ◌<◌, ◌≤◌, ◌^◌, ◌++◌, Ok, Err, length, IfOk, IfErr, OnOk};
+ghost use Rattle.std.specs.Prelude.{◌≡◌, ◌<◌, ◌≤◌, ◌^◌, ◌++◌, Ok, Err, length, All, IfOk, IfErr, OnOk};
 ghost use Rattle.own_model.specs.declared.limit.TheConstants.{INPUT_BYTES, INPUT_CALLS, SESSIONS};
 ghost use Rattle.script_model.specs.Numbered.{numbered_after};
 ghost use Rattle.script_model.specs.Script.{IsScript};
+ghost use Rattle.script_model.specs.Split.{IsOfASession};
 ghost use Rattle.sql_reader.specs.InputFaults.{IsFaultOf};
 ghost use Rattle.sql_reader.specs.scripts.Stretches.{call_of_text};
 ghost use Rattle.sql_reader.specs.scripts.TextCalls.{Takes, IsFaultIn, HasTextCalls, IsTextFault, ends_after};
@@ -88,6 +89,8 @@ fn add_ends(calls: &mut Calls) -> Result<(), AllocError>
 /// call, by session number; or why the input has none. Takes memory for the calls, and for reading each.
 pub fn read_script(alloc: Global, bytes: &[u8]) -> Result<Script, InputFault>
     ensures ok { IfOk result (λ script. IsScript bytes.now (Ok script.calls)) }
+    // This follows from `ok`, and is what `split` asks for.
+    ensures of_sessions { IfOk result (λ script. All IsOfASession script.calls) }
     // Out of memory aside, a fault is the input's; memory is taken only for an input that isn't too long and is text.
     ensures err { IfErr result (λ fault. IsFaultOf bytes.now fault) }
 {

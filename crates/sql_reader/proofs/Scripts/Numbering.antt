@@ -39,7 +39,7 @@ length-numbered_after : (before : List ScriptCall) (askings : List Asking) → l
 length-numbered_after before [] = ap length (numbered_after-nil before)
 length-numbered_after before (first ∷ askings) = ap length (numbered_after-cons before first askings) ∙ omega (arith, length-numbered_after (before ++ call_after before first ∷ []) askings)
 
-texts_in-append : (parts more : List Part) → texts_in (parts ++ more) ≡ texts_in parts ++ texts_in more
+pub texts_in-append : (parts more : List Part) → texts_in (parts ++ more) ≡ texts_in parts ++ texts_in more
 texts_in-append [] more = refl
 texts_in-append (Call text ∷ parts) more = ap (λ l. text ∷ l) (texts_in-append parts more)
 texts_in-append (BadLine at ∷ parts) more = texts_in-append parts more
