@@ -108,7 +108,8 @@ OfASession asking = IsSession asking.session
 abbrev TextOfASession : CallText → Type 0
 TextOfASession text = IsSession text.session
 
-texts-append : (parts more : List Part) → texts_in (parts ++ more) ≡ texts_in parts ++ texts_in more
+-- the texts of parts, and then of others
+pub texts-append : (parts more : List Part) → texts_in (parts ++ more) ≡ texts_in parts ++ texts_in more
 texts-append [] more = refl
 texts-append (Call text ∷ parts) more = ap (λ texts. text ∷ texts) (texts-append parts more)
 texts-append (BadLine at ∷ parts) more = texts-append parts more
@@ -171,7 +172,8 @@ numbered-all P Q before [] gives all = tt
 numbered-all P Q before (asking ∷ askings) gives all =
     (gives before asking all.0, numbered-all P Q (before ++ call_after before asking ∷ []) askings gives all.1)
 
-length-numbered : (before : List ScriptCall) (askings : List Asking) → length (numbered_after before askings) ≡ length askings
+-- there are as many calls as askings
+pub length-numbered : (before : List ScriptCall) (askings : List Asking) → length (numbered_after before askings) ≡ length askings
 unfolding numbered_after
 length-numbered before [] = refl
 length-numbered before (asking ∷ askings) = let rest = length-numbered (before ++ call_after before asking ∷ []) askings in omega arith

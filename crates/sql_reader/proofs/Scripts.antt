@@ -4,7 +4,6 @@ pub mod Ends
 pub mod FrontPieces
 pub mod Marking
 pub mod Numbering
-pub mod OfSessions
 pub mod OnePiece
 pub mod OneScript
 pub mod Reading

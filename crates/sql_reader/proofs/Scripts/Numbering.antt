@@ -12,6 +12,7 @@ use Rattle.script_model.specs.Asked.{AreAskedBy}
 use Rattle.script_model.specs.CallText.{CallText, Part, Call, BadLine}
 use Rattle.script_model.specs.Numbered.{Asking, call_after, numbered_after}
 use Rattle.script_model.specs.Script.{texts_in, too_many, faults_after, first_of, askings_of}
+use Rattle.script_model.proofs.InputCalls.{length-numbered, texts-append}
 use Rattle.sql_reader.specs.scripts.Counts.{asking, AddsText}
 use Rattle.sql_reader.specs.scripts.Stretches.{call_with}
 use Rattle.sql_reader.specs.scripts.TextCalls.{Takes}
@@ -34,15 +35,6 @@ numbered_after-append before (first ∷ askings) more =
     let next = before ++ call ∷ [] in
     let whole : next ++ numbered_after next askings ≡ before ++ numbered_after before (first ∷ askings) = append_assoc before (call ∷ []) (numbered_after next askings) ∙ ap (λ l. before ++ l) (sym (numbered_after-cons before first askings)) in
     numbered_after-cons before first (askings ++ more) ∙ ap (λ l. call ∷ l) (numbered_after-append next askings more) ∙ (λ i. sym (numbered_after-cons before first askings) i ++ numbered_after (whole i) more)
-
-length-numbered_after : (before : List ScriptCall) (askings : List Asking) → length (numbered_after before askings) ≡ length askings
-length-numbered_after before [] = ap length (numbered_after-nil before)
-length-numbered_after before (first ∷ askings) = ap length (numbered_after-cons before first askings) ∙ omega (arith, length-numbered_after (before ++ call_after before first ∷ []) askings)
-
-pub texts_in-append : (parts more : List Part) → texts_in (parts ++ more) ≡ texts_in parts ++ texts_in more
-texts_in-append [] more = refl
-texts_in-append (Call text ∷ parts) more = ap (λ l. text ∷ l) (texts_in-append parts more)
-texts_in-append (BadLine at ∷ parts) more = texts_in-append parts more
 
 AreAskedBy-append : (texts more : List CallText) (requests others : List Request) → AreAskedBy texts requests → AreAskedBy more others → AreAskedBy (texts ++ more) (requests ++ others)
 AreAskedBy-append [] more [] others asked also = also
@@ -89,7 +81,7 @@ faults_after-append count (BadLine at ∷ parts) more =
 pub Takes-length : (before : List ScriptCall) (parts : List Part) (after : List ScriptCall) → Takes before parts after → length after ≡ length before + length (texts_in parts)
 Takes-length before parts after takes =
     let askings = askings_of (texts_in parts) takes.requests in
-    ap length takes.added ∙ length-append before (numbered_after before askings) ∙ ap (λ n. length before + n) (length-numbered_after before askings ∙ length-askings_of (texts_in parts) takes.requests takes.asked)
+    ap length takes.added ∙ length-append before (numbered_after before askings) ∙ ap (λ n. length before + n) (length-numbered before askings ∙ length-askings_of (texts_in parts) takes.requests takes.asked)
 
 -- no parts
 pub Takes-none : (before : List ScriptCall) → Takes before [] before
@@ -98,7 +90,7 @@ Takes-none before = record { requests = []; asked = tt; right = faults_after-nil
 -- parts after parts
 pub Takes-append : (before : List ScriptCall) (parts : List Part) (middle : List ScriptCall) (more : List Part) (after : List ScriptCall) → Takes before parts middle → Takes middle more after → Takes before (parts ++ more) after
 Takes-append before parts middle more after one other =
-    let texts = texts_in-append parts more in
+    let texts = texts-append parts more in
     let askings = askings_of (texts_in parts) one.requests in
     let others = askings_of (texts_in more) other.requests in
     let all : askings_of (texts_in (parts ++ more)) (one.requests ++ other.requests) ≡ askings ++ others = ap (λ l. askings_of l (one.requests ++ other.requests)) texts ∙ askings_of-append (texts_in parts) (texts_in more) one.requests other.requests one.asked in

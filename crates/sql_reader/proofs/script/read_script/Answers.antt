@@ -1,9 +1,11 @@
 use Rattle.std.proofs.Common.{◌∙◌}
 use Rattle.std.proofs.lemmas.Result.{err_from_is_err_and}
 use Rattle.std.proofs.lemmas.Str.{utf8_valid_len-IsUtf8}
-use Rattle.sql_reader.proofs.Scripts.Ends.{whole_calls, input_fault}
+use Rattle.std.proofs.lemmas.List.Elements.{All-from_recursion}
 use Rattle.script_model.specs.Script.{HasCalls}
-use Rattle.sql_reader.proofs.Scripts.OfSessions.{calls_own}
+use Rattle.script_model.specs.Split.{IsOfASession}
+use Rattle.script_model.proofs.InputCalls.{calls-sessions}
+use Rattle.sql_reader.proofs.Scripts.Ends.{whole_calls, input_fault}
 use Rattle.sql_reader.proofs.script.read_script.Goals as goal
 use Rattle.sql_reader.proofs.script.read_script.Goals.{After-into_list}
 
@@ -28,4 +30,5 @@ pub returns-in-Ok-add_ends-clause-ok : goal.returns-in-Ok-add_ends-clause-ok
 returns-in-Ok-add_ends-clause-ok c = has_calls c
 
 pub returns-in-Ok-add_ends-clause-of_sessions : goal.returns-in-Ok-add_ends-clause-of_sessions
-returns-in-Ok-add_ends-clause-of_sessions c = calls_own c.args.bytes.now c.into_list.result (has_calls c)
+returns-in-Ok-add_ends-clause-of_sessions c =
+    All-from_recursion IsOfASession c.into_list.result (calls-sessions c.args.bytes.now c.into_list.result (has_calls c))
