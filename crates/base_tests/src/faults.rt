@@ -5,7 +5,10 @@ use std::test::Fail;
 fn faults_of_the_input_are_shown(rt: HostRuntime) -> Result<(), Fail> {
     let alloc = rt.alloc();
     for (fault, shown) in [
-        (InputFault::TooLong, "input refused at byte 67108864: too long"),
+        (
+            InputFault::TooLong,
+            "input refused at byte 67108864: too long",
+        ),
         (InputFault::NotText(7), "input refused at byte 7: not text"),
         (
             InputFault::BadSession(10),

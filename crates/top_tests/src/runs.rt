@@ -26,7 +26,8 @@ const FIRST: &str =
 const REFUSALS: &str =
     "CREATE DATA_SUBJECT TABLE users (id INT PRIMARY KEY, name TEXT); INSERT INTO users VALUES (5, 'Ann'); SELECT * FROM users;INSERT INTO users VALUES (5, 'Bo'); SELECT * FROM cats; BEGIN;";
 
-const SESSIONS: &str = "CREATE DATA_SUBJECT TABLE users (id INT PRIMARY KEY, name TEXT);\n-- session 2\nSELECT * FROM users; SELEC\n-- session 1\nSELECT * FROM users;";
+const SESSIONS: &str =
+    "CREATE DATA_SUBJECT TABLE users (id INT PRIMARY KEY, name TEXT);\n-- session 2\nSELECT * FROM users; SELEC\n-- session 1\nSELECT * FROM users;";
 
 const CASES: [Case; 8] = [
     Case {
