@@ -1,5 +1,5 @@
 -- The calls of an input are calls of its sessions.
-use Rattle.std.proofs.Common.{◌≡◌, ◌<◌, ◌≤◌, ◌+◌, ℕ, zero, suc, Bool, true, false, List, [], ◌∷◌, ◌++◌, map, reverse, Option, Some, None, inl, inr, refl, sym, ap, ◌∙◌, subst, arith}
+use Rattle.std.proofs.Common.{◌≡◌, ◌≤◌, ◌+◌, ℕ, zero, suc, Bool, List, [], ◌∷◌, ◌++◌, map, Option, Some, None, inl, inr, refl, sym, ap, ◌∙◌, subst, arith}
 use Rattle.std.specs.Prelude.{All, filter, if◌then◌else◌}
 use Rattle.std.specs.List.{AllByRecursion, find, range_with_len}
 use Rattle.std.proofs.lemmas.Bool.{cases_Bool}
@@ -8,9 +8,9 @@ use Rattle.own_model.specs.declared.limit.TheConstants.{SESSIONS}
 use Rattle.own_model.specs.declared.request.Request.{Request}
 use Rattle.own_model.specs.declared.request.Request.TheVariants.{End}
 use Rattle.own_model.specs.declared.script.ScriptCall.{ScriptCall}
-use Rattle.script_model.specs.CallText.{CallText, Part, Call, BadLine, Mark, call_of, call_in, marks_in, trimmed, bad_line, bad_unless, session_after, or_before, end_of, ending_len, parts_from}
+use Rattle.script_model.specs.CallText.{CallText, Part, Mark, call_of, call_in, marks_in, trimmed, bad_line, bad_unless, session_after, or_before, end_of, ending_len, parts_from}
 use Rattle.script_model.specs.Numbered.{Asking, call_after, numbered_after, ends_of, has_call, calls_of}
-use Rattle.script_model.specs.Script.{HasCalls, parts_of, texts_in, askings_of}
+use Rattle.script_model.specs.Script.{HasCalls, texts_in, askings_of}
 use Rattle.script_model.specs.Session.{names, session_of, sessions}
 use Rattle.script_model.specs.Split.{IsOfASession}
 use Rattle.script_model.specs.Stretch.{Stretch, Ending, AtSemicolon, AtSession, AtEnd, stretches}
