@@ -1,5 +1,5 @@
-//! Tests of the lexer and of the reader, by their public calls, on texts whose answers were worked out by hand from the
-//! grammar.
+//! Tests of the lexer and of the readers, by their public calls, on texts and scripts whose answers were worked out by
+//! hand from the grammar and from the definition of an input.
 #![tactic(auto)]
 
 #[cfg(test)]
@@ -12,6 +12,8 @@ mod lexer;
 mod limits;
 #[cfg(test)]
 mod places;
+#[cfg(test)]
+mod scripts;
 #[cfg(test)]
 mod values;
 #[cfg(test)]

@@ -18,6 +18,9 @@ pub enum Front {
     SessionLine(usize),
 }
 
+/// How many bytes `-- session ` has.
+pub const SESSION_BYTES: usize = 11;
+
 /// A space, a tab, or an end of line.
 pub fn is_space(byte: u8) -> bool
     ensures { result ≡ is_space_byte byte }
@@ -79,7 +82,7 @@ fn dash(bytes: &[u8], begins: bool) -> Front
     ensures { IsFront begins bytes.now result }
 {
     if begins && bytes.starts_with(b"-- session ") {
-        Front::SessionLine(11 + line_len(&bytes[11..]))
+        Front::SessionLine(SESSION_BYTES + line_len(&bytes[SESSION_BYTES..]))
     } else if bytes.starts_with(b"--") {
         Front::Empty(2 + line_len(&bytes[2..]))
     } else {

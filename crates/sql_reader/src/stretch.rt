@@ -6,7 +6,7 @@ ghost use Rattle.script_model.specs.Piece.{bytes_of, SessionLine};
 ghost use Rattle.sql_reader.specs.scripts.Fronts.{AtFront};
 ghost use Rattle.sql_reader.specs.scripts.Stretches.{IsScan, IsStretch, IsLineEnding, is_closing};
 
-use crate::piece::{Front, front_of};
+use crate::piece::{Front, SESSION_BYTES, front_of};
 use crate::session_line::session_of;
 
 /// What a stretch meets.
@@ -53,10 +53,10 @@ pub struct Stretch<'a> {
 /// What the session line of that many bytes at a place means.
 fn line_ending(bytes: &[u8], at: usize, len: usize) -> Ending
     requires within { at + len ≤ length bytes.now }
-    requires long { 11 ≤ len }
+    requires long { SESSION_BYTES ≤ len }
     ensures { IsLineEnding bytes.now at len result }
 {
-    match session_of(&bytes[at + 11..at + len]) {
+    match session_of(&bytes[at + SESSION_BYTES..at + len]) {
         Some(session) => Ending::Session(session),
         None => Ending::BadLine(at),
     }
