@@ -3,7 +3,7 @@
 
 use crate::check::spelled_out;
 use own_model::{Request, Script, ScriptCall, SessionCalls};
-use sql_reader::{read_script, split};
+use sql_reader::{Split, read_script};
 use std::alloc::Global;
 use std::fmt::Write;
 use std::mem::drop;
@@ -202,7 +202,7 @@ fn told_sessions(alloc: Global, sessions: &[SessionCalls]) -> Result<String, Fai
 fn scripts_are_split(rt: HostRuntime) -> Result<(), Fail> {
     let input = b"-- session 16\na;\n-- session 2\ncommit;\n-- session 16\ncommit;;commit";
     let script = read_script(rt.alloc(), input).ok().ok_or("a script")?;
-    let sessions = split(rt.alloc(), script)?;
+    let sessions = script.split(rt.alloc())?;
     let told = told_sessions(rt.alloc(), sessions.items());
     drop(sessions);
     assert_eq!(rt;
