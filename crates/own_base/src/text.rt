@@ -4,6 +4,7 @@ ghost use Rattle.own_base.specs.Name.{IsName};
 use crate::make_copy::MakeCopy;
 use std::alloc::{AllocError, Global};
 use std::cmp::Ordering;
+use std::hash::{Hash, Hasher};
 use std::marker::Model;
 
 /// A text, which contracts see as its UTF-8 bytes. It is compared and ordered by its bytes.
@@ -115,12 +116,26 @@ impl PartialOrd for Text {
     }
 }
 
+impl Hash for Text {
+    ghost use Rattle.std.specs.Hash as fed;
+    ghost use Rattle.std.proofs.Common.{rules};
+    ghost use Rattle.std.specs.Cmp.Rules.{hashing};
+
+    ghost hash_input = { λ text. fed.str text };
+
+    ghost respects_eq = { Prim.search (hashing, rules) };
+
+    fn hash<H: Hasher>(&self, state: &mut H) {
+        self.text.as_str().hash(state);
+    }
+}
+
 /// The most bytes of a name.
 pub const NAME_BYTES: usize = 64;
 
 /// The name of a table, a view or a column, which contracts see as its bytes: a letter or `_`, then letters, digits
 /// or `_`, in lower case and at most `NAME_BYTES` of them.
-#[derive(Debug, Drop, PartialEq, Eq, PartialOrd, Ord)]
+#[derive(Debug, Drop, PartialEq, Eq, PartialOrd, Ord, Hash)]
 pub struct Name {
     text: Text,
 }
