@@ -7,6 +7,7 @@ mod bound;
 mod condition;
 mod create;
 mod expression;
+mod footprint;
 mod history;
 mod limit;
 mod refusal;
@@ -16,11 +17,14 @@ mod schema;
 mod script;
 mod select;
 mod statement;
+mod store_view;
+mod truth;
 
 pub use bound::{Bound, BoundCond, BoundExpr, BoundItem, BoundOperand, BoundSelect, Source1};
 pub use condition::{Cmp, Cond, Operand};
 pub use create::{Attr, ColumnDef, CreateTable, CreateView, Part, RefDef};
 pub use expression::Expr;
+pub use footprint::{FootItem, Footprint};
 pub use history::{Entry, Verdict};
 pub use limit::{
     INPUT_BYTES, INPUT_CALLS, JOURNAL_ROOM, LimitName, NESTING_LEVELS, PAYLOAD_BYTES, REPLY_ROWS,
@@ -35,3 +39,5 @@ pub use schema::{Column, CreateText, Edge, Kind, RefKind, Schema, TableDef, View
 pub use script::{InputFault, Script, ScriptCall, SessionCalls};
 pub use select::{ColRef, Item, Items, Join, Order, Select, What};
 pub use statement::Statement;
+pub use store_view::StoreView;
+pub use truth::Truth;
