@@ -1,0 +1,13 @@
+pub mod Columns
+pub mod Explained
+pub mod Kinds
+pub mod NewEdges
+pub mod NewTable
+pub mod OnRules
+pub mod OwnerSchema
+pub mod References
+pub mod Refusal
+pub mod Tables
+pub mod WithTable
+pub mod WithinLimits
+pub mod rules

@@ -1,0 +1,14 @@
+pub mod ColumnsNotToRule
+pub mod MisplacedRules
+pub mod MissingColumns
+pub mod MissingTables
+pub mod NotOnePrimaryKey
+pub mod OwnedByPublic
+pub mod OwnedSubjects
+pub mod OwnersWithoutOwner
+pub mod PastTheKey
+pub mod PrimaryKeysThatRefer
+pub mod RepeatedColumns
+pub mod RowsStruckByAccess
+pub mod SecondReferences
+pub mod UnequalKinds
