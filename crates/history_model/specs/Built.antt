@@ -1,58 +1,22 @@
 -- Which requests are built.
-use Rattle.std.specs.Prelude.{ℕ, Bool, true, false, not, ◌&&◌, ◌==◌, List, [], ◌∷◌, length, Option, None, Some, if◌then◌else◌}
-use Rattle.std.specs.Str.{bytes_eq}
+use Rattle.std.specs.Prelude.{ℕ, List, [], ◌∷◌, Bool, true, false, not, ◌&&◌, ◌==◌, Option, None, Some, is_none, slice_get, if◌then◌else◌}
+use Rattle.std.specs.List.{list_all}
+use Rattle.std.specs.Option.{option_map_or}
 use Rattle.own_base.specs.declared.value.Value.{Value}
 use Rattle.own_base.specs.declared.value.Value.TheVariants as value
-use Rattle.own_model.specs.declared.create.Attr.{Attr}
-use Rattle.own_model.specs.declared.create.Attr.TheVariants as attr
-use Rattle.own_model.specs.declared.create.ColumnDef.{ColumnDef}
-use Rattle.own_model.specs.declared.create.Part.{Part}
-use Rattle.own_model.specs.declared.create.Part.TheVariants as part
 use Rattle.own_model.specs.declared.request.Request.{Request}
 use Rattle.own_model.specs.declared.request.Request.TheVariants.{Run, Syntax, Limit, End}
+use Rattle.own_model.specs.declared.schema.Column.{Column}
 use Rattle.own_model.specs.declared.schema.Kind.{Kind}
 use Rattle.own_model.specs.declared.schema.Kind.TheVariants as kind
 use Rattle.own_model.specs.declared.schema.Schema.{Schema}
+use Rattle.own_model.specs.declared.schema.TableDef.{TableDef}
 use Rattle.own_model.specs.declared.select.Items.{Items}
 use Rattle.own_model.specs.declared.select.Items.TheVariants.{Star}
 use Rattle.own_model.specs.declared.select.Select.{Select as Query}
 use Rattle.own_model.specs.declared.statement.Statement.{Statement}
-use Rattle.own_model.specs.declared.statement.Statement.TheVariants.{CreateTable, Insert, Select}
-
-abbrev pub is_none : {A : Type 0} → Option A → Bool
-is_none None = true
-is_none (Some found) = false
-
-abbrev pub is_int : Kind → Bool
-is_int kind.Int = true
-is_int _ = false
-
-abbrev pub is_text : Kind → Bool
-is_text kind.Text = true
-is_text _ = false
-
--- PRIMARY KEY and nothing else
-abbrev pub is_key_alone : List Attr → Bool
-is_key_alone (attr.Key ∷ []) = true
-is_key_alone _ = false
-
-abbrev pub is_plain : List Attr → Bool
-is_plain [] = true
-is_plain _ = false
-
--- name INT PRIMARY KEY, and another name TEXT
-abbrev pub are_key_and_text : ColumnDef → ColumnDef → Bool
-are_key_and_text key column = is_int key.kind && is_key_alone key.attrs && is_text column.kind && is_plain column.attrs && not (bytes_eq key.name column.name)
-
--- two columns alone, and such ones
-abbrev pub are_two_columns : List Part → Bool
-are_two_columns (part.Column key ∷ part.Column column ∷ []) = are_key_and_text key column
-are_two_columns _ = false
-
--- one tuple of a number and a text
-abbrev pub is_pair : List (List Value) → Bool
-is_pair ((value.Int number ∷ value.Text bytes ∷ []) ∷ []) = true
-is_pair _ = false
+use Rattle.own_model.specs.declared.statement.Statement.TheVariants.{CreateTable, Explain, Insert, Select}
+use Rattle.schema_model.specs.Tables.{is_private, number_of}
 
 abbrev pub is_star : Items → Bool
 is_star Star = true
@@ -62,12 +26,48 @@ is_star _ = false
 abbrev pub is_whole_table : Query → Bool
 is_whole_table query = is_star query.items && is_none query.join && is_none query.cond && is_none query.group && is_none query.order
 
--- CREATE DATA_SUBJECT TABLE name ( name INT PRIMARY KEY , name TEXT ) where there is no table, INSERT INTO name
--- VALUES ( int , text ), and SELECT * FROM name
+-- NULL, or a value of this kind
+abbrev pub may_stand : Kind → Value → Bool
+may_stand of value.Null = true
+may_stand kind.Int (value.Int number) = true
+may_stand kind.Text (value.Text bytes) = true
+may_stand kind.Sum (value.Sum number) = true
+may_stand _ _ = false
+
+-- one value for each column, NULL or of its kind
+abbrev pub may_stand_in : List Column → List Value → Bool
+may_stand_in [] [] = true
+may_stand_in [] (value ∷ values) = false
+may_stand_in (column ∷ columns) [] = false
+may_stand_in (column ∷ columns) (value ∷ values) = may_stand column.kind value && may_stand_in columns values
+
+abbrev pub is_null : Value → Bool
+is_null value.Null = true
+is_null _ = false
+
+-- whether a column has no reference, and is neither UNIQUE nor NOT NULL
+abbrev pub is_without_constraint : Column → Bool
+is_without_constraint column = is_none column.refers && not column.unique && not column.not_null
+
+-- whether a tuple may be put into a table: its values may stand there, and its key isn't NULL
+abbrev pub fits_table : TableDef → List Value → Bool
+fits_table table tuple = may_stand_in table.columns tuple && option_map_or (λ key. not (is_null key)) (slice_get tuple table.key.0) false
+
+-- whether a table takes a tuple today: it isn't private and has no constraint but its primary key
+abbrev pub takes_tuple : Schema → ℕ → List Value → TableDef → Bool
+takes_tuple schema number tuple table = not (is_private schema number) && list_all is_without_constraint table.columns && fits_table table tuple
+
+-- one tuple, into a name that is no table, or into a table that takes it
+abbrev pub is_built_insert : Schema → List ℕ → List (List Value) → Bool
+is_built_insert schema name (tuple ∷ []) = option_map_or (takes_tuple schema (number_of schema name) tuple) (slice_get schema.tables (number_of schema name)) true
+is_built_insert schema name _ = false
+
+-- CREATE TABLE, EXPLAIN COMPLIANCE, SELECT * FROM name, and INSERT INTO name VALUES of one tuple
 abbrev pub is_built : Schema → Statement → Bool
-is_built schema (CreateTable create) = create.subject && are_two_columns create.parts && length schema.tables == 0
-is_built schema (Insert table columns rows) = is_none columns && is_pair rows
+is_built schema (CreateTable create) = true
+is_built schema Explain = true
 is_built schema (Select query) = is_whole_table query
+is_built schema (Insert table None rows) = is_built_insert schema table rows
 is_built schema _ = false
 
 -- A session's request as it comes into the history, over the schema at its place. A statement that isn't built yet, or is

@@ -11,9 +11,9 @@ use Rattle.own_model.specs.Db.{Db}
 abbrev pub row_count : Db → ℕ
 row_count db = sum_by length db.rows
 
--- What all rows weigh together, where there are no edges and no views. A row weighs its size for each of its owners,
--- and at least once; each subject that reaches it without owning it adds to that. Without edges a row is reached by no
--- subject but itself, so it weighs its size.
+-- What all rows weigh together, where no edge joins two of them and there are no views. A row weighs its size for each of
+-- its owners, and at least once; each subject that reaches it without owning it adds to that. Rows stand today in tables
+-- without references alone, so no row is reached by a subject but itself, and it weighs its size.
 abbrev pub weight : Db → ℕ
 weight db = sum_by (sum_by row_size) db.rows
 

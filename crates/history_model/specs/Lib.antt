@@ -1,6 +1,7 @@
 pub mod AreBuilt
 pub mod Built
 pub mod Create
+pub mod Created
 pub mod Fault
 pub mod History
 pub mod Made

@@ -5,32 +5,28 @@ use Rattle.std.specs.declared.cmp.Ordering.{Ordering}
 use Rattle.std.specs.declared.cmp.Ordering.TheVariants.{Less, Equal, Greater}
 use Rattle.own_base.specs.Key.{key_cmp}
 use Rattle.own_base.specs.declared.value.Key.{Key}
+use Rattle.own_model.specs.declared.create.CreateTable.{CreateTable as TableCreate}
+use Rattle.own_model.specs.declared.refusal.Refusal.{Refusal}
 use Rattle.own_model.specs.declared.refusal.Refusal.TheVariants.{Syntax, NoTable, Duplicate}
 use Rattle.own_model.specs.declared.reply.Reply.{Reply}
-use Rattle.own_model.specs.declared.reply.Reply.TheVariants.{Done, Counted, Rows, Refused}
+use Rattle.own_model.specs.declared.reply.Reply.TheVariants.{Done, Counted, Rows, Graph, Refused}
 use Rattle.own_model.specs.declared.schema.TableDef.{TableDef}
 use Rattle.own_model.specs.declared.statement.Statement.{Statement}
-use Rattle.own_model.specs.declared.statement.Statement.TheVariants.{CreateTable, Insert, Select}
+use Rattle.own_model.specs.declared.statement.Statement.TheVariants.{CreateTable, Explain, Insert, Select}
 use Rattle.history_model.specs.Create.{create}
 use Rattle.own_model.specs.Db.{Db, Row, Table, key_of, table_of}
+use Rattle.own_model.specs.Stored.{has_key, holds_rows}
+use Rattle.schema_model.specs.Explained.{explained}
+use Rattle.schema_model.specs.Refusal.{refusal_of}
 
 abbrev pub is_less : Ordering → Bool
 is_less Less = true
 is_less Equal = false
 is_less Greater = false
 
-abbrev pub is_equal : Ordering → Bool
-is_equal Less = false
-is_equal Equal = true
-is_equal Greater = false
-
 -- whether one row stands before another, by key
 abbrev pub precedes : TableDef → Row → Row → Bool
 precedes table left right = is_less (key_cmp (key_of table left) (key_of table right))
-
--- whether a row has this key
-abbrev pub has_key : TableDef → Key → Row → Bool
-has_key table key row = is_equal (key_cmp (key_of table row) key)
 
 -- the rows and one more, at its place by key
 unfoldable pub with_row : TableDef → Row → List Row → List Row
@@ -67,11 +63,20 @@ rows_or_refusal name (Some table) = Rows table.rows
 unfoldable pub select : Db → List ℕ → Reply
 select db name = rows_or_refusal name (table_of db name)
 
+abbrev pub create_unless : Db → TableCreate → Option Refusal → Outcome
+create_unless db table (Some why) = record { db = db; reply = Refused why }
+create_unless db table None = record { db = create db table; reply = Done }
+
+-- CREATE TABLE adds the table, or is refused by the first cause that there is.
+unfoldable pub create_table : Db → TableCreate → Outcome
+create_table db table = create_unless db table (refusal_of db.schema (holds_rows db.rows) table)
+
 -- The database that a statement leaves, and its answer. A statement that is refused leaves the database as it was. One
--- that isn't built yet is refused as syntax. This is said of the first calls alone: no views, no edges and no constraints
--- yet.
+-- that isn't built yet is refused as syntax. Rows stand today in tables that nobody owns and that have no constraint but
+-- their primary key.
 unfoldable pub run : Db → Statement → Outcome
-run db (CreateTable table) = record { db = create db table; reply = Done }
+run db (CreateTable table) = create_table db table
+run db Explain = record { db = db; reply = Graph (explained db.schema) }
 run db (Insert table None (tuple ∷ [])) = insert db table tuple
 run db (Select query) = record { db = db; reply = select db query.from }
 run db _ = record { db = db; reply = Refused (Syntax 0) }
