@@ -1,3 +1,4 @@
+pub mod CreatedLemmas
 pub mod HistoryLemmas
 pub mod NamedLemmas
 pub mod RefusalLemmas

@@ -5,6 +5,7 @@ use Rattle.std.specs.Option.{option_map}
 use Rattle.std.proofs.lemmas.List.{take_more}
 use Rattle.std.proofs.lemmas.Option.{get_or_from_slice_get, slice_get_within}
 use Rattle.own_base.specs.declared.value.Key.{Key}
+use Rattle.own_model.specs.declared.create.CreateTable.{CreateTable}
 use Rattle.own_model.specs.declared.history.Entry.{Entry}
 use Rattle.own_model.specs.declared.refusal.Refusal.{Refusal}
 use Rattle.own_model.specs.declared.reply.Reply.TheVariants.{Refused}
@@ -14,7 +15,7 @@ use Rattle.own_model.specs.declared.statement.Statement.{Statement}
 use Rattle.own_model.specs.declared.statement.Statement.TheVariants as statement
 use Rattle.own_model.specs.Db.{Db, Row, Table, table_of}
 use Rattle.history_model.specs.History.{History, answer, answer_to, flat, left_by, reply, world}
-use Rattle.history_model.specs.Run.{insert, insert_into, put, run}
+use Rattle.history_model.specs.Run.{create_table, create_unless, insert, insert_into, put, run}
 use Rattle.history_model.proofs.HistoryLemmas.{flat-append}
 
 put_step : (db : Db) (name : List ℕ) (number : ℕ) (r : Result (List Row) Key) (why : Refusal) → (put db name number r).reply ≡ Refused why → (put db name number r).db ≡ db
@@ -26,9 +27,14 @@ insert_step : (db : Db) (name : List ℕ) (tuple : Row) (found : Option Table) (
 insert_step db name tuple None why refused = refl
 insert_step db name tuple (Some table) why refused = put_step db name table.number _ why refused
 
+create_step : (db : Db) (table : CreateTable) (cause : Option Refusal) (why : Refusal) → (create_unless db table cause).reply ≡ Refused why
+    → (create_unless db table cause).db ≡ db
+create_step db table None why refused = cc
+create_step db table (Some cause) why refused = refl
+
 refused-run : (db : Db) (statement : Statement) (why : Refusal) → (run db statement).reply ≡ Refused why → (run db statement).db ≡ db
-unfolding run insert
-refused-run db (statement.CreateTable table) why refused = cc
+unfolding run create_table insert
+refused-run db (statement.CreateTable table) why refused = create_step db table _ why refused
 refused-run db (statement.Insert table None (tuple ∷ [])) why refused = insert_step db table tuple (table_of db table) why refused
 refused-run db _ why refused = refl
 

@@ -8,15 +8,20 @@ use Rattle.std.specs.declared.cmp.Ordering.{Ordering}
 use Rattle.std.specs.declared.cmp.Ordering.TheVariants.{Less, Equal, Greater}
 use Rattle.own_base.specs.Key.{key_cmp}
 use Rattle.own_base.specs.declared.value.Key.{Key}
+use Rattle.own_model.specs.declared.create.CreateTable.{CreateTable}
+use Rattle.own_model.specs.declared.refusal.Refusal.{Refusal}
 use Rattle.own_model.specs.declared.schema.TableDef.{TableDef}
 use Rattle.own_model.specs.declared.request.Request.{Request}
 use Rattle.own_model.specs.declared.request.Request.TheVariants.{Run, Syntax, Limit, End}
 use Rattle.own_model.specs.declared.statement.Statement.{Statement}
 use Rattle.own_model.specs.declared.statement.Statement.TheVariants as statement
-use Rattle.history_model.specs.Create.{create, definition_of}
+use Rattle.history_model.specs.Create.{create}
 use Rattle.own_model.specs.Db.{Db, Row, Table, empty, AreRising, IsOrdered, IsRising, key_of, table_from}
+use Rattle.own_model.specs.Stored.{has_key}
+use Rattle.schema_model.specs.NewTable.{new_table}
+use Rattle.schema_model.specs.WithTable.{with_table}
 use Rattle.history_model.specs.History.{History, World, flat, happens, left_by, world}
-use Rattle.history_model.specs.Run.{has_key, insert, put, run, with_row, with_tuple}
+use Rattle.history_model.specs.Run.{create_table, create_unless, insert, put, run, with_row, with_tuple}
 use Rattle.own_model.proofs.KeyOrder.{key_order}
 
 -- the other way round
@@ -160,10 +165,15 @@ unfolding insert
 insert_step db name tuple ordered None is = rw is ordered
 insert_step db name tuple ordered (Some table) is = rw is (put_step db name tuple table ordered is _ refl)
 
+create_step : (db : Db) (table : CreateTable) → IsOrdered db → (why : Option Refusal) → IsOrdered (create_unless db table why).db
+unfolding create with_table
+create_step db table ordered None = record { rising = rising-append db.schema.tables db.rows (new_table db.schema table) ordered.rising }
+create_step db table ordered (Some why) = ordered
+
 -- a statement leaves the keys rising
 ordered-run : (db : Db) (statement : Statement) → IsOrdered db → IsOrdered (run db statement).db
-unfolding run create
-ordered-run db (statement.CreateTable table) ordered = record { rising = rising-append db.schema.tables db.rows (definition_of table) ordered.rising }
+unfolding run create_table
+ordered-run db (statement.CreateTable table) ordered = create_step db table ordered _
 ordered-run db (statement.Insert table None []) ordered = ordered
 ordered-run db (statement.Insert table None (tuple ∷ [])) ordered = insert_step db table tuple ordered _ refl
 ordered-run db (statement.Insert table None (tuple ∷ next ∷ tuples)) ordered = ordered

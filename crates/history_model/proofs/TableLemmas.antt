@@ -1,12 +1,15 @@
 -- What a row more does to a table's rows, and to those of a database.
-use Rattle.std.proofs.Common.{◌≡◌, ℕ, zero, suc, ◌+◌, List, [], ◌∷◌, ◌++◌, length, Bool, true, false, refl, ap, arith}
+use Rattle.std.proofs.Common.{◌≡◌, ℕ, zero, suc, ◌+◌, ◌<◌, List, [], ◌∷◌, ◌++◌, length, Bool, true, false, refl, ap, arith}
 use Rattle.std.specs.Prelude.{Option, Some, slice_get, slice_set, sum_by}
-use Rattle.std.specs.List.{AllByRecursion}
+use Rattle.std.specs.List.{AllByRecursion, position_or_len}
 use Rattle.std.specs.Str.{bytes_eq}
+use Rattle.std.proofs.lemmas.Bool.{lt-ltb}
 use Rattle.std.proofs.lemmas.List.Sums.{sum_by-cons}
 use Rattle.own_base.specs.Row.{row_size}
+use Rattle.own_model.specs.declared.schema.Schema.{Schema}
 use Rattle.own_model.specs.declared.schema.TableDef.{TableDef}
 use Rattle.own_model.specs.Db.{Row, Table, table_from}
+use Rattle.schema_model.specs.Tables.{number_of}
 use Rattle.history_model.specs.Run.{precedes, with_row}
 use Rattle.history_model.specs.Sound.{AreRowsOf, IsRowOf}
 
@@ -77,6 +80,47 @@ found-at number name [] rows table found = let never : ⊥ = cc in absurd never
 found-at number name (first ∷ tables) [] table found = let never : ⊥ = cc in absurd never
 found-at number name (first ∷ tables) (one ∷ rows) table found =
     found_step number name first tables one rows table (found-at (number + 1) name tables rows table) _ refl found
+
+-- whether a table has a name
+abbrev is_of_name : List ℕ → TableDef → Bool
+is_of_name name table = bytes_eq table.name name
+
+-- The number of a table that is found is that of the first table of its name.
+record IsFirstOf (number : ℕ) (name : List ℕ) (tables : List TableDef) (table : Table) : Type 0 where
+  counted : table.number ≡ number + position_or_len (is_of_name name) tables
+  within : position_or_len (is_of_name name) tables < length tables
+
+first_step : (number : ℕ) (name : List ℕ) (first : TableDef) (tables : List TableDef) (one : List Row) (rows : List (List Row)) (table : Table)
+    → (table_from (number + 1) name tables rows ≡ Some table → IsFirstOf (number + 1) name tables table)
+    → (b : Bool) → bytes_eq first.name name ≡ b → table_from number name (first ∷ tables) (one ∷ rows) ≡ Some table
+    → IsFirstOf number name (first ∷ tables) table
+unfolding table_from
+first_step number name first tables one rows table later true is found =
+    let both : ◌≡◌ {A = Option Table} (Some (record { number = number; definition = first; rows = one })) (Some table) = rw is at found in
+    let same : record { number = number; definition = first; rows = one } ≡ table = cc in
+    let own : number ≡ table.number = ap (λ t. t.number) same in
+    record { counted = rw is (omega arith); within = rw is (omega arith) }
+first_step number name first tables one rows table later false is found =
+    let there = later (rw is at found) in
+    let counted = there.counted in
+    let within = there.within in
+    record { counted = rw is (omega arith); within = rw is (omega arith) }
+
+first-found : (number : ℕ) (name : List ℕ) (tables : List TableDef) (rows : List (List Row)) (table : Table) → table_from number name tables rows ≡ Some table
+    → IsFirstOf number name tables table
+unfolding table_from
+first-found number name [] rows table found = let never : ⊥ = cc in absurd never
+first-found number name (first ∷ tables) [] table found = let never : ⊥ = cc in absurd never
+first-found number name (first ∷ tables) (one ∷ rows) table found =
+    first_step number name first tables one rows table (first-found (number + 1) name tables rows table) _ refl found
+
+-- a table that is found by its name has the number of the name
+pub number-found : (schema : Schema) (rows : List (List Row)) (name : List ℕ) (table : Table) → table_from 0 name schema.tables rows ≡ Some table
+    → number_of schema name ≡ table.number
+number-found schema rows name table found =
+    let first = first-found 0 name schema.tables rows table found in
+    let counted = first.counted in
+    rw (lt-ltb (position_or_len (is_of_name name) schema.tables) (length schema.tables) first.within) (omega arith)
 
 -- the rows of one table are those of the table
 pub rows-at : (tables : List TableDef) (rows : List (List Row)) (place : ℕ) (table : TableDef) (own : List Row) → AreRowsOf tables rows

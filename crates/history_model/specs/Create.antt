@@ -1,5 +1,5 @@
 -- What a CREATE TABLE adds to a database.
-use Rattle.std.specs.Prelude.{List, [], ◌∷◌, ◌++◌, false}
+use Rattle.std.specs.Prelude.{[], ◌∷◌, ◌++◌, false}
 use Rattle.own_model.specs.declared.create.CreateTable.{CreateTable as TableCreate}
 use Rattle.own_model.specs.declared.schema.CreateText.{CreateText}
 use Rattle.own_model.specs.declared.statement.Statement.TheVariants.{CreateTable}

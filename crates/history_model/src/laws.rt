@@ -3,7 +3,8 @@
 ghost use Rattle.std.specs.Prelude.{◌≡◌, ℕ, ◌+◌, ◌<◌, List, ◌++◌, length, map, filter, take, Some};
 ghost use Rattle.own_model.specs.declared.refusal.Refusal.{Refusal};
 ghost use Rattle.own_model.specs.declared.reply.Reply.TheVariants.{Refused};
-ghost use Rattle.own_model.specs.Db.{Db, IsOrdered};
+ghost use Rattle.own_model.specs.Db.{Db, IsOrdered, empty};
+ghost use Rattle.history_model.specs.Created.{IsCreated};
 ghost use Rattle.history_model.specs.History.{History, flat, reply};
 ghost use Rattle.history_model.specs.Made.{Called, made};
 ghost use Rattle.history_model.specs.Named.{called_name, entry_name, was_made};
@@ -29,4 +30,11 @@ pub fn each_call_made_comes_once_and_in_order()
 /// The keys of each table rise strictly, whatever history runs on a database where they do.
 pub fn keys_rise_in_each_table()
     ensures { (base : Db) (history : History) → IsOrdered base → IsOrdered (flat base history) }
+{}
+
+/// Where the schema of a database is the one that its creates give, each admitted after those before it, that of the flat
+/// database is, whatever history runs on it; and so is the schema of the empty database.
+pub fn schema_is_that_of_admitted_creates()
+    ensures kept { (base : Db) (history : History) → IsCreated base → IsCreated (flat base history) }
+    ensures at_first { IsCreated empty }
 {}
