@@ -18,6 +18,8 @@ use Rattle.schema_model.specs.Kinds.{is_owns}
 use Rattle.schema_model.specs.References.{Reference, references_of}
 use Rattle.schema_model.specs.Refusal.{broken, closed, first_broken, owned_rows, past_limits, refusal_of, taken}
 use Rattle.schema_model.specs.WithTable.{with_table}
+use Rattle.schema_model.specs.WithinLimits.{IsWithinLimits}
+use Rattle.schema_model.proofs.LimitLemmas.{within_limits-empty, within_limits-with_table}
 use Rattle.history_model.specs.Create.{create, kept_text}
 use Rattle.history_model.specs.Created.{AreAdmitted, IsCreated, without_rows}
 use Rattle.history_model.specs.History.{History, World, flat, happens, left_by, world}
@@ -124,3 +126,7 @@ module _ (P : Schema → Type 0) (kept : (schema : Schema) (create : CreateTable
 
   pub kept-created : P empty.schema → (db : Db) → IsCreated db → P db.schema
   kept-created first db is = rw is.schema (kept-fold empty.schema is.creates first is.admitted)
+
+-- the schema of a database that its creates give is within the limits
+pub within-created : (db : Db) → IsCreated db → IsWithinLimits db.schema
+within-created = kept-created IsWithinLimits (λ schema create within admitted. within_limits-with_table schema without_rows create within admitted) within_limits-empty

@@ -4,6 +4,7 @@ ghost use Rattle.std.specs.Prelude.{◌≡◌, ℕ, ◌+◌, ◌<◌, List, ◌+
 ghost use Rattle.own_model.specs.declared.refusal.Refusal.{Refusal};
 ghost use Rattle.own_model.specs.declared.reply.Reply.TheVariants.{Refused};
 ghost use Rattle.own_model.specs.Db.{Db, IsOrdered, empty};
+ghost use Rattle.schema_model.specs.WithinLimits.{IsWithinLimits};
 ghost use Rattle.history_model.specs.Created.{IsCreated};
 ghost use Rattle.history_model.specs.History.{History, flat, reply};
 ghost use Rattle.history_model.specs.Made.{Called, made};
@@ -37,4 +38,9 @@ pub fn keys_rise_in_each_table()
 pub fn schema_is_that_of_admitted_creates()
     ensures kept { (base : Db) (history : History) → IsCreated base → IsCreated (flat base history) }
     ensures at_first { IsCreated empty }
+{}
+
+/// The schema that admitted creates give is within the limits.
+pub fn created_schema_is_an_owner_schema()
+    ensures within { (db : Db) → IsCreated db → IsWithinLimits db.schema }
 {}
