@@ -1,16 +1,13 @@
 -- What the statements are that are built.
-use Rattle.std.proofs.Common.{◌≡◌, ℕ, ◌≤◌, List, [], ◌∷◌, length, Bool, true, false, refl}
-use Rattle.std.specs.Prelude.{ℤ, ◌&&◌, ◌==◌}
-use Rattle.std.specs.List.{AllByRecursion}
-use Rattle.own_model.specs.declared.limit.TheConstants.{TEXT_BYTES}
+use Rattle.std.proofs.Common.{◌≡◌, ℕ, List, [], ◌∷◌, length, Bool, true, false, refl, arith}
+use Rattle.std.specs.Prelude.{◌&&◌, ◌==◌, not, Option, None, Some, slice_get}
+use Rattle.std.specs.List.{AllByRecursion, list_all}
+use Rattle.std.specs.Option.{option_map_or}
 use Rattle.own_base.specs.declared.value.Value.{Value}
 use Rattle.own_base.specs.declared.value.Value.TheVariants as value
-use Rattle.own_model.specs.declared.create.ColumnDef.{ColumnDef}
-use Rattle.own_model.specs.declared.create.CreateTable.{CreateTable}
-use Rattle.own_model.specs.declared.create.Part.{Part}
-use Rattle.own_model.specs.declared.create.Part.TheVariants as part
 use Rattle.own_model.specs.declared.request.Request.{Request}
 use Rattle.own_model.specs.declared.request.Request.TheVariants.{Run, Syntax}
+use Rattle.own_model.specs.declared.schema.Column.{Column}
 use Rattle.own_model.specs.declared.schema.Kind.{Kind}
 use Rattle.own_model.specs.declared.schema.Kind.TheVariants as kind
 use Rattle.own_model.specs.declared.schema.Schema.{Schema}
@@ -18,27 +15,19 @@ use Rattle.own_model.specs.declared.schema.TableDef.{TableDef}
 use Rattle.own_model.specs.declared.statement.Statement.{Statement}
 use Rattle.own_model.specs.declared.statement.Statement.TheVariants as statement
 use Rattle.own_model.specs.Db.{Row}
-use Rattle.history_model.specs.Built.{are_two_columns, built, is_built, is_int, is_pair, is_text}
-use Rattle.history_model.specs.Create.{definition_of}
-use Rattle.history_model.specs.Sound.{IsRowOf}
+use Rattle.schema_model.specs.Tables.{is_private, number_of}
+use Rattle.history_model.specs.Built.{built, fits_table, is_built, is_built_insert, is_without_constraint, may_stand, may_stand_in, takes_tuple}
+use Rattle.history_model.specs.Sound.{AreOfKinds, IsOfKind, IsRowOf, IsShort}
 use Rattle.transcript_model.proofs.ShortTexts.{AreShort, HasShortTexts}
 
--- a number and a text of at most TEXT_BYTES bytes
-pub record IsPair (tuple : Row) : Type 0 where
-  pub number : ℤ
-  pub bytes : List ℕ
-  pub short : length bytes ≤ TEXT_BYTES
-  pub is : tuple ≡ value.Int number ∷ value.Text bytes ∷ []
+-- a tuple may stand in the table of this name, where there is one
+abbrev pub FitsNamed : Schema → List ℕ → Row → Type 0
+FitsNamed schema name tuple = (table : TableDef) → slice_get schema.tables (number_of schema name) ≡ Some table → IsRowOf table tuple
 
--- a table for such tuples
-abbrev pub TakesPairs : TableDef → Type 0
-TakesPairs table = (tuple : Row) → IsPair tuple → IsRowOf table tuple
-
--- a CREATE of a table for such tuples, an INSERT of such tuples, or another statement
-abbrev pub IsSimple : Statement → Type 0
-IsSimple (statement.CreateTable table) = TakesPairs (definition_of table)
-IsSimple (statement.Insert table columns rows) = AllByRecursion IsPair rows
-IsSimple _ = Unit {0}
+-- an INSERT of tuples that may stand in their table, or another statement
+abbrev pub FitsTable : Schema → Statement → Type 0
+FitsTable schema (statement.Insert name columns tuples) = AllByRecursion (FitsNamed schema name) tuples
+FitsTable schema _ = Unit {0}
 
 left : (a b : Bool) → a && b ≡ true → a ≡ true
 left true b both = refl
@@ -48,43 +37,50 @@ right : (a b : Bool) → a && b ≡ true → b ≡ true
 right true b both = both
 right false b both = cc
 
-int-kind : (of : Kind) → is_int of ≡ true → of ≡ kind.Int
-int-kind kind.Int is = refl
-int-kind kind.Text is = cc
-int-kind kind.Sum is = cc
+of_kind : (of : Kind) (value : Value) → may_stand of value ≡ true → IsOfKind of value
+of_kind of value.Null is = tt
+of_kind kind.Int (value.Int number) is = refl
+of_kind kind.Int (value.Text bytes) is = cc
+of_kind kind.Int (value.Sum number) is = cc
+of_kind kind.Text (value.Int number) is = cc
+of_kind kind.Text (value.Text bytes) is = refl
+of_kind kind.Text (value.Sum number) is = cc
+of_kind kind.Sum (value.Int number) is = cc
+of_kind kind.Sum (value.Text bytes) is = cc
+of_kind kind.Sum (value.Sum number) is = refl
 
-text-kind : (of : Kind) → is_text of ≡ true → of ≡ kind.Text
-text-kind kind.Int is = cc
-text-kind kind.Text is = refl
-text-kind kind.Sum is = cc
+-- values that may stand in columns are of their kinds
+of_kinds : (columns : List Column) (values : List Value) → may_stand_in columns values ≡ true → AreOfKinds columns values
+of_kinds [] [] is = tt
+of_kinds [] (value ∷ values) is = cc
+of_kinds (column ∷ columns) [] is = cc
+of_kinds (column ∷ columns) (value ∷ values) is = (of_kind column.kind value (left _ _ is), of_kinds columns values (right _ _ is))
 
--- a table of two such columns takes pairs
-takes : (name : List ℕ) (subject : Bool) (key column : ColumnDef) (rest : List Part) → rest ≡ []
-    → key.kind ≡ kind.Int → column.kind ≡ kind.Text
-    → TakesPairs (definition_of (record { name = name; subject = subject; parts = part.Column key ∷ part.Column column ∷ rest }))
-unfolding definition_of
-takes name subject key column rest none int text tuple pair =
-    rw (pair.is, none) (record { kinds = (int, (text, tt)); short = (tt, (pair.short, tt)) })
+-- and there are as many
+pub length-of_kinds : (columns : List Column) (values : List Value) → AreOfKinds columns values → length values ≡ length columns
+length-of_kinds [] [] are = refl
+length-of_kinds [] (value ∷ values) are = absurd are
+length-of_kinds (column ∷ columns) [] are = absurd are
+length-of_kinds (column ∷ columns) (value ∷ values) are = let rest = length-of_kinds columns values are.1 in omega arith
 
-create_step : (create : CreateTable) (parts : List Part) → create.parts ≡ parts → are_two_columns parts ≡ true → TakesPairs (definition_of create)
-create_step create (part.Column key ∷ part.Column column ∷ []) is two =
-    let by : TakesPairs (definition_of (record { name = create.name; subject = create.subject; parts = part.Column key ∷ part.Column column ∷ [] })) =
-    takes create.name create.subject key column [] refl (int-kind key.kind (left _ _ (left _ _ (left _ _ (left _ _ two)))))
-    (text-kind column.kind (right _ _ (left _ _ (left _ _ two)))) in
-    let same : create ≡ record { name = create.name; subject = create.subject; parts = part.Column key ∷ part.Column column ∷ [] } =
-    (λ i. record { name = create.name; subject = create.subject; parts = is i }) in
-    rw same by
-create_step create _ is two = cc
+table_step : (schema : Schema) (number : ℕ) (tuple : Row) (found : Option TableDef) (table : TableDef) → AllByRecursion IsShort tuple
+    → option_map_or (takes_tuple schema number tuple) found true ≡ true → found ≡ Some table → IsRowOf table tuple
+table_step schema number tuple None table short takes is = cc
+table_step schema number tuple (Some other) table short takes is =
+    let same : other ≡ table = cc in
+    let fits : fits_table other tuple ≡ true = right (not (is_private schema number) && list_all is_without_constraint other.columns) (fits_table other tuple) takes in
+    record { kinds = rw (← same) (of_kinds other.columns tuple (left _ _ fits)); short = short }
 
-insert_step : (rows : List (List Value)) → AreShort rows → is_pair rows ≡ true → AllByRecursion IsPair rows
-insert_step ((value.Int number ∷ value.Text bytes ∷ []) ∷ []) short is = (record { number = number; bytes = bytes; short = short.0.1.0; is = refl }, tt)
-insert_step _ short is = cc
+insert_step : (schema : Schema) (name : List ℕ) (tuples : List (List Value)) → AreShort tuples → is_built_insert schema name tuples ≡ true
+    → AllByRecursion (FitsNamed schema name) tuples
+insert_step schema name (tuple ∷ []) short is = (λ table found. table_step schema (number_of schema name) tuple _ table short.0 is found, tt)
+insert_step schema name _ short is = cc
 
--- a statement that is built and can be read
-pub simple-built : (schema : Schema) (found : Statement) → HasShortTexts found → is_built schema found ≡ true → IsSimple found
-simple-built schema (statement.CreateTable create) short is = create_step create create.parts refl (right _ _ (left _ _ is))
-simple-built schema (statement.Insert table columns rows) short is = insert_step rows short (right _ _ is)
-simple-built schema _ short is = tt
+-- a statement that is built and can be read fits its table
+pub fits-built : (schema : Schema) (found : Statement) → HasShortTexts found → is_built schema found ≡ true → FitsTable schema found
+fits-built schema (statement.Insert name None tuples) short is = insert_step schema name tuples short is
+fits-built schema (statement.Insert name (Some columns) tuples) short is = cc
+fits-built schema _ short is = tt
 
 built_step : (schema : Schema) (session : ℕ) (found : Statement) → (b : Bool) → (session == 1 && is_built schema found) ≡ b
     → built schema session (Run found) ≡ Run found → is_built schema found ≡ true

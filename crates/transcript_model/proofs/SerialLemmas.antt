@@ -1,15 +1,20 @@
--- Every history of few entries is Serial.
+-- Every history of few entries and few bytes of texts is Serial.
 use Rattle.std.proofs.Common.{◌≡◌, ℕ, zero, suc, ◌+◌, ◌*◌, ◌≤◌, List, [], ◌∷◌, ◌++◌, length, map, fold, take, Bool, true, false, refl, ap, sym, subst, ◌∙◌, arith, append-nil}
 use Rattle.std.specs.Prelude.{Option, Some, None, Result, Ok, Err, slice_get, slice_set, sum_by, nat_lt, ◌==◌, ◌&&◌}
 use Rattle.std.specs.List.{AllByRecursion, list_any}
 use Rattle.std.proofs.lemmas.Bool.{lt-leb}
 use Rattle.std.proofs.lemmas.List.{length-append, length-map, length-take-le}
-use Rattle.std.proofs.lemmas.List.Sums.{sum_by_push}
-use Rattle.own_model.specs.declared.limit.TheConstants.{INPUT_CALLS, SESSIONS, STORE_ROWS, STORE_WEIGHT}
-use Rattle.own_base.specs.Row.{row_size}
+use Rattle.std.proofs.lemmas.List.Sums.{sum_by_push, sum_by-cons, sum_by-take-le}
+use Rattle.own_base.specs.Row.{row_size, value_size}
+use Rattle.own_base.specs.declared.row.TheConstants.{ROW_SIZE}
 use Rattle.own_base.specs.declared.value.Key.{Key}
+use Rattle.own_base.specs.declared.value.TheConstants.{VALUE_SIZE}
+use Rattle.own_base.specs.declared.value.Value.{Value}
+use Rattle.own_base.specs.declared.value.Value.TheVariants as value
 use Rattle.own_model.specs.declared.create.CreateTable.{CreateTable}
 use Rattle.own_model.specs.declared.history.Entry.{Entry}
+use Rattle.own_model.specs.declared.limit.TheConstants.{INPUT_BYTES, INPUT_CALLS, SESSIONS, STORE_ROWS, STORE_WEIGHT, TABLE_COLUMNS}
+use Rattle.own_model.specs.declared.refusal.Refusal.{Refusal}
 use Rattle.own_model.specs.declared.request.Request.{Request}
 use Rattle.own_model.specs.declared.request.Request.TheVariants.{Run, Syntax, Limit, End}
 use Rattle.own_model.specs.declared.schema.Schema.{Schema}
@@ -17,62 +22,95 @@ use Rattle.own_model.specs.declared.schema.TableDef.{TableDef}
 use Rattle.own_model.specs.declared.script.ScriptCall.{ScriptCall}
 use Rattle.own_model.specs.declared.statement.Statement.{Statement}
 use Rattle.own_model.specs.declared.statement.Statement.TheVariants as statement
+use Rattle.own_model.specs.Db.{Db, Row, Table, empty, key_of, table_from}
+use Rattle.own_model.specs.Stored.{has_key}
+use Rattle.own_model.specs.TextBytes.{asked_bytes, put_bytes, text_bytes, tuple_bytes}
+use Rattle.schema_model.specs.NewTable.{new_table}
+use Rattle.schema_model.specs.Tables.{number_of}
+use Rattle.schema_model.specs.WithTable.{with_table}
+use Rattle.schema_model.specs.WithinLimits.{IsTableWithin, IsWithinLimits}
 use Rattle.grammar_model.specs.Readable.{IsReadable}
 use Rattle.script_model.specs.Script.{HasCalls}
+use Rattle.script_model.proofs.InputCalls.{all-append, calls-few, calls-readable}
 use Rattle.history_model.specs.AreBuilt.{AreBuilt}
 use Rattle.history_model.specs.Built.{built, is_built}
-use Rattle.history_model.specs.Create.{create, definition_of}
-use Rattle.own_model.specs.Db.{Db, Row, Table, empty, key_of, table_from}
+use Rattle.history_model.specs.Create.{create}
+use Rattle.history_model.specs.Created.{IsCreated}
 use Rattle.history_model.specs.Fault.{fault, row_count, weight}
 use Rattle.history_model.specs.History.{History, World, flat, happens, left_by, world}
 use Rattle.history_model.specs.Made.{Called, Want, Spared, Unshown, Unmade, added, after_call, entry_of, made}
-use Rattle.transcript_model.specs.Transcript.{IsTranscript}
-use Rattle.history_model.specs.Run.{has_key, insert, put, run, with_row, with_tuple}
+use Rattle.history_model.specs.Run.{create_table, create_unless, insert, put, run, with_row, with_tuple}
 use Rattle.history_model.specs.Serial.{Serial}
 use Rattle.history_model.specs.Sound.{AreRowsOf, IsRowOf}
+use Rattle.history_model.proofs.CreatedLemmas.{created-empty, created-left_by, within-created}
 use Rattle.history_model.proofs.RisingKeys.{ordered-empty, ordered-flat}
-use Rattle.transcript_model.proofs.BuiltStatements.{IsPair, IsSimple, TakesPairs, is_built-of, simple-built}
+use Rattle.history_model.proofs.TableLemmas.{IsAt, all-with_row, found-at, length-with_row, number-found, rows-append, rows-at, rows-set, size-with_row, sum-set}
+use Rattle.transcript_model.specs.Transcript.{IsTranscript}
+use Rattle.transcript_model.proofs.BuiltStatements.{FitsNamed, FitsTable, fits-built, is_built-of, length-of_kinds}
 use Rattle.transcript_model.proofs.ShortTexts.{written-short}
-use Rattle.script_model.proofs.InputCalls.{all-append, calls-few, calls-readable}
-use Rattle.history_model.proofs.TableLemmas.{IsAt, all-with_row, found-at, length-with_row, rows-append, rows-at, rows-set, size-with_row, sum-set}
 
--- a number and a text take at most 4,224
-size-pair : (tuple : Row) → IsPair tuple → row_size tuple ≤ 4224
-size-pair tuple pair = let short = pair.short in rw (pair.is) (omega arith)
+-- the bytes of the texts that an entry puts into rows
+abbrev pub entry_bytes : Entry → ℕ
+entry_bytes entry = asked_bytes entry.request
 
--- A database of so few rows: each table takes pairs, and each row is one of its table's.
-record HasFew (db : Db) (most : ℕ) : Type 0 where
-  pairs : AllByRecursion TakesPairs db.schema.tables
+-- a value takes its size without text, and its bytes
+size_of : (value : Value) → value_size value ≡ VALUE_SIZE + text_bytes value
+size_of value.Null = omega arith
+size_of (value.Int number) = omega arith
+size_of (value.Sum number) = omega arith
+size_of (value.Text bytes) = refl
+
+size_of_all : (values : List Value) → sum_by value_size values ≡ VALUE_SIZE * length values + tuple_bytes values
+size_of_all [] = refl
+size_of_all (value ∷ values) =
+    let own = size_of value in
+    let rest = size_of_all values in
+    let sizes = sum_by-cons value_size value values in
+    let bytes = sum_by-cons text_bytes value values in
+    omega arith
+
+-- what a row takes at most without the bytes of its texts, in a table of as many columns as there may be
+abbrev row_most : ℕ
+row_most = ROW_SIZE + TABLE_COLUMNS * VALUE_SIZE
+
+size-row : (table : TableDef) (row : Row) → length table.columns ≤ TABLE_COLUMNS → IsRowOf table row → row_size row ≤ row_most + tuple_bytes row
+size-row table row few is =
+    let long = length-of_kinds table.columns row is.kinds in
+    let size = size_of_all row in
+    omega arith
+
+-- A database of so few rows that hold so few bytes of texts: each row is one of its table's.
+record HasFew (db : Db) (most bytes : ℕ) : Type 0 where
   rows : AreRowsOf db.schema.tables db.rows
   count : row_count db ≤ most
-  light : weight db ≤ 4224 * most
+  light : weight db ≤ row_most * most + bytes
 
-more : (db : Db) (most : ℕ) → HasFew db most → HasFew db (most + 1)
-more db most few = record { pairs = few.pairs; rows = few.rows; count = (let c = few.count in omega arith); light = (let w = few.light in omega arith) }
+more : (db : Db) (most bytes other : ℕ) → HasFew db most bytes → HasFew db (most + 1) (bytes + other)
+more db most bytes other few = record { rows = few.rows; count = (let c = few.count in omega arith); light = (let w = few.light in omega arith) }
+
+few_same : (db : Db) (most same bytes other : ℕ) → most ≡ same → bytes ≡ other → HasFew db most bytes → HasFew db same other
+few_same db most same bytes other most_is bytes_is few = rw (← most_is, ← bytes_is) few
 
 -- what holds of each table holds of one
-pairs-at : (tables : List TableDef) (place : ℕ) (table : TableDef) → AllByRecursion TakesPairs tables → slice_get tables place ≡ Some table → TakesPairs table
-pairs-at [] place table all is = cc
-pairs-at (first ∷ tables) zero table all is = let same : first ≡ table = cc in subst TakesPairs same all.0
-pairs-at (first ∷ tables) (suc place) table all is = pairs-at tables place table all.1 is
-
-pairs-append : (tables : List TableDef) (new : TableDef) → AllByRecursion TakesPairs tables → TakesPairs new → AllByRecursion TakesPairs (tables ++ new ∷ [])
-pairs-append [] new all takes = (takes, tt)
-pairs-append (table ∷ tables) new all takes = (all.0, pairs-append tables new all.1 takes)
+columns-at : (tables : List TableDef) (place : ℕ) (table : TableDef) → AllByRecursion IsTableWithin tables → slice_get tables place ≡ Some table
+    → length table.columns ≤ TABLE_COLUMNS
+columns-at [] place table all is = cc
+columns-at (first ∷ tables) zero table all is =
+    let same : first ≡ table = cc in let P : TableDef → Type 0 = λ t. length t.columns ≤ TABLE_COLUMNS in subst P same all.0.columns
+columns-at (first ∷ tables) (suc place) table all is = columns-at tables place table all.1 is
 
 -- a tuple more
-few-with_row : (db : Db) (tuple : Row) (table : Table) (place most : ℕ) → IsPair tuple → IsAt db.schema.tables db.rows table place → HasFew db most
-    → HasFew (record db { rows = slice_set db.rows place (with_row table.definition tuple table.rows) }) (most + 1)
-few-with_row db tuple table place most pair at few = record {
-  pairs = few.pairs;
+few-with_row : (db : Db) (tuple : Row) (table : Table) (place most bytes : ℕ) → length table.definition.columns ≤ TABLE_COLUMNS → IsRowOf table.definition tuple
+    → IsAt db.schema.tables db.rows table place → HasFew db most bytes
+    → HasFew (record db { rows = slice_set db.rows place (with_row table.definition tuple table.rows) }) (most + 1) (bytes + tuple_bytes tuple)
+few-with_row db tuple table place most bytes within fits at few = record {
   rows = rows-set db.schema.tables db.rows place table.definition (with_row table.definition tuple table.rows) few.rows at.has_definition
-      (all-with_row table.definition tuple (IsRowOf table.definition) table.rows
-      (pairs-at db.schema.tables place table.definition few.pairs at.has_definition tuple pair)
+      (all-with_row table.definition tuple (IsRowOf table.definition) table.rows fits
       (rows-at db.schema.tables db.rows place table.definition table.rows few.rows at.has_definition at.has_rows));
   count = (let longer = sum-set length db.rows place table.rows (with_row table.definition tuple table.rows) 1 at.has_rows
       (length-with_row table.definition tuple table.rows) in let c = few.count in omega arith);
   light = (let heavier = sum-set (sum_by row_size) db.rows place table.rows (with_row table.definition tuple table.rows) (row_size tuple) at.has_rows
-      (size-with_row table.definition tuple table.rows) in let w = few.light in let s = size-pair tuple pair in omega arith);
+      (size-with_row table.definition tuple table.rows) in let w = few.light in let s = size-row table.definition tuple within fits in omega arith);
 }
 
 -- rows with a tuple have it at its place
@@ -82,72 +120,83 @@ unfolding with_tuple
 tuple_step table rows tuple new true is by = let never : ◌≡◌ {A = Result (List Row) Key} (Err (key_of table tuple)) (Ok new) = rw is at by in cc
 tuple_step table rows tuple new false is by = let both : ◌≡◌ {A = Result (List Row) Key} (Ok (with_row table tuple rows)) (Ok new) = rw is at by in cc
 
-put_step : (db : Db) (name : List ℕ) (tuple : Row) (table : Table) (most : ℕ) → IsPair tuple → table_from 0 name db.schema.tables db.rows ≡ Some table → HasFew db most
-    → (r : Result (List Row) Key) → with_tuple table.definition table.rows tuple ≡ r → HasFew (put db name table.number r).db (most + 1)
-put_step db name tuple table most pair found few (Ok new) by =
+put_step : (db : Db) (name : List ℕ) (tuple : Row) (table : Table) (most bytes : ℕ) → IsWithinLimits db.schema → FitsNamed db.schema name tuple
+    → table_from 0 name db.schema.tables db.rows ≡ Some table → HasFew db most bytes → (r : Result (List Row) Key) → with_tuple table.definition table.rows tuple ≡ r
+    → HasFew (put db name table.number r).db (most + 1) (bytes + tuple_bytes tuple)
+put_step db name tuple table most bytes within fits found few (Ok new) by =
     let there = found-at 0 name db.schema.tables db.rows table found in
     let number : there.0 ≡ table.number = (let n = there.1 in omega arith) in
+    let named : number_of db.schema name ≡ there.0 = number-found db.schema db.rows name table found ∙ sym number in
     let same : with_row table.definition tuple table.rows ≡ new = tuple_step table.definition table.rows tuple new _ refl by in
-    rw (← same, ← number) (few-with_row db tuple table there.0 most pair there.2 few)
-put_step db name tuple table most pair found few (Err key) by = more db most few
+    let own : IsRowOf table.definition tuple = fits table.definition (rw named there.2.has_definition) in
+    rw (← same, ← number)
+    (few-with_row db tuple table there.0 most bytes (columns-at db.schema.tables there.0 table.definition within.each there.2.has_definition) own there.2 few)
+put_step db name tuple table most bytes within fits found few (Err key) by = more db most bytes _ few
 
-insert_step : (db : Db) (name : List ℕ) (tuple : Row) (most : ℕ) → IsPair tuple → HasFew db most → (found : Option Table) → table_from 0 name db.schema.tables db.rows ≡ found
-    → HasFew (insert db name tuple).db (most + 1)
+insert_step : (db : Db) (name : List ℕ) (tuple : Row) (most bytes : ℕ) → IsWithinLimits db.schema → FitsNamed db.schema name tuple → HasFew db most bytes
+    → (found : Option Table) → table_from 0 name db.schema.tables db.rows ≡ found → HasFew (insert db name tuple).db (most + 1) (bytes + tuple_bytes tuple)
 unfolding insert
-insert_step db name tuple most pair few None is = rw is (more db most few)
-insert_step db name tuple most pair few (Some table) is = rw is (put_step db name tuple table most pair is few _ refl)
+insert_step db name tuple most bytes within fits few None is = rw is (more db most bytes _ few)
+insert_step db name tuple most bytes within fits few (Some table) is = rw is (put_step db name tuple table most bytes within fits is few _ refl)
 
 -- a table more
-few-create : (db : Db) (most : ℕ) (table : CreateTable) → TakesPairs (definition_of table) → HasFew db most → HasFew (create db table) (most + 1)
-unfolding create
-few-create db most table takes few = record {
-  pairs = pairs-append db.schema.tables (definition_of table) few.pairs takes;
-  rows = rows-append db.schema.tables db.rows (definition_of table) few.rows;
+few-create : (db : Db) (most bytes : ℕ) (table : CreateTable) → HasFew db most bytes → HasFew (create db table) most bytes
+unfolding create with_table
+few-create db most bytes table few = record {
+  rows = rows-append db.schema.tables db.rows (new_table db.schema table) few.rows;
   count = (let same = sum_by_push length db.rows [] in let c = few.count in omega arith);
   light = (let same = sum_by_push (sum_by row_size) db.rows [] in let w = few.light in omega arith);
 }
 
--- a statement that is built adds one row at most
-few-run : (db : Db) (statement : Statement) (most : ℕ) → IsSimple statement → HasFew db most → HasFew (run db statement).db (most + 1)
-unfolding run
-few-run db (statement.CreateTable table) most simple few = few-create db most table simple few
-few-run db (statement.Insert table None (tuple ∷ [])) most simple few = insert_step db table tuple most simple.0 few _ refl
-few-run db _ most simple few = more db most few
+create_step : (db : Db) (most bytes : ℕ) (table : CreateTable) → HasFew db most bytes → (why : Option Refusal) → HasFew (create_unless db table why).db most bytes
+create_step db most bytes table few None = few-create db most bytes table few
+create_step db most bytes table few (Some why) = few
+
+-- a statement that is built adds one row at most, with the texts that it puts
+few-run : (db : Db) (statement : Statement) (most bytes : ℕ) → IsWithinLimits db.schema → FitsTable db.schema statement → HasFew db most bytes
+    → HasFew (run db statement).db (most + 1) (bytes + put_bytes statement)
+unfolding run create_table put_bytes
+few-run db (statement.CreateTable table) most bytes within fits few = more _ most bytes 0 (create_step db most bytes table few _)
+few-run db (statement.Insert table None (tuple ∷ [])) most bytes within fits few =
+    subst (HasFew (insert db table tuple).db (most + 1)) (let own = sum_by-cons tuple_bytes tuple [] in omega arith)
+    (insert_step db table tuple most bytes within fits.0 few _ refl)
+few-run db _ most bytes within fits few = more db most bytes _ few
 
 -- so does a request that can be read and is built
-few-left_by : (db : Db) (session : ℕ) (request : Request) (most : ℕ) → IsReadable request → built db.schema session request ≡ request → HasFew db most
-    → HasFew (left_by db request) (most + 1)
-unfolding left_by
-few-left_by db session (Run statement) most readable same few =
-    few-run db statement most (simple-built db.schema statement (written-short _ statement readable) (is_built-of db.schema session statement same)) few
-few-left_by db session (Syntax byte) most readable same few = more db most few
-few-left_by db session (Limit passed) most readable same few = more db most few
-few-left_by db session End most readable same few = more db most few
+few-left_by : (db : Db) (session : ℕ) (request : Request) (most bytes : ℕ) → IsReadable request → built db.schema session request ≡ request
+    → IsWithinLimits db.schema → HasFew db most bytes → HasFew (left_by db request) (most + 1) (bytes + asked_bytes request)
+unfolding left_by asked_bytes
+few-left_by db session (Run statement) most bytes readable same within few =
+    few-run db statement most bytes within (fits-built db.schema statement (written-short _ statement readable) (is_built-of db.schema session statement same)) few
+few-left_by db session (Syntax byte) most bytes readable same within few = more db most bytes _ few
+few-left_by db session (Limit passed) most bytes readable same within few = more db most bytes _ few
+few-left_by db session End most bytes readable same within few = more db most bytes _ few
 
 -- an entry of a request that can be read
 abbrev pub HasReadable : Entry → Type 0
 HasReadable entry = IsReadable entry.request
 
-few-fold : (before : World) (history : History) (most : ℕ) → AllByRecursion HasReadable history → AreBuilt before.flat history → HasFew before.flat most
-    → HasFew (fold happens before history).flat (most + length history)
-few-fold before [] most readable are_built few = subst (HasFew before.flat) (omega arith) few
-few-fold before (entry ∷ history) most readable are_built few =
-    let next = few-left_by before.flat entry.session.0 entry.request most readable.0 are_built.0 few in
-    let step = few-fold (happens before entry) history (most + 1) readable.1 are_built.1 next in
-    subst (HasFew (fold happens before (entry ∷ history)).flat) (omega arith) step
+few-fold : (before : World) (history : History) (most bytes : ℕ) → AllByRecursion HasReadable history → AreBuilt before.flat history → IsCreated before.flat
+    → HasFew before.flat most bytes → HasFew (fold happens before history).flat (most + length history) (bytes + sum_by entry_bytes history)
+few-fold before [] most bytes readable are_built created few = few_same before.flat most _ bytes _ (omega arith) (omega arith) few
+few-fold before (entry ∷ history) most bytes readable are_built created few =
+    let next = few-left_by before.flat entry.session.0 entry.request most bytes readable.0 are_built.0 (within-created before.flat created) few in
+    let step = few-fold (happens before entry) history (most + 1) (bytes + entry_bytes entry) readable.1 are_built.1 (created-left_by before.flat entry.request created) next in
+    let own = sum_by-cons entry_bytes entry history in
+    few_same _ _ _ _ _ (omega arith) (omega arith) step
 
-few-empty : HasFew empty 0
-few-empty = record { pairs = tt; rows = tt; count = omega arith; light = omega arith }
+few-empty : HasFew empty 0 0
+few-empty = record { rows = tt; count = omega arith; light = omega arith }
 
--- a history leaves at most a row for each entry
-few-flat : (history : History) → AllByRecursion HasReadable history → AreBuilt empty history → HasFew (flat empty history) (length history)
+-- a history leaves at most a row for each entry, and the bytes of the texts that they put
+few-flat : (history : History) → AllByRecursion HasReadable history → AreBuilt empty history → HasFew (flat empty history) (length history) (sum_by entry_bytes history)
 unfolding flat world
-few-flat history readable are_built = subst (HasFew (flat empty history)) (omega arith) (few-fold _ history 0 readable are_built few-empty)
+few-flat history readable are_built = few_same _ _ _ _ _ (omega arith) (omega arith) (few-fold _ history 0 0 readable are_built created-empty few-empty)
 
--- so few rows pass no limit
-faultless-few : (db : Db) (most : ℕ) → most ≤ INPUT_CALLS + SESSIONS → HasFew db most → fault db ≡ None
+-- so few rows and bytes pass no limit
+faultless-few : (db : Db) (most bytes : ℕ) → most ≤ INPUT_CALLS + SESSIONS → bytes ≤ INPUT_BYTES → HasFew db most bytes → fault db ≡ None
 unfolding fault
-faultless-few db most limit few =
+faultless-few db most bytes short small few =
     let rows : nat_lt STORE_ROWS (row_count db) ≡ false = (let c = few.count in lt-leb _ _ (omega arith)) in
     let light : nat_lt STORE_WEIGHT (weight db) ≡ false = (let w = few.light in lt-leb _ _ (omega arith)) in
     rw (rows, light) refl
@@ -163,36 +212,40 @@ built-take db history zero are_built = tt
 built-take db [] (suc n) are_built = tt
 built-take db (entry ∷ history) (suc n) are_built = (are_built.0, built-take (left_by db entry.request) history n are_built.1)
 
--- every history of so few entries that can be read and are built is Serial over the empty database
-pub serial-few : (history : History) → length history ≤ INPUT_CALLS + SESSIONS → AllByRecursion HasReadable history → AreBuilt empty history → Serial empty history
-serial-few history short readable are_built = record {
+-- every history of so few entries, with so few bytes of texts, that can be read and are built is Serial over the empty database
+pub serial-few : (history : History) → length history ≤ INPUT_CALLS + SESSIONS → sum_by (λ entry. asked_bytes entry.request) history ≤ INPUT_BYTES
+    → AllByRecursion HasReadable history → AreBuilt empty history → Serial empty history
+serial-few history short small readable are_built = record {
   sound = λ place within.
-      let few = few-flat (take place history) (all-take HasReadable history place readable) (built-take empty history place are_built) in
-      let long : length (take place history) ≡ place = length-take-le place history within in
+      let front = take place history in
+      let few = few-flat front (all-take HasReadable history place readable) (built-take empty history place are_built) in
+      let long : length front ≡ place = length-take-le place history within in
+      let light : sum_by entry_bytes front ≤ sum_by entry_bytes history = sum_by-take-le entry_bytes history place in
       record {
-        faultless = faultless-few (flat empty (take place history)) (length (take place history)) (omega arith) few;
-        ordered = ordered-flat empty (take place history) ordered-empty;
+        faultless = faultless-few (flat empty front) (length front) (sum_by entry_bytes front) (omega arith) (omega arith) few;
+        ordered = ordered-flat empty front ordered-empty;
         rows = few.rows;
       };
 }
 
--- a request that comes into the history can still be read, and is built
+-- a request that comes into the history can still be read, is built, and puts no more bytes of texts
 record Comes (schema : Schema) (session : ℕ) (request : Request) : Type 0 where
   readable : IsReadable (built schema session request)
   same : built schema session (built schema session request) ≡ built schema session request
+  small : asked_bytes (built schema session request) ≤ asked_bytes request
 
 comes_step : (schema : Schema) (session : ℕ) (statement : Statement) → IsReadable (Run statement) → (b : Bool) → (session == 1 && is_built schema statement) ≡ b
     → Comes schema session (Run statement)
-unfolding built
-comes_step schema session statement readable true is = record { readable = rw is readable; same = rw is (rw is refl) }
-comes_step schema session statement readable false is = record { readable = rw is tt; same = rw is refl }
+unfolding built asked_bytes
+comes_step schema session statement readable true is = record { readable = rw is readable; same = rw is (rw is refl); small = rw is (omega arith) }
+comes_step schema session statement readable false is = record { readable = rw is tt; same = rw is refl; small = rw is (omega arith) }
 
 comes : (schema : Schema) (session : ℕ) (request : Request) → IsReadable request → Comes schema session request
 unfolding built
 comes schema session (Run statement) readable = comes_step schema session statement readable _ refl
-comes schema session (Syntax byte) readable = record { readable = readable; same = refl }
-comes schema session (Limit passed) readable = record { readable = readable; same = refl }
-comes schema session End readable = record { readable = readable; same = refl }
+comes schema session (Syntax byte) readable = record { readable = readable; same = refl; small = omega arith }
+comes schema session (Limit passed) readable = record { readable = readable; same = refl; small = omega arith }
+comes schema session End readable = record { readable = readable; same = refl; small = omega arith }
 
 -- what holds of a list holds of a front
 all-front : {X Y : Type 0} (P : Y → Type 0) (f : X → Y) (xs : List X) (rest : List Y) → AllByRecursion P (map f xs ++ rest) → AllByRecursion (λ x. P (f x)) xs
@@ -206,9 +259,18 @@ AsksReadable call = IsReadable call.request
 abbrev CalledReadable : Called → Type 0
 CalledReadable called = AsksReadable called.call
 
--- what calls make of a history has an entry for each of them at most, all of which can be read and are built
-record IsMade (base : Db) (history : History) (most : ℕ) : Type 0 where
+-- the bytes of the texts that a call puts into rows
+abbrev pub call_bytes : ScriptCall → ℕ
+call_bytes call = asked_bytes call.request
+
+abbrev called_bytes : Called → ℕ
+called_bytes called = call_bytes called.call
+
+-- What calls make of a history has an entry for each of them at most, all of which can be read and are built, and no more
+-- bytes of texts.
+record IsMade (base : Db) (history : History) (most bytes : ℕ) : Type 0 where
   few : length history ≤ most
+  small : sum_by entry_bytes history ≤ bytes
   readable : AllByRecursion HasReadable history
   are_built : AreBuilt base history
 
@@ -218,55 +280,77 @@ built-last db before [] entry same are_built last = ((let P : Db → Type 0 = λ
 built-last db before (first ∷ history) entry same are_built last =
     (are_built.0, built-last (left_by db first.request) (happens before first) history entry (ap (λ d. left_by d first.request) same) are_built.1 last)
 
-made_one : (base : Db) (history : History) (call : ScriptCall) (most : ℕ) → AsksReadable call → IsMade base history most
-    → IsMade base (history ++ entry_of base history call ∷ []) (most + 1)
+made_one : (base : Db) (history : History) (call : ScriptCall) (most bytes : ℕ) → AsksReadable call → IsMade base history most bytes
+    → IsMade base (history ++ entry_of base history call ∷ []) (most + 1) (bytes + call_bytes call)
 unfolding flat world
-made_one base history call most readable is =
+made_one base history call most bytes readable is =
     let entry = entry_of base history call in
     let come = comes (flat base history).schema call.session.0 call.request readable in
     record {
       few = (let long = length-append history (entry ∷ []) in let few = is.few in omega arith);
+      small = (let sum = sum_by_push entry_bytes history entry in let small = is.small in let own = come.small in omega arith);
       readable = all-append HasReadable history (entry ∷ []) is.readable (come.readable, tt);
       are_built = built-last base _ history entry refl is.are_built come.same;
     }
 
-made_step : (base : Db) (history : History) (call : ScriptCall) (want : Want) (most : ℕ) → AsksReadable call → IsMade base history most
-    → IsMade base (history ++ added (entry_of base history call) want) (most + 1)
-made_step base history call Spared most readable is = made_one base history call most readable is
-made_step base history call Unshown most readable is = made_one base history call most readable is
-made_step base history call Unmade most readable is =
-    rw append-nil (record { few = (let few = is.few in omega arith); readable = is.readable; are_built = is.are_built })
+made_step : (base : Db) (history : History) (call : ScriptCall) (want : Want) (most bytes : ℕ) → AsksReadable call → IsMade base history most bytes
+    → IsMade base (history ++ added (entry_of base history call) want) (most + 1) (bytes + call_bytes call)
+made_step base history call Spared most bytes readable is = made_one base history call most bytes readable is
+made_step base history call Unshown most bytes readable is = made_one base history call most bytes readable is
+made_step base history call Unmade most bytes readable is = rw append-nil (record {
+  few = (let few = is.few in omega arith);
+  small = (let small = is.small in omega arith);
+  readable = is.readable;
+  are_built = is.are_built;
+})
 
-made_fold : (base : Db) (called : List Called) (history : History) (most : ℕ) → AllByRecursion CalledReadable called → IsMade base history most
-    → IsMade base (fold (after_call base) history called) (most + length called)
-made_fold base [] history most readable is = subst (IsMade base history) (omega arith) is
-made_fold base (first ∷ called) history most readable is =
-    let next = made_step base history first.call first.want most readable.0 is in
-    subst (IsMade base (fold (after_call base) history (first ∷ called))) (omega arith)
-    (made_fold base called (after_call base history first) (most + 1) readable.1 next)
+made_same : (base : Db) (history : History) (most same bytes other : ℕ) → most ≡ same → bytes ≡ other → IsMade base history most bytes → IsMade base history same other
+made_same base history most same bytes other most_is bytes_is is = rw (← most_is, ← bytes_is) is
+
+made_fold : (base : Db) (called : List Called) (history : History) (most bytes : ℕ) → AllByRecursion CalledReadable called → IsMade base history most bytes
+    → IsMade base (fold (after_call base) history called) (most + length called) (bytes + sum_by called_bytes called)
+made_fold base [] history most bytes readable is = made_same base history most _ bytes _ (omega arith) (omega arith) is
+made_fold base (first ∷ called) history most bytes readable is =
+    let next = made_step base history first.call first.want most bytes readable.0 is in
+    let sum = sum_by-cons called_bytes first called in
+    made_same base _ _ _ _ _ (omega arith) (omega arith) (made_fold base called (after_call base history first) (most + 1) (bytes + called_bytes first) readable.1 next)
 
 -- what calls make that can be read
-is_made : (base : Db) (called : List Called) → AllByRecursion CalledReadable called → IsMade base (made base called) (length called)
+is_made : (base : Db) (called : List Called) → AllByRecursion CalledReadable called → IsMade base (made base called) (length called) (sum_by called_bytes called)
 unfolding made
 is_made base called readable =
-    subst (IsMade base (made base called)) (omega arith) (made_fold base called [] 0 readable (record { few = omega arith; readable = tt; are_built = tt }))
+    made_same base _ _ _ _ _ (omega arith) (omega arith)
+    (made_fold base called [] 0 0 readable (record { few = omega arith; small = omega arith; readable = tt; are_built = tt }))
 
--- the history that the first calls of an input make over the empty database is Serial
-pub serial-made : (bytes : List ℕ) (calls : List ScriptCall) (called : List Called) → HasCalls bytes calls
+-- the first of some calls put no more bytes of texts than all of them
+small-front : (called : List Called) (rest : List ScriptCall) → sum_by called_bytes called ≤ sum_by call_bytes (map (λ (c : Called). c.call) called ++ rest)
+small-front [] rest = omega arith
+small-front (first ∷ called) rest =
+    let front = sum_by-cons called_bytes first called in
+    let whole = sum_by-cons call_bytes first.call (map (λ (c : Called). c.call) called ++ rest) in
+    let later = small-front called rest in
+    omega arith
+
+-- The history that the first calls of an input make over the empty database is Serial, where the texts that the calls put
+-- into rows have together no more bytes than an input may have.
+pub serial-made : (bytes : List ℕ) (calls : List ScriptCall) (called : List Called) → HasCalls bytes calls → sum_by (λ call. asked_bytes call.request) calls ≤ INPUT_BYTES
     → (rest : List ScriptCall) → map (λ (c : Called). c.call) called ++ rest ≡ calls → Serial empty (made empty called)
-serial-made bytes calls called has rest is =
+serial-made bytes calls called has small rest is =
     let readable : AllByRecursion CalledReadable called =
     all-front AsksReadable (λ (c : Called). c.call) called rest (subst (AllByRecursion AsksReadable) (sym is) (calls-readable bytes calls has)) in
     let history = is_made empty called readable in
     let appended = length-append (map (λ (c : Called). c.call) called) rest in
     let mapped = length-map called (λ (c : Called). c.call) in
     let long : length (map (λ (c : Called). c.call) called ++ rest) ≡ length calls = ap length is in
+    let sum : sum_by call_bytes (map (λ (c : Called). c.call) called ++ rest) ≡ sum_by call_bytes calls = ap (sum_by call_bytes) is in
+    let front = small-front called rest in
     let few = calls-few bytes calls has in
     let short = history.few in
-    serial-few (made empty called) (omega arith) history.readable history.are_built
+    let light = history.small in
+    serial-few (made empty called) (omega arith) (omega arith) history.readable history.are_built
 
--- the history of a run over the first calls of an input is Serial
+-- the history of a run over the first calls of such an input is Serial
 pub serial-ran : (bytes : List ℕ) (calls front rest : List ScriptCall) (history : History) (text : List ℕ) → HasCalls bytes calls
-    → front ++ rest ≡ calls → IsTranscript empty front history text → Serial empty history
-serial-ran bytes calls front rest history text has is ran =
-    subst (Serial empty) (sym ran.history_is) (serial-made bytes calls ran.called has rest (ap (λ calls. calls ++ rest) ran.calls_are ∙ is))
+    → sum_by (λ call. asked_bytes call.request) calls ≤ INPUT_BYTES → front ++ rest ≡ calls → IsTranscript empty front history text → Serial empty history
+serial-ran bytes calls front rest history text has small is ran =
+    subst (Serial empty) (sym ran.history_is) (serial-made bytes calls ran.called has small rest (ap (λ calls. calls ++ rest) ran.calls_are ∙ is))

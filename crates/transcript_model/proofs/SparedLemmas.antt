@@ -6,7 +6,7 @@ use Rattle.std.proofs.lemmas.List.{length-append, length-map}
 use Rattle.own_model.specs.declared.history.Entry.{Entry}
 use Rattle.own_model.specs.declared.refusal.Refusal.TheVariants.{Memory}
 use Rattle.own_model.specs.declared.reply.Reply.{Reply}
-use Rattle.own_model.specs.declared.reply.Reply.TheVariants.{Refused, Rows}
+use Rattle.own_model.specs.declared.reply.Reply.TheVariants.{Graph, Refused, Rows}
 use Rattle.own_model.specs.declared.script.ScriptCall.{ScriptCall}
 use Rattle.own_model.specs.Db.{Db}
 use Rattle.history_model.specs.History.{History, reply}
@@ -54,19 +54,24 @@ tells-rest front rest tells = record {
       ∙ sym (append_assoc front tells.before (reply_lines (Some tells.place) tells.session tells.call (Refused Memory) ++ tells.after));
 }
 
--- what is told of a reply is the reply, where it isn't told as memory
-told-same : (place session call : ℕ) (want : Want) (reply : Reply) → (TellsMemory (reply_lines (Some place) session call (told want reply)) → ⊥)
-    → reply_lines (Some place) session call (told want reply) ≡ reply_lines (Some place) session call reply
-told-same place session call Spared reply none = refl
-told-same place session call Unmade reply none = refl
-told-same place session call Unshown (Rows rows) none = absurd (none (record {
+-- a call's line that tells it as memory tells of memory
+tells-memory : (place session call : ℕ) → TellsMemory (reply_lines (Some place) session call (Refused Memory))
+tells-memory place session call = record {
   before = [];
   place = place;
   session = session;
   call = call;
   after = [];
   is = sym (append-nil (reply_lines (Some place) session call (Refused Memory)));
-}))
+}
+
+-- what is told of a reply is the reply, where it isn't told as memory
+told-same : (place session call : ℕ) (want : Want) (reply : Reply) → (TellsMemory (reply_lines (Some place) session call (told want reply)) → ⊥)
+    → reply_lines (Some place) session call (told want reply) ≡ reply_lines (Some place) session call reply
+told-same place session call Spared reply none = refl
+told-same place session call Unmade reply none = refl
+told-same place session call Unshown (Rows rows) none = absurd (none (tells-memory place session call))
+told-same place session call Unshown (Graph lines) none = absurd (none (tells-memory place session call))
 told-same place session call Unshown _ none = refl
 
 found-same : (place session call : ℕ) (want : Want) (found : Option Reply)

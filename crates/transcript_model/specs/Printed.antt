@@ -5,7 +5,7 @@ use Rattle.std.specs.Option.{option_map_or}
 use Rattle.own_model.specs.declared.history.Entry.{Entry}
 use Rattle.own_model.specs.declared.refusal.Refusal.TheVariants.{Memory}
 use Rattle.own_model.specs.declared.reply.Reply.{Reply}
-use Rattle.own_model.specs.declared.reply.Reply.TheVariants.{Rows, Refused}
+use Rattle.own_model.specs.declared.reply.Reply.TheVariants.{Rows, Graph, Refused}
 use Rattle.own_model.specs.declared.script.ScriptCall.{ScriptCall}
 use Rattle.own_model.specs.Db.{Db}
 use Rattle.text_model.specs.Lines.{reply_lines}
@@ -25,9 +25,10 @@ place_from place call (entry ∷ history) = if is_of call entry then Some place 
 abbrev pub place_of : History → ScriptCall → Option ℕ
 place_of history call = place_from 0 call history
 
--- what is told of a reply: `memory` may stand in the place of rows
+-- what is told of a reply: `memory` may stand in the place of what was read, rows or the lines of EXPLAIN COMPLIANCE
 abbrev pub told : Want → Reply → Reply
 told Unshown (Rows rows) = Refused Memory
+told Unshown (Graph lines) = Refused Memory
 told Unshown reply = reply
 told Spared reply = reply
 told Unmade reply = reply
@@ -52,6 +53,6 @@ unfoldable pub lines_of : Db → History → Called → List ℕ
 lines_of base history called = lines_at base history called (place_of history called.call)
 
 -- The text of calls, in their order: a call that the history has gives the lines of its reply there; one that it
--- doesn't have, or rows for which there was no memory, give `memory`.
+-- doesn't have gives `memory`, and so may one that shows what it read, where there was no memory for that.
 unfoldable pub printed : Db → History → List Called → List ℕ
 printed base history calls = flat_map (lines_of base history) calls

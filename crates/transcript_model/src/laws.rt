@@ -1,10 +1,11 @@
 //! Laws of the definitions in `specs/`: each function does nothing, and what it ensures holds of every database,
 //! history and list of calls.
-ghost use Rattle.std.specs.Prelude.{◌≡◌, ℕ, ◌+◌, ◌≤◌, List, ◌++◌, length};
+ghost use Rattle.std.specs.Prelude.{◌≡◌, ℕ, ◌+◌, ◌≤◌, List, ◌++◌, length, sum_by};
 ghost use Rattle.std.specs.List.{AllByRecursion};
-ghost use Rattle.own_model.specs.declared.limit.TheConstants.{INPUT_CALLS, SESSIONS};
+ghost use Rattle.own_model.specs.declared.limit.TheConstants.{INPUT_BYTES, INPUT_CALLS, SESSIONS};
 ghost use Rattle.own_model.specs.declared.script.ScriptCall.{ScriptCall};
 ghost use Rattle.own_model.specs.Db.{Db, empty};
+ghost use Rattle.own_model.specs.TextBytes.{asked_bytes};
 ghost use Rattle.grammar_model.specs.Readable.{IsReadable};
 ghost use Rattle.history_model.specs.AreBuilt.{AreBuilt};
 ghost use Rattle.history_model.specs.History.{History};
@@ -15,10 +16,12 @@ ghost use Rattle.transcript_model.specs.TellsMemory.{TellsMemory};
 ghost use Rattle.transcript_model.specs.Transcript.{IsSpared, IsTranscript, spared};
 
 /// Over the empty database a history of requests that can be read and are built passes no limit at any place, where it has
-/// at most one for each call that an input may have, and one for the end of each session; keys rise there, and rows have
-/// their tables' lengths and kinds.
+/// at most one for each call that an input may have, and one for the end of each session, and where the texts that they put
+/// into rows have together no more bytes than an input may have; keys rise there, and rows have their tables' lengths and
+/// kinds.
 pub fn short_readable_history_is_serial()
     ensures { (history : History) → length history ≤ INPUT_CALLS + SESSIONS
+        → sum_by (λ entry. asked_bytes entry.request) history ≤ INPUT_BYTES
         → AllByRecursion (λ entry. IsReadable entry.request) history → AreBuilt empty history → Serial empty history }
 {}
 
