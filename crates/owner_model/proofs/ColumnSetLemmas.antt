@@ -82,12 +82,12 @@ bit-tells : (b : Bool) (bit : ℕ) → bit ≡ cond b 1 0 → (bit == 1) ≡ b
 bit-tells true bit e = eq-eqb bit 1 e
 bit-tells false bit e = ne_eqb bit 1 (λ one. omega arith)
 
--- a set of columns that pass has a column where that column passes
+-- the set of the columns that pass has a column of a table exactly where that column passes
 pub has_column-set_of : (passes : ℕ → Bool) (column : ℕ) → column < 32 → has_column (set_of passes) column ≡ passes column
 unfolding set_of
 has_column-set_of passes column within = bit-tells (passes column) (bit_at (sum_below passes 32) column) (bit_at-sum_below passes 32 column within)
 
--- its number
+-- its number is one of 32 bits
 pub set_of-lt : (passes : ℕ → Bool) → (set_of passes).0 < 2 ^ 32
 unfolding set_of
 set_of-lt passes = sum_below-lt passes 32
@@ -96,7 +96,7 @@ set_of-lt passes = sum_below-lt passes 32
 pub has_column-above : (set : ColumnSet) (column : ℕ) → set.0 < 2 ^ 32 → 32 ≤ column → has_column set column ≡ false
 has_column-above set column small above = ap (λ bit. bit == 1) (bit_at_above set.0 32 column small above)
 
--- nor has a set of columns that pass
+-- nor has the set of the columns that pass
 pub has_column-set_of_above : (passes : ℕ → Bool) (column : ℕ) → 32 ≤ column → has_column (set_of passes) column ≡ false
 has_column-set_of_above passes column above = has_column-above (set_of passes) column (set_of-lt passes) above
 
@@ -120,10 +120,11 @@ pub set_of-same : (one other : ℕ → Bool) → ((column : ℕ) → column < 32
 set_of-same one other same =
     set_of-from_columns (set_of one) other (set_of-lt one) (λ column within. has_column-set_of one column within ∙ same column within)
 
--- the test of the lesser of two bits, and that of the greater
+-- the lesser of two bits is 1 where both are
 bit-min : (one other : ℕ) → one < 2 → other < 2 → (min one other == 1) ≡ ((one == 1) && (other == 1))
 bit-min one other small_one small_other = grind arith
 
+-- the greater of two bits is 1 where one of them is
 bit-max : (one other : ℕ) → one < 2 → other < 2 → (max one other == 1) ≡ ((one == 1) || (other == 1))
 bit-max one other small_one small_other = grind arith
 
@@ -179,18 +180,18 @@ has_column-one column other =
       | inr differs ↦ ap (λ bit. bit == 1) (bit_at-pow_other column other differs) ∙ sym (ne_eqb other column differs)
     ]
 
--- `|` with the power of a column leaves every other column as it was
+-- `|` with the power of a column adds that column and leaves every other as it was
 pub has_column-add : (set column other : ℕ) → has_column (record { 0 = bit_or set (2 ^ column) }) other ≡ (has_column (record { 0 = set }) other || (other == column))
 has_column-add set column other =
     has_column-or set (2 ^ column) other ∙ ap (λ has. has_column (record { 0 = set }) other || has) (has_column-one column other)
 
--- and adds that column to a set of columns that pass
+-- the same, of a set of columns that pass
 pub set_of-add : (had : ℕ → Bool) (column : ℕ) → column < 32 → record { 0 = bit_or (set_of had).0 (2 ^ column) } ≡ set_of (λ other. had other || (other == column))
 set_of-add had column within =
     let whole = bit_or (set_of had).0 (2 ^ column) in
     set_of-from_columns (record { 0 = whole }) (λ other. had other || (other == column)) (or_lt 32 (set_of had).0 (2 ^ column) (set_of-lt had) (pow_below column 32 within)) (λ other at.
     has_column-add (set_of had).0 column other ∙ ap (λ has. has || (other == column)) (has_column-set_of had other at))
 
--- the same, with the power as `1 << column` computes it
+-- that, with the power as `1 << column` computes it
 pub set_of-add_shl : (had : ℕ → Bool) (column : ℕ) → column < 32 → record { 0 = bit_or (set_of had).0 (1 * 2 ^ column % 2 ^ 32) } ≡ set_of (λ other. had other || (other == column))
 set_of-add_shl had column within = ap (λ power. record { 0 = bit_or (set_of had).0 power }) (one_shl column 32 within) ∙ set_of-add had column within

@@ -1,0 +1,2 @@
+mod SetsOverLists
+mod RuledEdges

@@ -1,0 +1,15 @@
+pub mod BoundStatement
+pub mod BoundView
+pub mod ConditionFaults
+pub mod Expression
+pub mod Footprints
+pub mod Kinds
+pub mod Order
+pub mod Query
+pub mod Refused
+pub mod Scope
+pub mod SelectFaults
+pub mod SelectMeaning
+pub mod Truth
+pub mod WriteFaults
+pub mod WriteMeaning
