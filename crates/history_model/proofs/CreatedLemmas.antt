@@ -15,11 +15,13 @@ use Rattle.own_model.specs.declared.statement.Statement.TheVariants as statement
 use Rattle.own_model.specs.Db.{Db, Row, Table, empty, table_of}
 use Rattle.own_model.specs.Stored.{holds_rows}
 use Rattle.schema_model.specs.Kinds.{is_owns}
+use Rattle.schema_model.specs.OwnerSchema.{IsOwnerSchema}
 use Rattle.schema_model.specs.References.{Reference, references_of}
 use Rattle.schema_model.specs.Refusal.{broken, closed, first_broken, owned_rows, past_limits, refusal_of, taken}
 use Rattle.schema_model.specs.WithTable.{with_table}
 use Rattle.schema_model.specs.WithinLimits.{IsWithinLimits}
 use Rattle.schema_model.proofs.LimitLemmas.{within_limits-empty, within_limits-with_table}
+use Rattle.schema_model.proofs.OwnerSchemaLemmas.{owner_schema-empty, owner_schema-with_table}
 use Rattle.history_model.specs.Create.{create, kept_text}
 use Rattle.history_model.specs.Created.{AreAdmitted, IsCreated, without_rows}
 use Rattle.history_model.specs.History.{History, World, flat, happens, left_by, world}
@@ -130,3 +132,7 @@ module _ (P : Schema → Type 0) (kept : (schema : Schema) (create : CreateTable
 -- the schema of a database that its creates give is within the limits
 pub within-created : (db : Db) → IsCreated db → IsWithinLimits db.schema
 within-created = kept-created IsWithinLimits (λ schema create within admitted. within_limits-with_table schema without_rows create within admitted) within_limits-empty
+
+-- and its edges are an ownership graph
+pub owner_schema-created : (db : Db) → IsCreated db → IsOwnerSchema db.schema
+owner_schema-created = kept-created IsOwnerSchema (λ schema create owner admitted. owner_schema-with_table schema without_rows create owner admitted) owner_schema-empty

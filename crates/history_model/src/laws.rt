@@ -4,6 +4,7 @@ ghost use Rattle.std.specs.Prelude.{◌≡◌, ℕ, ◌+◌, ◌<◌, List, ◌+
 ghost use Rattle.own_model.specs.declared.refusal.Refusal.{Refusal};
 ghost use Rattle.own_model.specs.declared.reply.Reply.TheVariants.{Refused};
 ghost use Rattle.own_model.specs.Db.{Db, IsOrdered, empty};
+ghost use Rattle.schema_model.specs.OwnerSchema.{IsOwnerSchema};
 ghost use Rattle.schema_model.specs.WithinLimits.{IsWithinLimits};
 ghost use Rattle.history_model.specs.Created.{IsCreated};
 ghost use Rattle.history_model.specs.History.{History, flat, reply};
@@ -40,7 +41,8 @@ pub fn schema_is_that_of_admitted_creates()
     ensures at_first { IsCreated empty }
 {}
 
-/// The schema that admitted creates give is within the limits.
+/// The edges of the schema that admitted creates give are an ownership graph, and it is within the limits.
 pub fn created_schema_is_an_owner_schema()
+    ensures owner { (db : Db) → IsCreated db → IsOwnerSchema db.schema }
     ensures within { (db : Db) → IsCreated db → IsWithinLimits db.schema }
 {}
