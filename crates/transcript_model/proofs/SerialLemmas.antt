@@ -32,6 +32,7 @@ use Rattle.schema_model.specs.WithinLimits.{IsTableWithin, IsWithinLimits}
 use Rattle.grammar_model.specs.Readable.{IsReadable}
 use Rattle.script_model.specs.Script.{HasCalls}
 use Rattle.script_model.proofs.InputCalls.{all-append, calls-few, calls-readable}
+use Rattle.script_model.proofs.TextBytes.{calls-bytes}
 use Rattle.history_model.specs.AreBuilt.{AreBuilt}
 use Rattle.history_model.specs.Built.{built, is_built}
 use Rattle.history_model.specs.Create.{create}
@@ -331,11 +332,14 @@ small-front (first ∷ called) rest =
     let later = small-front called rest in
     omega arith
 
--- The history that the first calls of an input make over the empty database is Serial, where the texts that the calls put
--- into rows have together no more bytes than an input may have.
-pub serial-made : (bytes : List ℕ) (calls : List ScriptCall) (called : List Called) → HasCalls bytes calls → sum_by (λ call. asked_bytes call.request) calls ≤ INPUT_BYTES
+-- the calls of an input put no more bytes of texts than an input may have
+calls-small : (bytes : List ℕ) (calls : List ScriptCall) → HasCalls bytes calls → sum_by call_bytes calls ≤ INPUT_BYTES
+calls-small bytes calls has = let small = calls-bytes bytes calls has in let short = has.lawful.text.short in omega arith
+
+-- the history that the first calls of an input make over the empty database is Serial
+pub serial-made : (bytes : List ℕ) (calls : List ScriptCall) (called : List Called) → HasCalls bytes calls
     → (rest : List ScriptCall) → map (λ (c : Called). c.call) called ++ rest ≡ calls → Serial empty (made empty called)
-serial-made bytes calls called has small rest is =
+serial-made bytes calls called has rest is =
     let readable : AllByRecursion CalledReadable called =
     all-front AsksReadable (λ (c : Called). c.call) called rest (subst (AllByRecursion AsksReadable) (sym is) (calls-readable bytes calls has)) in
     let history = is_made empty called readable in
@@ -345,12 +349,13 @@ serial-made bytes calls called has small rest is =
     let sum : sum_by call_bytes (map (λ (c : Called). c.call) called ++ rest) ≡ sum_by call_bytes calls = ap (sum_by call_bytes) is in
     let front = small-front called rest in
     let few = calls-few bytes calls has in
+    let small = calls-small bytes calls has in
     let short = history.few in
     let light = history.small in
     serial-few (made empty called) (omega arith) (omega arith) history.readable history.are_built
 
--- the history of a run over the first calls of such an input is Serial
+-- the history of a run over the first calls of an input is Serial
 pub serial-ran : (bytes : List ℕ) (calls front rest : List ScriptCall) (history : History) (text : List ℕ) → HasCalls bytes calls
-    → sum_by (λ call. asked_bytes call.request) calls ≤ INPUT_BYTES → front ++ rest ≡ calls → IsTranscript empty front history text → Serial empty history
-serial-ran bytes calls front rest history text has small is ran =
-    subst (Serial empty) (sym ran.history_is) (serial-made bytes calls ran.called has small rest (ap (λ calls. calls ++ rest) ran.calls_are ∙ is))
+    → front ++ rest ≡ calls → IsTranscript empty front history text → Serial empty history
+serial-ran bytes calls front rest history text has is ran =
+    subst (Serial empty) (sym ran.history_is) (serial-made bytes calls ran.called has rest (ap (λ calls. calls ++ rest) ran.calls_are ∙ is))
