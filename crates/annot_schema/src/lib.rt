@@ -1,0 +1,14 @@
+//! The catalog of a store: its schema and the texts of its creates, what EXPLAIN COMPLIANCE shows of it, and which CREATE
+//! TABLE it admits.
+#![tactic(auto)]
+
+mod admitted;
+mod column_set;
+mod explain;
+mod fault;
+mod line;
+mod look_up;
+
+pub use admitted::Admitted;
+pub use explain::explained;
+pub use fault::SchemaFault;
