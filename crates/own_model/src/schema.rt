@@ -1,5 +1,6 @@
 use crate::bound::BoundSelect;
-use own_base::{ColNo, ColumnSet, EdgeNo, List, Name, TableNo, Text};
+use own_base::{ColNo, ColumnSet, EdgeNo, List, MakeCopy, Name, TableNo, Text};
+use std::alloc::{AllocError, Global};
 
 /// What a column's values are. `Sum` is the kind of a sum in a view or a reply.
 #[derive(Clone, Copy, Debug, PartialEq, Eq)]
@@ -79,4 +80,90 @@ pub struct Schema {
 pub struct CreateText {
     pub view: bool,
     pub text: Text,
+}
+
+impl MakeCopy for Kind {
+    fn copy(&self, _alloc: Global) -> Result<Kind, AllocError> {
+        Ok(*self)
+    }
+}
+
+impl MakeCopy for Column {
+    fn copy(&self, alloc: Global) -> Result<Column, AllocError> {
+        let name = self.name.copy(alloc)?;
+        Ok(Column {
+            name,
+            kind: self.kind,
+            not_null: self.not_null,
+            unique: self.unique,
+            refers: self.refers,
+        })
+    }
+}
+
+impl MakeCopy for TableDef {
+    fn copy(&self, alloc: Global) -> Result<TableDef, AllocError> {
+        let name = self.name.copy(alloc)?;
+        let columns = self.columns.copy(alloc)?;
+        Ok(TableDef {
+            name,
+            subject: self.subject,
+            key: self.key,
+            columns,
+        })
+    }
+}
+
+impl MakeCopy for ViewDef {
+    fn copy(&self, alloc: Global) -> Result<ViewDef, AllocError> {
+        let name = self.name.copy(alloc)?;
+        let query = self.query.copy(alloc)?;
+        let names = self.names.copy(alloc)?;
+        let kinds = self.kinds.copy(alloc)?;
+        Ok(ViewDef {
+            name,
+            query,
+            names,
+            kinds,
+        })
+    }
+}
+
+impl MakeCopy for Edge {
+    fn copy(&self, _alloc: Global) -> Result<Edge, AllocError> {
+        Ok(Edge {
+            number: self.number,
+            lower: self.lower,
+            upper: self.upper,
+            holder: self.holder,
+            column: self.column,
+            owner: self.owner,
+            get: self.get,
+            del: self.del,
+            strike: self.strike,
+        })
+    }
+}
+
+impl MakeCopy for Schema {
+    fn copy(&self, alloc: Global) -> Result<Schema, AllocError> {
+        let tables = self.tables.copy(alloc)?;
+        let views = self.views.copy(alloc)?;
+        let edges = self.edges.copy(alloc)?;
+        Ok(Schema {
+            tables,
+            views,
+            edges,
+        })
+    }
+}
+
+impl MakeCopy for CreateText {
+    fn copy(&self, alloc: Global) -> Result<CreateText, AllocError> {
+        let text = self.text.copy(alloc)?;
+        Ok(CreateText {
+            view: self.view,
+            text,
+        })
+    }
 }
