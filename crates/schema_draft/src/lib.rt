@@ -1,0 +1,12 @@
+//! A CREATE TABLE taken apart once, and the table and the edges that it adds.
+#![tactic(auto)]
+
+mod draft;
+mod kinds;
+mod name;
+mod part;
+
+pub use draft::{Draft, Effect, OnRule, Reference};
+pub use kinds::{
+    gives_edge, gives_ownership, is_downward, is_owned_by, is_owns, is_same_kind, is_upward,
+};
