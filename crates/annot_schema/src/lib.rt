@@ -6,8 +6,10 @@ mod admitted;
 mod column_set;
 mod explain;
 mod fault;
+mod limits;
 mod line;
 mod look_up;
+mod rows;
 
 pub use admitted::Admitted;
 pub use explain::explained;
