@@ -4,9 +4,12 @@
 mod draft;
 mod kinds;
 mod name;
+mod names;
 mod part;
 
 pub use draft::{Draft, Effect, OnRule, Reference};
 pub use kinds::{
     gives_edge, gives_ownership, is_downward, is_owned_by, is_owns, is_same_kind, is_upward,
 };
+pub use name::is_same_name;
+pub use names::{Named, Names};
