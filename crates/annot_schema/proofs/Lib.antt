@@ -1,1 +1,2 @@
-mod RuleNames
+pub mod RuleNames
+pub mod SoundSchemas

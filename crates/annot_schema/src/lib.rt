@@ -3,6 +3,7 @@
 #![tactic(auto)]
 
 mod admitted;
+mod catalog;
 mod column_set;
 mod explain;
 mod fault;
@@ -12,5 +13,6 @@ mod look_up;
 mod rows;
 
 pub use admitted::Admitted;
+pub use catalog::Catalog;
 pub use explain::explained;
 pub use fault::SchemaFault;
