@@ -7,6 +7,7 @@ mod name;
 mod named_table;
 mod names;
 mod part;
+mod ruled;
 mod table;
 
 pub use draft::{Draft, Effect, OnRule, Reference};
