@@ -1,2 +1,4 @@
 pub mod Lookups
 pub mod NameLookups
+pub mod Targets
+pub mod RuledSets
