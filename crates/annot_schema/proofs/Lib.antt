@@ -1,2 +1,3 @@
+pub mod OwnedRows
 pub mod RuleNames
 pub mod SoundSchemas

@@ -1,3 +1,4 @@
 pub mod Created
 pub mod Fault
+pub mod OwnedTables
 pub mod Told
