@@ -2,3 +2,4 @@ pub mod Created
 pub mod Fault
 pub mod OwnedTables
 pub mod Told
+pub mod Walks

@@ -11,6 +11,7 @@ mod limits;
 mod line;
 mod look_up;
 mod rows;
+mod walks;
 
 pub use admitted::Admitted;
 pub use catalog::Catalog;
