@@ -1,3 +1,4 @@
+pub mod EdgeLists
 pub mod Lookups
 pub mod NameLookups
 pub mod Targets

@@ -2,6 +2,7 @@
 #![tactic(auto)]
 
 mod draft;
+mod edges;
 mod kinds;
 mod name;
 mod named_table;
@@ -11,6 +12,7 @@ mod ruled;
 mod table;
 
 pub use draft::{Draft, Effect, OnRule, Reference};
+pub use edges::new_edges;
 pub use kinds::{
     gives_edge, gives_ownership, is_downward, is_owned_by, is_owns, is_same_kind, is_upward,
 };
