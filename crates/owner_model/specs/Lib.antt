@@ -1,3 +1,4 @@
+pub mod AreWithin
 pub mod ColumnSets
 pub mod Cycle
 pub mod GraphOrder

@@ -1,0 +1,6 @@
+pub mod CountLemmas
+pub mod CycleLemmas
+pub mod LeadsLemmas
+pub mod OrderLemmas
+pub mod RangeLemmas
+pub mod WalkLemmas
