@@ -9,22 +9,10 @@ use Rattle.own_base.specs.declared.number.TableNo.{TableNo}
 use Rattle.own_model.specs.declared.schema.Edge.{Edge}
 use Rattle.owner_model.specs.Cycle.{cycle_of}
 use Rattle.owner_model.specs.GraphOrder.{IsGraphOrder, StandsBefore}
+use Rattle.owner_model.specs.Placed.{EachAtOnePlace, IsPlaced, IsUpward}
 use Rattle.owner_model.specs.Walk.{IsWalk, Leads}
 use Rattle.owner_model.proofs.CountLemmas.{count_by-two, count_in_range}
 use Rattle.owner_model.proofs.CycleLemmas.{cycle_of-none}
-
--- a table stands somewhere in the list
-pub record IsPlaced (order : List TableNo) (table : TableNo) : Type 0 where
-  pub place : ℕ
-  pub at_place : slice_get order place ≡ Some table
-
--- no table stands at two places
-pub record EachAtOnePlace (order : List TableNo) : Type 0 where
-  pub same_place : (table : TableNo) (one two : ℕ) → slice_get order one ≡ Some table → slice_get order two ≡ Some table → one ≡ two
-
--- each edge from a table of the list leads to one that stands earlier
-pub record IsUpward (edges : List Edge) (order : List TableNo) : Type 0 where
-  pub earlier : (edge : Edge) → Contains edges edge → IsPlaced order edge.lower → StandsBefore order edge.upper edge.lower
 
 module _ (edges : List Edge) (order : List TableNo) (once : EachAtOnePlace order) (upward : IsUpward edges order) where
   -- what stands before a table that stands before another does so too

@@ -4,5 +4,6 @@ pub mod Cycle
 pub mod GraphOrder
 pub mod Joins
 pub mod Leads
+pub mod Placed
 pub mod RuledColumns
 pub mod Walk

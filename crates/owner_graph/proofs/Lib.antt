@@ -1,0 +1,5 @@
+pub mod EndsLemmas
+pub mod PlacedLemmas
+pub mod PlacingLemmas
+pub mod SettlingLemmas
+pub mod WaitingLemmas
