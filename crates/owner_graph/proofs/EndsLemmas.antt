@@ -1,8 +1,8 @@
 -- Edges by a table that each has.
-use Rattle.std.proofs.Common.{◌≡◌, ℕ, ◌+◌, ◌<◌, ◌≤◌, List, [], ◌∷◌, ◌++◌, Bool, true, false, refl, sym, ap, ◌∙◌, inl, inr, arith, cond, length, get_or, set, take, eq-eqb}
-use Rattle.std.specs.Prelude.{◌==◌, Contains, filter}
-use Rattle.std.specs.List.{range_with_len}
-use Rattle.std.proofs.lemmas.Bool.{cases_eq, ne_eqb, cond-true, cond-false}
+use Rattle.std.proofs.Common.{◌≡◌, ℕ, ◌+◌, ◌<◌, List, [], ◌∷◌, ◌++◌, true, false, refl, sym, ap, ◌∙◌, inl, inr, arith, cond, length, get_or, set, take, eq-eqb}
+use Rattle.std.specs.Prelude.{◌==◌, Contains}
+use Rattle.std.specs.List.{AllByRecursion}
+use Rattle.std.proofs.lemmas.Bool.{cases_eq, ne_eqb}
 use Rattle.std.proofs.lemmas.List.{append-nil, get_or-set_other, get_or-set_same, length-set, same_lists}
 use Rattle.std.proofs.lemmas.List.Elements.{Contains-get_or, filter_more}
 use Rattle.std.proofs.lemmas.List.FromFn.{get_or-map-range_with_len, length-map-range_with_len}
@@ -18,6 +18,16 @@ use Rattle.owner_graph.specs.Ends.{by_table, edges_at, table_at}
 pub end_within : (end : End) (tables : ℕ) (edges : List Edge) (edge : Edge) → AreWithin tables edges → Contains edges edge → (table_at end edge).0 < tables
 end_within Lower tables edges edge within among = (tables_within tables edges edge within among).0
 end_within Upper tables edges edge within among = (tables_within tables edges edge within among).1
+
+-- and those of the edges into a table
+pub lowers_within : (tables count table : ℕ) (edges : List Edge) → count ≡ tables → AreWithin tables edges → AllByRecursion (λ edge. edge.lower.0 < count) (edges_at Upper edges table)
+lowers_within tables count table [] same within = tt
+lowers_within tables count table (edge ∷ edges) same within =
+    let rest : AllByRecursion (λ e. e.lower.0 < count) (edges_at Upper edges table) = lowers_within tables count table edges same within.1 in
+    elim (edge.upper.0 == table) as (λ b. AllByRecursion (λ e. e.lower.0 < count) (cond b (edge ∷ edges_at Upper edges table) (edges_at Upper edges table))) [
+      | true ↦ (omega (arith, within.0.0), rest)
+      | false ↦ rest
+    ]
 
 module _ (end : End) (tables : ℕ) where
   pub length-by_table : (edges : List Edge) → length (by_table end tables edges) ≡ tables

@@ -1,9 +1,10 @@
 -- Tables that stand in a list, as it grows.
-use Rattle.std.proofs.Common.{◌≡◌, ℕ, zero, suc, ◌+◌, ◌<◌, ◌≤◌, List, [], ◌∷◌, ◌++◌, Bool, true, false, refl, sym, ap, ◌∙◌, subst, inl, inr, arith, eq-eqb, length}
-use Rattle.std.specs.Prelude.{◌≢◌, ◌⊎◌, ◌==◌, ◌||◌, Option, Some, None, slice_get}
-use Rattle.std.specs.List.{list_any}
+use Rattle.std.proofs.Common.{◌≡◌, ℕ, zero, suc, ◌<◌, List, [], ◌∷◌, ◌++◌, true, false, refl, sym, ap, ◌∙◌, inl, inr, arith, eq-eqb, get_or, length}
+use Rattle.std.specs.Prelude.{◌⊎◌, ◌==◌, ◌||◌, Option, Some, None, slice_get}
 use Rattle.std.proofs.lemmas.Bool.{eqb-true, or_cases, or_left, or_right}
 use Rattle.std.proofs.lemmas.List.{append-nil, append_assoc}
+use Rattle.std.proofs.lemmas.List.Folds.{list_any-append}
+use Rattle.std.proofs.Math.Bool.{or-false}
 use Rattle.own_base.specs.declared.number.TableNo.{TableNo}
 use Rattle.owner_model.specs.GraphOrder.{StandsBefore}
 use Rattle.owner_model.specs.Placed.{EachAtOnePlace, IsPlaced}
@@ -40,6 +41,18 @@ module _ {X : Type 0} where
   get-push_cases (z ∷ xs) y zero x at = inl at
   get-push_cases (z ∷ xs) y (suc place) x at =
       elim (get-push_cases xs y place x at) [ inl before ↦ inl before | inr last ↦ inr (omega (arith, last.0), last.1) ]
+
+  -- what is read at a place stands there
+  pub get_from_read : (xs : List X) (place : ℕ) (x : X) → place < length xs → get_or xs place x ≡ x → slice_get xs place ≡ Some x
+  get_from_read [] place x inside is = absurd (omega arith)
+  get_from_read (y ∷ xs) zero x inside is = ap Some is
+  get_from_read (y ∷ xs) (suc place) x inside is = get_from_read xs place x (omega arith) is
+
+  -- and what stands there is read
+  pub read_from_get : (xs : List X) (place : ℕ) (x d : X) → slice_get xs place ≡ Some x → get_or xs place d ≡ x
+  read_from_get [] place x d at = let never : ◌≡◌ {A = Option X} None (Some x) = at in cc
+  read_from_get (y ∷ xs) zero x d at = cc
+  read_from_get (y ∷ xs) (suc place) x d at = read_from_get xs place x d at
 
 -- a table that is placed stays placed
 pub IsPlaced-append : (order more : List TableNo) (table : TableNo) → IsPlaced order table → IsPlaced (order ++ more) table
@@ -103,6 +116,10 @@ placed_from_is_among (first ∷ rest) table is =
       | inl here ↦ record { place = 0; at_place = ap (λ n. Some (record { 0 = n })) (eqb-true first.0 table.0 here) }
       | inr later ↦ let placed = placed_from_is_among rest table later in record { place = suc placed.place; at_place = placed.at_place }
     ]
+
+-- a test of a list with one more
+pub is_among-push : (tables : List TableNo) (table : TableNo) (number : ℕ) → is_among (tables ++ table ∷ []) number ≡ (is_among tables number || (table.0 == number))
+is_among-push tables table number = list_any-append (λ t. t.0 == number) tables (table ∷ []) ∙ ap (λ b. is_among tables number || b) (or-false (table.0 == number))
 
 -- a list goes on from itself
 pub GoesOn-refl : (order : List TableNo) → GoesOn order order

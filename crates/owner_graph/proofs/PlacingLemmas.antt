@@ -1,11 +1,11 @@
 -- The placed tables are those that wait for no edge, as tables are added and wait for less.
-use Rattle.std.proofs.Common.{◌≡◌, ℕ, zero, suc, ◌+◌, ◌-◌, ◌<◌, ◌≤◌, List, [], ◌∷◌, ◌++◌, Bool, true, false, refl, sym, ap, ◌∙◌, subst, inl, inr, arith, eq-eqb, length, get_or, set, cond, not}
-use Rattle.std.specs.Prelude.{◌≢◌, ◌⊎◌, ◌↔◌, ◌==◌, count_by, sum_by, slice_index}
-use Rattle.std.proofs.lemmas.Bool.{cases_eq, cases_order, eqb-true, ne_eqb}
+use Rattle.std.proofs.Common.{◌≡◌, ℕ, ◌+◌, ◌-◌, ◌<◌, ◌≤◌, List, [], ◌∷◌, ◌++◌, refl, sym, ap, ◌∙◌, subst, inl, inr, arith, length, get_or, set, cond, not}
+use Rattle.std.specs.Prelude.{◌≢◌, ◌↔◌, ◌==◌, sum_by, slice_index}
+use Rattle.std.proofs.lemmas.Bool.{cases_eq, cases_order, ne_eqb}
 use Rattle.std.proofs.lemmas.List.{get_or_append_left, get_or_past, get_or_push, get_or_read, get_or-set_other, get_or-set_same, length-set, length_push}
 use Rattle.std.proofs.lemmas.List.Sums.{sum_by-set, sum_by_push}
 use Rattle.own_base.specs.declared.number.TableNo.{TableNo}
-use Rattle.owner_model.specs.Placed.{EachAtOnePlace, IsPlaced}
+use Rattle.owner_model.specs.Placed.{IsPlaced}
 use Rattle.owner_graph.specs.Placing.{IsPlacing}
 use Rattle.owner_graph.proofs.PlacedLemmas.{EachAtOnePlace-nil, EachAtOnePlace-push, IsPlaced-append, IsPlaced-last, IsPlaced-push_cases, get-within}
 

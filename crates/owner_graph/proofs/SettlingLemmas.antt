@@ -1,24 +1,20 @@
 -- Tables settled one after another: those that wait for nothing but them are placed.
-use Rattle.std.proofs.Common.{◌≡◌, ℕ, zero, suc, ◌+◌, ◌-◌, ◌<◌, ◌≤◌, List, [], ◌∷◌, ◌++◌, Bool, true, false, refl, sym, ap, ◌∙◌, subst, inl, inr, arith, eq-eqb, length, map, get_or, take, drop, cond, not, length-take, length-append}
-use Rattle.std.specs.Prelude.{◌≢◌, ◌==◌, ◌&&◌, ◌||◌, Contains, count_by, filter, slice_get, slice_index, sum_by, Some, None, Option}
-use Rattle.std.specs.List.{list_any}
+use Rattle.std.proofs.Common.{◌≡◌, ℕ, ◌+◌, ◌<◌, ◌≤◌, List, [], ◌∷◌, ◌++◌, Bool, true, false, refl, sym, ap, ◌∙◌, subst, inl, inr, arith, eq-eqb, length, map, get_or, take, drop, cond, not, length-take, length-append}
+use Rattle.std.specs.Prelude.{◌==◌, ◌&&◌, ◌||◌, Contains, count_by, slice_get, slice_index, Some}
 use Rattle.std.proofs.lemmas.Bool.{cases_eq, cases_lt, cases_order, eqb-true, ne_eqb, and_from, false_from_ne_true, true_from_ne_false}
 use Rattle.std.proofs.lemmas.List.{get_or_past, length-map, get_or-map, take_all, take-append-drop, take-append-le, take_more}
-use Rattle.std.proofs.lemmas.List.Elements.{Contains-get_or}
 use Rattle.std.proofs.lemmas.List.Sums.{length-filter, sum_by-cons}
-use Rattle.std.proofs.lemmas.List.Folds.{list_any-append}
-use Rattle.std.proofs.Math.Bool.{or-false}
 use Rattle.own_base.specs.declared.number.TableNo.{TableNo}
 use Rattle.own_model.specs.declared.schema.Edge.{Edge}
 use Rattle.owner_model.specs.AreWithin.{AreWithin}
 use Rattle.owner_model.specs.GraphOrder.{StandsBefore}
-use Rattle.owner_model.specs.Placed.{EachAtOnePlace, IsPlaced, IsUpward}
-use Rattle.owner_model.proofs.CountLemmas.{count_by-fails, count_by-one, count_by-passes}
+use Rattle.owner_model.specs.Placed.{IsPlaced, IsUpward}
+use Rattle.owner_model.proofs.CountLemmas.{count_by-fails, count_by-one}
 use Rattle.owner_graph.specs.declared.end.End.TheVariants.{Lower, Upper}
 use Rattle.owner_graph.specs.Ends.{by_table, edges_at}
 use Rattle.owner_graph.specs.Placing.{AllPlaced, GoesOn, IsPlacing, WaitsForLess, edges_past, is_among}
-use Rattle.owner_graph.proofs.EndsLemmas.{end_within, get_or-by_table, length-by_table}
-use Rattle.owner_graph.proofs.PlacedLemmas.{StandsBefore-append, get-append, get-front, get-within, is_among-placed, placed_from_is_among}
+use Rattle.owner_graph.proofs.EndsLemmas.{get_or-by_table, length-by_table}
+use Rattle.owner_graph.proofs.PlacedLemmas.{StandsBefore-append, get-append, get-front, get-within, get_from_read, is_among-push, placed_from_is_among}
 use Rattle.owner_graph.proofs.WaitingLemmas.{edges_of}
 
 -- the tables of the order before this place are settled
@@ -27,12 +23,6 @@ pub record Settled (edges : List Edge) (order : List TableNo) (waiting : List �
   pub upward : IsUpward edges order
   pub past : (table : ℕ) → slice_index waiting table ≡ edges_past edges (take settled order) table
   pub within : settled ≤ length order
-
--- what is read at a place stands there
-pub get_from_read : {X : Type 0} (xs : List X) (place : ℕ) (x : X) → place < length xs → get_or xs place x ≡ x → slice_get xs place ≡ Some x
-get_from_read [] place x inside is = absurd (omega arith)
-get_from_read (y ∷ ys) zero x inside is = ap Some is
-get_from_read (y ∷ ys) (suc place) x inside is = get_from_read ys place x (omega arith) is
 
 -- tests that agree count alike
 count_by-same : {X : Type 0} (p q : X → Bool) (same : (x : X) → p x ≡ q x) (xs : List X) → count_by p xs ≡ count_by q xs
@@ -49,7 +39,7 @@ past_none : (edges : List Edge) (table : ℕ) → edges_past edges [] table ≡ 
 past_none edges table = count_by-same _ _ (λ edge. and_true (edge.lower.0 == table)) edges
 
 -- a table that isn't there has no edges
-none_outside : (tables : ℕ) (edges : List Edge) (table : ℕ) → AreWithin tables edges → tables ≤ table → edges_of edges table ≡ 0
+pub none_outside : (tables : ℕ) (edges : List Edge) (table : ℕ) → AreWithin tables edges → tables ≤ table → edges_of edges table ≡ 0
 none_outside tables [] table within past = refl
 none_outside tables (edge ∷ edges) table within past =
     count_by-fails (λ e. e.lower.0 == table) edge edges (ne_eqb edge.lower.0 table (λ same. omega (arith, within.0.0))) ∙ none_outside tables edges table within.1 past
@@ -88,10 +78,6 @@ Settled-none tables edges order waiting within placing is =
       within = omega arith;
     }
 
--- a test of a list with one more
-is_among-push : (tables : List TableNo) (table : TableNo) (number : ℕ) → is_among (tables ++ table ∷ []) number ≡ (is_among tables number || (table.0 == number))
-is_among-push tables table number = list_any-append (λ t. t.0 == number) tables (table ∷ []) ∙ ap (λ b. is_among tables number || b) (or-false (table.0 == number))
-
 eqb_comm : (one two : ℕ) → (one == two) ≡ (two == one)
 eqb_comm one two =
     elim (cases_eq one two) [ inl same ↦ eq-eqb one two same ∙ sym (eq-eqb two one (sym same)) | inr other ↦ ne_eqb one two other ∙ sym (ne_eqb two one (λ same. other (sym same))) ]
@@ -117,8 +103,8 @@ module _ (tables : List TableNo) (table : TableNo) (new : is_among tables table.
   counts_more : (edge : Edge) (edges : List Edge) → edges_of (edges_at Upper (edge ∷ edges) table.0) number ≡ cond (edge.upper.0 == table.0) (cond (edge.lower.0 == number) 1 0) 0 + edges_of (edges_at Upper edges table.0) number
   counts_more edge edges =
       elim (edge.upper.0 == table.0) as (λ b. edges_of (cond b (edge ∷ edges_at Upper edges table.0) (edges_at Upper edges table.0)) number ≡ cond b (cond (edge.lower.0 == number) 1 0) 0 + edges_of (edges_at Upper edges table.0) number) [
-        true ↦ sum_by-cons (λ e. cond (e.lower.0 == number) 1 0) edge (edges_at Upper edges table.0)
-      | false ↦ omega arith
+        | true ↦ sum_by-cons (λ e. cond (e.lower.0 == number) 1 0) edge (edges_at Upper edges table.0)
+        | false ↦ omega arith
       ]
 
   -- with one table more settled, a table waits for its edges to that less
@@ -131,7 +117,7 @@ module _ (tables : List TableNo) (table : TableNo) (new : is_among tables table.
         counts_more edge edges,
         past_more edges,
         sum_by-cons (λ e. cond (e.lower.0 == number && not (is_among tables e.upper.0)) 1 0) edge edges,
-        sum_by-cons (λ e. cond (e.lower.0 == number && not (is_among (tables ++ table ∷ []) e.upper.0)) 1 0) edge edges
+        sum_by-cons (λ e. cond (e.lower.0 == number && not (is_among (tables ++ table ∷ []) e.upper.0)) 1 0) edge edges,
       )
 
 -- a table that waits for nothing has all of its edges to settled tables
@@ -139,27 +125,26 @@ settled_above : (edges : List Edge) (tables : List TableNo) (edge : Edge) → Co
 settled_above edges tables edge among none =
     placed_from_is_among tables edge.upper
     (true_from_ne_false (is_among tables edge.upper.0) (λ past.
-      let passes : (edge.lower.0 == edge.lower.0 && not (is_among tables edge.upper.0)) ≡ true =
-        and_from _ _ (eq-eqb edge.lower.0 edge.lower.0 refl) (ap not past) in
-      omega (arith, count_by-one (λ e. e.lower.0 == edge.lower.0 && not (is_among tables e.upper.0)) edges among.0 edge (get_from_read edges among.0 edge among.1 among.2) passes)))
+    let passes : (edge.lower.0 == edge.lower.0 && not (is_among tables edge.upper.0)) ≡ true =
+    and_from _ _ (eq-eqb edge.lower.0 edge.lower.0 refl) (ap not past) in
+    omega (arith, count_by-one (λ e. e.lower.0 == edge.lower.0 && not (is_among tables e.upper.0)) edges among.0 edge (get_from_read edges among.0 edge among.1 among.2) passes)))
 
 -- what is placed in the front of a list is placed there in the list
 front_place : (order : List TableNo) (count : ℕ) (table : TableNo) (placed : IsPlaced (take count order) table) → (placed.place < count) × (slice_get order placed.place ≡ Some table)
-front_place order count table placed =
-    (
-      omega (arith, get-within (take count order) placed.place table placed.at_place, length-take count order),
-      ap (λ l. slice_get l placed.place) (sym (take-append-drop count order)) ∙ get-append (take count order) (drop count order) placed.place table placed.at_place
-    )
+front_place order count table placed = (
+  omega (arith, get-within (take count order) placed.place table placed.at_place, length-take count order),
+  ap (λ l. slice_get l placed.place) (sym (take-append-drop count order)) ∙ get-append (take count order) (drop count order) placed.place table placed.at_place,
+)
 
 module _ (edges : List Edge) (order : List TableNo) (waiting : List ℕ) (settled : ℕ) (table : TableNo) (is : Settled edges order waiting settled) (inside : settled < length order) (read : table ≡ get_or order settled table) where
   -- the table that comes next isn't settled
   next_is_new : is_among (take settled order) table.0 ≡ false
   next_is_new =
       false_from_ne_true (is_among (take settled order) table.0) (λ among.
-        let placed = placed_from_is_among (take settled order) table among in
-        let front = front_place order settled table placed in
-        let same : placed.place ≡ settled = is.placing.once.same_place table placed.place settled front.1 (get_from_read order settled table inside (sym read)) in
-        omega (arith, front.0))
+      let placed = placed_from_is_among (take settled order) table among in
+      let front = front_place order settled table placed in
+      let same : placed.place ≡ settled = is.placing.once.same_place table placed.place settled front.1 (get_from_read order settled table inside (sym read)) in
+      omega (arith, front.0))
 
   next_past : (number : ℕ) → slice_index waiting number ≡ edges_past edges (take settled order ++ table ∷ []) number + edges_of (edges_at Upper edges table.0) number
   next_past number = is.past number ∙ past_more (take settled order) table next_is_new number edges
@@ -191,7 +176,7 @@ module _ (edges : List Edge) (order : List TableNo) (waiting : List ℕ) (settle
     before_old : (edge : Edge) → Contains edges edge → (placed : IsPlaced order' edge.lower) → placed.place < length order → StandsBefore order' edge.upper edge.lower
     before_old edge among placed front =
         let first : IsPlaced order edge.lower =
-          record { place = placed.place; at_place = get-front order longer.more placed.place edge.lower front (ap (λ l. slice_get l placed.place) (sym longer.is) ∙ placed.at_place) } in
+        record { place = placed.place; at_place = get-front order longer.more placed.place edge.lower front (ap (λ l. slice_get l placed.place) (sym longer.is) ∙ placed.at_place) } in
         subst (λ l. StandsBefore l edge.upper edge.lower) (sym longer.is) (StandsBefore-append order longer.more edge.upper edge.lower (is.upward.earlier edge among first))
 
     -- and with its edges it is settled
@@ -201,7 +186,7 @@ module _ (edges : List Edge) (order : List TableNo) (waiting : List ℕ) (settle
           placing = placing;
           upward = record {
             earlier = λ edge among placed.
-              elim (cases_lt placed.place (length order)) [ inl front ↦ before_old edge among placed front | inr behind ↦ before_new edge among placed behind ];
+                elim (cases_lt placed.place (length order)) [ inl front ↦ before_old edge among placed front | inr behind ↦ before_new edge among placed behind ];
           };
           past = past_next;
           within = omega (arith, ap length longer.is, length-append order longer.more);

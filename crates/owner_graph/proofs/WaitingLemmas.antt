@@ -1,8 +1,8 @@
 -- What tables wait for, edge by edge.
-use Rattle.std.proofs.Common.{◌≡◌, ℕ, zero, suc, ◌+◌, ◌-◌, ◌<◌, ◌≤◌, List, [], ◌∷◌, ◌++◌, Bool, true, false, refl, sym, ap, ◌∙◌, subst, inl, inr, arith, eq-eqb, length, get_or, set, take, cond, not}
-use Rattle.std.specs.Prelude.{◌≢◌, ◌==◌, count_by, slice_index}
+use Rattle.std.proofs.Common.{◌≡◌, ℕ, ◌+◌, ◌-◌, ◌<◌, ◌≤◌, List, [], refl, sym, ap, ◌∙◌, inl, inr, arith, eq-eqb, length, get_or, set, take, cond}
+use Rattle.std.specs.Prelude.{◌==◌, count_by, slice_index}
 use Rattle.std.proofs.lemmas.Bool.{cases_eq, cases_order, ne_eqb}
-use Rattle.std.proofs.lemmas.List.{get_or-set_other, get_or-set_same, get_or_past, length-set, take_all}
+use Rattle.std.proofs.lemmas.List.{get_or-set_other, get_or-set_same, get_or_past, length-set}
 use Rattle.std.proofs.lemmas.List.Sums.{count_by_more_no, count_by_more_yes, sum_by-take-le}
 use Rattle.own_model.specs.declared.schema.Edge.{Edge}
 use Rattle.owner_graph.specs.Placing.{WaitsForLess}

@@ -26,7 +26,7 @@ leads_on edges from by to one two =
     }
 
 -- what is an edge stays one, with another before them
-contains_more : (edge : Edge) (edges : List Edge) (other : Edge) → Contains edges other → Contains (edge ∷ edges) other
+pub contains_more : (edge : Edge) (edges : List Edge) (other : Edge) → Contains edges other → Contains (edge ∷ edges) other
 contains_more edge edges other (place, within, is) = (suc place, omega arith, is)
 
 all_more : (edge : Edge) (edges walk : List Edge) → AllByRecursion (Contains edges) walk → AllByRecursion (Contains (edge ∷ edges)) walk

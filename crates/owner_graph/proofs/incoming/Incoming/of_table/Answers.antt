@@ -1,4 +1,4 @@
-use Rattle.std.proofs.Common.{◌≡◌, ap, arith, get_or, length, ◌∙◌}
+use Rattle.std.proofs.Common.{ap, arith, get_or, length, ◌∙◌}
 use Rattle.owner_graph.specs.declared.end.End.TheVariants.{Upper}
 use Rattle.owner_graph.proofs.EndsLemmas.{get_or-by_table, length-by_table}
 use Rattle.owner_graph.proofs.incoming.Incoming.of_table.Goals as goal

@@ -1,5 +1,3 @@
-use Rattle.std.proofs.Common.{◌≡◌, ℕ, ◌+◌, ◌<◌, ◌≤◌, [], ◌∷◌, ◌++◌, length, arith, slice_set}
-use Rattle.owner_graph.specs.Placing.{IsPlacing}
 use Rattle.owner_graph.proofs.PlacingLemmas.{IsPlacing-release, IsPlacing-release_last}
 use Rattle.owner_graph.proofs.placing.Placing.release.Goals as goal
 

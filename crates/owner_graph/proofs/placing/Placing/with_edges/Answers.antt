@@ -1,4 +1,4 @@
-use Rattle.std.proofs.Common.{◌≡◌, ◌<◌, ◌≤◌, ◌∙◌, ap, arith, length, map, slice_index, subst, sym}
+use Rattle.std.proofs.Common.{◌≡◌, ◌≤◌, ◌∙◌, ap, arith, length, map, slice_index, subst, sym}
 use Rattle.std.proofs.lemmas.List.{length-map}
 use Rattle.owner_graph.specs.declared.end.End.TheVariants.{Lower}
 use Rattle.owner_graph.specs.Ends.{by_table}
@@ -16,10 +16,9 @@ pub loop-settled-init : goal.loop-settled-init
 loop-settled-init c =
     let incoming = c.args.incoming.now in
     let groups = by_table Lower incoming.tables incoming.edges.now in
-    let waiting : c.in_ok-placing.placing.waiting.items ≡ map length groups = c.in_ok-placing.ensures.waiting ∙ ap (map length) c.requires.up in
-    (
+    let waiting : c.in_ok-placing.placing.waiting.items ≡ map length groups = c.in_ok-placing.ensures.waiting ∙ ap (map length) c.requires.up in (
       Settled-none incoming.tables incoming.edges.now _ _ c.requires.within c.in_ok-placing.ensures.placing waiting,
-      ap length waiting ∙ length-map groups length ∙ length-by_table Lower incoming.tables incoming.edges.now
+      ap length waiting ∙ length-map groups length ∙ length-by_table Lower incoming.tables incoming.edges.now,
     )
 
 pub of_table-requires : goal.of_table-requires
@@ -32,10 +31,9 @@ settle-requires-clause-wait c =
 
 pub loop-settled-preserved : goal.loop-settled-preserved
 loop-settled-preserved c =
-    let less = rw c.of_table.ensures at c.in_ok-settle.ensures.less in
-    (
+    let less = rw c.of_table.ensures at c.in_ok-settle.ensures.less in (
       Settled-more _ _ _ _ _ c.loop-settled.invariant.0 (omega arith) c.index-table.ensures _ _ c.in_ok-settle.ensures.placing c.in_ok-settle.ensures.longer less,
-      less.as_many ∙ c.loop-settled.invariant.1
+      less.as_many ∙ c.loop-settled.invariant.1,
     )
 
 pub returns-clause-all : goal.returns-clause-all
