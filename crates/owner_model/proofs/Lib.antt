@@ -1,1 +1,7 @@
 pub mod ColumnSetLemmas
+pub mod CountLemmas
+pub mod CycleLemmas
+pub mod LeadsLemmas
+pub mod OrderLemmas
+pub mod RangeLemmas
+pub mod WalkLemmas

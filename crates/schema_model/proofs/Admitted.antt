@@ -47,7 +47,7 @@ map_none f None none = refl
 map_none f (Some x) none = cc
 
 -- where no rule is broken, each has no name that breaks it
-unbroken : (rule : ℕ) (rules : List (List NameBytes)) → first_broken rule rules ≡ None → AllByRecursion (λ names. names ≡ []) rules
+pub unbroken : (rule : ℕ) (rules : List (List NameBytes)) → first_broken rule rules ≡ None → AllByRecursion (λ names. names ≡ []) rules
 unbroken rule [] none = tt
 unbroken rule ([] ∷ rules) none = (refl, unbroken (rule + 1) rules none)
 unbroken rule ((name ∷ names) ∷ rules) none = let never : ⊥ = cc in absurd never

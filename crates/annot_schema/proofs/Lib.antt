@@ -1,0 +1,4 @@
+pub mod OwnedRows
+pub mod RuleNames
+pub mod SameEnds
+pub mod SoundSchemas

@@ -1,0 +1,139 @@
+ghost use Rattle.std.specs.Prelude.{◌≡◌, ◌∷◌, [], ◌++◌, ℕ, Bool, IfOk};
+ghost use Rattle.own_model.specs.declared.create.CreateTable.{CreateTable};
+ghost use Rattle.own_model.specs.declared.reply.Reply.TheVariants.{Graph};
+ghost use Rattle.schema_model.specs.Explained.{explained};
+ghost use Rattle.schema_model.specs.WithTable.{with_table};
+ghost use Rattle.annot_schema.specs.Created.{IsAdmissible, IsAdmitted, IsSound, created_with, nothing_created, schema_with};
+
+use crate::admitted::Admitted;
+use crate::explain::explained;
+use own_base::{List, MakeCopy, Text};
+use own_model::{CreateText, Reply, Schema};
+use schema_draft::Names;
+use std::alloc::{AllocError, Global};
+use std::marker::Model;
+
+/// The schema of a store, the texts of the creates that gave it, and its names. Contracts see the schema and the texts.
+#[derive(Drop)]
+pub struct Catalog {
+    schema: Schema,
+    creates: List<CreateText>,
+    names: Names,
+}
+
+impl Model for Catalog {
+    ghost use Rattle.std.specs.Coded.{codes};
+    ghost use Rattle.own_model.specs.contracts.bound.BoundCond as condition;
+    ghost use Rattle.annot_schema.specs.Created.{Created, IsCatalog};
+
+    ghost Value = { Created };
+
+    ghost coded = { Prim.hlevel (codes, condition.the_row.coded) };
+
+    ghost view = { λ catalog. record { schema = catalog.schema; creates = catalog.creates } };
+
+    ghost invariant = { λ catalog. IsCatalog catalog.names catalog.schema };
+}
+
+/// The items, and one more.
+fn with_item<T: MakeCopy + Drop>(
+    alloc: Global,
+    items: &List<T>,
+    item: T,
+) -> Result<List<T>, AllocError>
+    ensures { IfOk result (λ all. all ≡ items.now ++ item ∷ []) }
+{
+    let mut all = items.copy(alloc)?;
+    all.add(item)?;
+    Ok(all)
+}
+
+/// The items, and others after them.
+fn with_items<T: MakeCopy + Drop>(
+    alloc: Global,
+    items: &List<T>,
+    others: List<T>,
+) -> Result<List<T>, AllocError>
+    ensures { IfOk result (λ all. all ≡ items.now ++ others) }
+{
+    let mut all = items.copy(alloc)?.into_vec();
+    let mut others = others.into_vec();
+    all.append(&mut others)?;
+    Ok(List::from_vec(all))
+}
+
+/// The schema with a table and its edges at the end.
+fn schema_with(alloc: Global, schema: &Schema, admitted: Admitted) -> Result<Schema, AllocError>
+    ensures { IfOk result (λ all. all ≡ schema_with schema.now admitted) }
+{
+    let Admitted { table, edges } = admitted;
+    let tables = with_item(alloc, &schema.tables, table)?;
+    let views = schema.views.copy(alloc)?;
+    let edges = with_items(alloc, &schema.edges, edges)?;
+    Ok(Schema {
+        tables,
+        views,
+        edges,
+    })
+}
+
+impl Catalog {
+    /// No create yet. Takes no memory.
+    pub fn new(alloc: Global) -> Catalog
+        ensures { result ≡ nothing_created }
+    {
+        Catalog {
+            schema: Schema {
+                tables: List::new(alloc),
+                views: List::new(alloc),
+                edges: List::new(alloc),
+            },
+            creates: List::new(alloc),
+            names: Names::new(alloc),
+        }
+    }
+
+    /// Lends the schema. Takes no memory.
+    pub fn schema(&self) -> &Schema
+        ensures same { result.now ≡ self.now.schema }
+        ensures sound { IsSound self.now.schema }
+    {
+        &self.schema
+    }
+
+    /// Lends the texts of the creates, in order. Takes no memory.
+    pub fn creates(&self) -> &[CreateText]
+        ensures { result.now ≡ self.now.creates }
+    {
+        self.creates.items()
+    }
+
+    /// The answer to EXPLAIN COMPLIANCE.
+    pub fn explain(&self, alloc: Global) -> Result<Reply, AllocError>
+        ensures { IfOk result (λ reply. reply ≡ Graph (explained self.now.schema)) }
+    {
+        Ok(Reply::Graph(explained(alloc, &self.schema)?))
+    }
+
+    /// This catalog with a table and edges that were admitted over its schema, and with the text of their create.
+    pub fn with_table(
+        &self,
+        alloc: Global,
+        admitted: Admitted,
+        text: Text,
+    ) -> Result<Catalog, AllocError>
+        requires { IsAdmissible self.now.schema admitted }
+        ensures whole { IfOk result (λ catalog. catalog ≡ created_with self.now admitted text) }
+        ensures schema { IfOk result (λ catalog. (holds_rows : ℕ → Bool) (create : CreateTable)
+            → IsAdmitted self.now.schema holds_rows create admitted → catalog.schema ≡ with_table self.now.schema create) }
+    {
+        let schema = schema_with(alloc, &self.schema, admitted)?;
+        let creates = with_item(alloc, &self.creates, CreateText { view: false, text })?;
+        let names = Names::of(alloc, &schema)?;
+        Ok(Catalog {
+            schema,
+            creates,
+            names,
+        })
+    }
+}

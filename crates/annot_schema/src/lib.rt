@@ -1,0 +1,19 @@
+//! The catalog of a store: its schema and the texts of its creates, what EXPLAIN COMPLIANCE shows of it, and which CREATE
+//! TABLE it admits.
+#![tactic(auto)]
+
+mod admitted;
+mod catalog;
+mod column_set;
+mod explain;
+mod fault;
+mod limits;
+mod line;
+mod look_up;
+mod rows;
+mod walks;
+
+pub use admitted::Admitted;
+pub use catalog::Catalog;
+pub use explain::explained;
+pub use fault::SchemaFault;

@@ -1,0 +1,9 @@
+pub mod EndsLemmas
+pub mod GraphLemmas
+pub mod LeftLemmas
+pub mod PlacedLemmas
+pub mod PlacingLemmas
+pub mod SettlingLemmas
+pub mod WaitingLemmas
+pub mod WalkedBackLemmas
+pub mod WayBackLemmas

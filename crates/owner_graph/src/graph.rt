@@ -1,0 +1,75 @@
+ghost use Rattle.std.specs.Prelude.{◌≡◌, IfOk, IfErr};
+ghost use Rattle.owner_model.specs.AreWithin.{AreWithin};
+
+use crate::closed_walk::ClosedWalk;
+use crate::end::End;
+use crate::fault::GraphFault;
+use crate::grouped::grouped;
+use crate::incoming::Incoming;
+use crate::placing::Placing;
+use own_base::{List, TableNo};
+use own_model::Edge;
+use std::alloc::Global;
+use std::marker::Model;
+
+/// The ownership graph: its tables in an order that puts each behind the tables above it, and the edges out of each table.
+#[derive(Debug, Drop)]
+pub struct Graph {
+    order: List<TableNo>,
+    edges: List<List<Edge>>,
+}
+
+impl Model for Graph {
+    ghost use Rattle.owner_graph.specs.Graph.{GraphSeen};
+
+    ghost Value = { GraphSeen };
+
+    ghost view = { λ graph. record { order = graph.order; edges = graph.edges } };
+}
+
+impl Graph {
+    ghost use Rattle.owner_graph.specs.Fault.{TellsCycle};
+    ghost use Rattle.owner_graph.specs.Graph.{IsGraphOf, edges_up};
+
+    /// The graph of so many tables and these edges. Where a walk over the edges comes back to its table there is none, and
+    /// the fault tells of it.
+    ///
+    /// It takes time in proportion to the tables and the edges where there is a graph. Where there is none, tables are tried
+    /// from the highest down, and each that is tried takes that time again: those that can't be placed, and are higher than
+    /// the one that is told.
+    pub fn with_edges(alloc: Global, tables: u32, edges: &[Edge]) -> Result<Graph, GraphFault>
+        requires { AreWithin tables edges.now }
+        ensures graph { IfOk result (IsGraphOf tables edges.now) }
+        ensures cycle { IfErr result (TellsCycle edges.now) }
+    {
+        let incoming = Incoming::with_edges(alloc, tables, edges)?;
+        let up = grouped(alloc, tables, edges, End::Lower)?;
+        let placing = Placing::with_edges(alloc, &up, &incoming)?;
+        if placing.order.len() == tables as usize {
+            Ok(Graph {
+                order: List::from_vec(placing.order),
+                edges: List::from_vec(up),
+            })
+        } else {
+            let ClosedWalk { table, through } = incoming.closed_walk(alloc, &placing)?;
+            Err(GraphFault::Cycle { table, through })
+        }
+    }
+
+    /// The tables, each behind the tables above it. Takes no memory.
+    pub fn order(&self) -> &[TableNo]
+        ensures { result.now ≡ self.now.order }
+    {
+        self.order.items()
+    }
+
+    /// The edges out of a table, in their order. Takes no memory.
+    pub fn edges_of(&self, table: TableNo) -> &[Edge]
+        ensures { result.now ≡ edges_up self.now table.0 }
+    {
+        match self.edges.items().get(table.0 as usize) {
+            Some(edges) => edges.items(),
+            None => &[],
+        }
+    }
+}

@@ -1,0 +1,5 @@
+pub mod EdgeLists
+pub mod Lookups
+pub mod NameLookups
+pub mod Targets
+pub mod RuledSets
