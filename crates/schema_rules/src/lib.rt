@@ -1,0 +1,8 @@
+//! The first rule that a CREATE TABLE breaks.
+#![tactic(auto)]
+
+mod columns;
+mod keys;
+mod on_rules;
+mod owners;
+mod references;
