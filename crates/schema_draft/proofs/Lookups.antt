@@ -1,7 +1,8 @@
 -- What is found among lent values that are seen as others.
-use Rattle.std.proofs.Common.{◌≡◌, ℕ, Bool, true, false, cond, ◌&&◌, ◌||◌, List, [], ◌∷◌, map, Option, None, Some, refl, ap, ◌∙◌, bytes_eq}
+use Rattle.std.proofs.Common.{◌≡◌, ◌+◌, length, nat_lt, not, sym, None, Bool, true, false, cond, ◌&&◌, ◌||◌, List, [], ◌∷◌, map, Option, Some, refl, ap, ◌∙◌, bytes_eq}
 use Rattle.std.specs.Borrow.{Bor}
-use Rattle.std.specs.List.{find, list_any}
+use Rattle.std.proofs.lemmas.List.{length-map}
+use Rattle.std.specs.List.{find, list_any, position, position_or_len, prefix_len}
 use Rattle.std.specs.Option.{option_map}
 use Rattle.own_model.specs.declared.create.ColumnDef.{ColumnDef}
 use Rattle.own_model.specs.declared.create.CreateTable.{CreateTable}
@@ -25,6 +26,17 @@ find-map {A} {B} passes seen (item ∷ items) = by (passes (seen item)) (find (�
 pub list_any-map : {A B : Type 0} (passes : B → Bool) (seen : A → B) (items : List A) → list_any (λ item. passes (seen item)) items ≡ list_any passes (map seen items)
 list_any-map passes seen [] = refl
 list_any-map passes seen (item ∷ items) = ap (λ rest. passes (seen item) || rest) (list_any-map passes seen items)
+
+-- how many at the front pass
+prefix_len-map : {A B : Type 0} (passes : B → Bool) (seen : A → B) (items : List A) → prefix_len (λ item. passes (seen item)) items ≡ prefix_len passes (map seen items)
+prefix_len-map passes seen [] = refl
+prefix_len-map passes seen (item ∷ items) = ap (λ rest. cond (passes (seen item)) (1 + rest) 0) (prefix_len-map passes seen items)
+
+-- the first passes at the same place
+pub position-map : {A B : Type 0} (passes : B → Bool) (seen : A → B) (items : List A) → position (λ item. passes (seen item)) items ≡ position passes (map seen items)
+position-map passes seen items =
+    ap (λ place. cond (nat_lt place (length items)) (Some place) None) (prefix_len-map (λ item. not (passes item)) seen items)
+    ∙ ap (λ len. cond (nat_lt (position_or_len passes (map seen items)) len) (Some (position_or_len passes (map seen items))) None) (sym (length-map items seen))
 
 module _ (create : CreateTable) (references : List Reference) (whole : map reference_seen references ≡ references_of create) (column : NameBytes) where
   -- the reference on a column, among the references as they are lent

@@ -1,6 +1,4 @@
 -- What is lent of a CREATE TABLE, as the records that say it.
-use Rattle.std.specs.Prelude.{List, map}
-use Rattle.std.specs.Borrow.{Bor}
 use Rattle.schema_draft.specs.declared.draft.Effect.{Effect as LentEffect}
 use Rattle.schema_draft.specs.declared.draft.Effect.TheVariants as lent
 use Rattle.schema_draft.specs.declared.draft.OnRule.{OnRule as LentRule}

@@ -136,7 +136,8 @@ impl<'a> Draft<'a> {
     {
         self.references
             .iter()
-            .find(|reference| gives_edge(reference.refers.kind) && is_same_name(reference.column, column))
+            .find(|reference| gives_edge(reference.refers.kind)
+                && is_same_name(reference.column, column))
             .copied()
     }
 
@@ -144,6 +145,8 @@ impl<'a> Draft<'a> {
     pub fn has_column(&self, name: &Name) -> bool
         ensures { result ≡ is_named (column_names self.now) name.now }
     {
-        self.columns.iter().any(|column| is_same_name(&column.name, name))
+        self.columns
+            .iter()
+            .any(|column| is_same_name(&column.name, name))
     }
 }

@@ -4,9 +4,16 @@
 mod draft;
 mod kinds;
 mod name;
+mod named_table;
+mod names;
 mod part;
+mod table;
 
 pub use draft::{Draft, Effect, OnRule, Reference};
 pub use kinds::{
     gives_edge, gives_ownership, is_downward, is_owned_by, is_owns, is_same_kind, is_upward,
 };
+pub use name::is_same_name;
+pub use named_table::{number_of, target};
+pub use names::{Named, Names};
+pub use table::new_table;

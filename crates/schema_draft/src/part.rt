@@ -102,10 +102,7 @@ fn push_references<'a>(
 }
 
 /// The references.
-pub fn references<'a>(
-    alloc: Global,
-    parts: &'a [Part],
-) -> Result<Vec<Reference<'a>>, AllocError>
+pub fn references<'a>(alloc: Global, parts: &'a [Part]) -> Result<Vec<Reference<'a>>, AllocError>
     ensures { IfOk result (λ found. map reference_seen found.items ≡ flat_map part_references parts.now) }
 {
     let mut references = Vec::new(alloc);

@@ -13,5 +13,5 @@ returns c =
     let column = c.args.column.now in
     let references = c.self.inside.references.items in
     let found : option_copied c.find.result ≡ find (λ reference. gives_edge reference.refers.now.kind && bytes_eq reference.column.now column) references =
-        find_from_yields_List (λ reference. gives_edge reference.refers.now.kind && bytes_eq reference.column.now column) _ _ c.find.result c.find.ensures.ran (YieldsList-from_slice references cc) (λ x b q k. search (rules, tests)) in
+    find_from_yields_List (λ reference. gives_edge reference.refers.now.kind && bytes_eq reference.column.now column) _ _ c.find.result c.find.ensures.ran (YieldsList-from_slice references cc) (λ x b q k. search (rules, tests)) in
     ap (option_map reference_seen) (c.copied.ensures ∙ found) ∙ edge_on-lent c.args.self.now references (cc) column

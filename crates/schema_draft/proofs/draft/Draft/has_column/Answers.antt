@@ -10,5 +10,5 @@ returns c =
     let name = c.args.name.now in
     let columns = c.self.inside.columns.items in
     let found : c.any.result ≡ list_any (λ column. bytes_eq column.now.name name) columns =
-        any_from_yields_List (λ column. bytes_eq column.now.name name) _ _ c.any.result c.any.ensures.ran (YieldsList-from_slice columns cc) (λ x b q k. search (rules, tests)) in
+    any_from_yields_List (λ column. bytes_eq column.now.name name) _ _ c.any.result c.any.ensures.ran (YieldsList-from_slice columns cc) (λ x b q k. search (rules, tests)) in
     found ∙ is_named-lent c.args.self.now columns (cc) name

@@ -12,5 +12,5 @@ returns c =
     let column = c.args.column.now in
     let references = c.self.inside.references.items in
     let found : option_copied c.find.result ≡ find (λ reference. bytes_eq reference.column.now column) references =
-        find_from_yields_List (λ reference. bytes_eq reference.column.now column) _ _ c.find.result c.find.ensures.ran (YieldsList-from_slice references cc) (λ x b q k. search (rules, tests)) in
+    find_from_yields_List (λ reference. bytes_eq reference.column.now column) _ _ c.find.result c.find.ensures.ran (YieldsList-from_slice references cc) (λ x b q k. search (rules, tests)) in
     ap (option_map reference_seen) (c.copied.ensures ∙ found) ∙ reference_on-lent c.args.self.now references (cc) column
