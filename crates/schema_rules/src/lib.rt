@@ -6,3 +6,5 @@ mod keys;
 mod on_rules;
 mod owners;
 mod references;
+mod scene;
+mod tables;
