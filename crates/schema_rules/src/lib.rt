@@ -1,0 +1,10 @@
+//! The first rule that a CREATE TABLE breaks.
+#![tactic(auto)]
+
+mod columns;
+mod keys;
+mod on_rules;
+mod owners;
+mod references;
+mod scene;
+mod tables;
