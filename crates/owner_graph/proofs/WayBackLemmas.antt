@@ -11,7 +11,7 @@ use Rattle.owner_model.specs.Leads.{leads}
 use Rattle.owner_model.specs.Walk.{Arrives, IsWalk}
 use Rattle.owner_model.proofs.LeadsLemmas.{leads-from_walk, walk_from_leads}
 use Rattle.owner_graph.specs.Marking.{is_marked}
-use Rattle.owner_graph.specs.WayBack.{IsWayBack, leads_back}
+use Rattle.owner_graph.specs.WayBack.{TellsWayBack, leads_back}
 
 -- an edge that passes has that upper table, and none that passes has a lower one
 pub record HasLowest (passes : Edge → Bool) (edges : List Edge) (lowest : ℕ) : Type 0 where
@@ -111,7 +111,7 @@ module _ (edges : List Edge) (table : ℕ) (leading : List Bool) (says : (from :
   closed_passes first (next ∷ rest) among walk = arrives_passes first walk.0 (inr (record { first = next; rest = rest; among = among.1; walk = walk.1 }))
 
   -- so the lowest of them is the way back
-  pub IsWayBack-lowest : (lowest : Option TableNo) → IsLowest (leads_back table leading) edges lowest → MatchOption lowest (leads edges table table ≡ false) (λ through. IsWayBack edges table through.0)
+  pub IsWayBack-lowest : (lowest : Option TableNo) → IsLowest (leads_back table leading) edges lowest → TellsWayBack edges table lowest
   IsWayBack-lowest None none =
       false_from_ne_true (leads edges table table) (λ is.
       let walk = walk_from_leads edges table table is in

@@ -1,7 +1,7 @@
-ghost use Rattle.std.specs.Prelude.{◌≡◌, ◌<◌, ℕ, IfOk, MatchOption, false, length, min};
+ghost use Rattle.std.specs.Prelude.{◌≡◌, ◌<◌, ℕ, IfOk, MatchOption, length, min};
 ghost use Rattle.owner_graph.specs.Marking.{is_marked};
 ghost use Rattle.owner_graph.specs.Placing.{AllPlaced};
-ghost use Rattle.owner_graph.specs.WayBack.{IsWayBack, leads_back};
+ghost use Rattle.owner_graph.specs.WayBack.{TellsWayBack, leads_back};
 ghost use Rattle.owner_model.specs.AreWithin.{AreWithin};
 ghost use Rattle.owner_model.specs.Cycle.{IsCycle};
 ghost use Rattle.owner_model.specs.Leads.{leads};
@@ -43,8 +43,7 @@ impl Incoming<'_> {
     fn way_back(&self, alloc: Global, table: TableNo) -> Result<Option<TableNo>, AllocError>
         requires within { AreWithin self.now.tables self.now.edges.now }
         requires there { table.0 < self.now.tables }
-        ensures { IfOk result (λ back. MatchOption back (leads self.now.edges.now table.0 table.0 ≡ false)
-            (λ through. IsWayBack self.now.edges.now table.0 through.0)) }
+        ensures { IfOk result (TellsWayBack self.now.edges.now table.0) }
     {
         let leading = self.leading_to(alloc, table)?;
         let mut lowest = None;
@@ -67,8 +66,7 @@ impl Incoming<'_> {
         requires all { AllPlaced self.now.edges.now placing.now.order.items placing.now.waiting.items }
         requires tables { length placing.now.waiting.items ≡ self.now.tables }
         requires there { table.0 < self.now.tables }
-        ensures { IfOk result (λ back. MatchOption back (leads self.now.edges.now table.0 table.0 ≡ false)
-            (λ through. IsWayBack self.now.edges.now table.0 through.0)) }
+        ensures { IfOk result (TellsWayBack self.now.edges.now table.0) }
     {
         if placing.waiting[table.0 as usize] == 0 {
             Ok(None)

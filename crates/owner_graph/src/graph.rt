@@ -34,9 +34,8 @@ impl Graph {
     /// The graph of so many tables and these edges. Where a walk over the edges comes back to its table there is none, and
     /// the fault tells of it.
     ///
-    /// It takes time in proportion to the tables and the edges where there is a graph. Where there is none, tables are tried
-    /// from the highest down, and each that is tried takes that time again: those that can't be placed, and are higher than
-    /// the one that is told.
+    /// It takes time in proportion to the tables and the edges. Where there is no graph, it takes that time once more for each
+    /// table above the one that is told from which a walk leads to a closed one, though it lies on none itself.
     pub fn with_edges(alloc: Global, tables: u32, edges: &[Edge]) -> Result<Graph, GraphFault>
         requires { AreWithin tables edges.now }
         ensures graph { IfOk result (IsGraphOf tables edges.now) }
@@ -63,7 +62,7 @@ impl Graph {
         self.order.items()
     }
 
-    /// The edges out of a table, in their order. Takes no memory.
+    /// The edges out of a table, in their order: none for a table that isn't there. Takes no memory.
     pub fn edges_of(&self, table: TableNo) -> &[Edge]
         ensures { result.now ≡ edges_up self.now table.0 }
     {
