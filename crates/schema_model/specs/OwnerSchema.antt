@@ -1,6 +1,6 @@
 -- What holds of the schema that admitted creates give.
-use Rattle.std.specs.Prelude.{◌≡◌, ◌≢◌, ◌⊎◌, ℕ, true, false, ◌==◌, Some, length, map, slice_get, IsTrue, if◌then◌else◌}
-use Rattle.std.specs.List.{AllByRecursion, range_with_len}
+use Rattle.std.specs.Prelude.{◌≡◌, ◌≢◌, ◌⊎◌, ℕ, true, false, ◌==◌, Some, length, map, slice_get, bytes_eq, IsTrue, if◌then◌else◌}
+use Rattle.std.specs.List.{AllByRecursion, IsDistinct, range_with_len}
 use Rattle.own_base.specs.declared.number.TableNo.{TableNo}
 use Rattle.own_model.specs.declared.schema.Column.{Column}
 use Rattle.own_model.specs.declared.schema.Edge.{Edge}
@@ -11,6 +11,10 @@ use Rattle.owner_model.specs.ColumnSets.{has_column}
 use Rattle.owner_model.specs.Leads.{leads}
 use Rattle.schema_model.specs.Kinds.{gives_edge}
 use Rattle.schema_model.specs.Tables.{is_private, is_subject}
+
+-- no two columns of a table have one name
+abbrev pub ColumnsDiffer : TableDef → Type 0
+ColumnsDiffer table = IsDistinct bytes_eq (map (λ column. column.name) table.columns)
 
 -- A column that refers to a table is of the kind of that table's key, and is no key itself.
 pub record RefersToKey (schema : Schema) (column : Column) (link : RefKind × TableNo) : Type 0 where
@@ -51,6 +55,8 @@ pub record RulesWell (schema : Schema) (ruling : Edge) : Type 0 where
 -- a schema whose edges are an ownership graph
 pub record IsOwnerSchema (schema : Schema) : Type 0 where
   pub numbered : map (λ edge. edge.number.0) schema.edges ≡ range_with_len 0 (length schema.edges)
+  -- so a name tells a column: what a rule names is one column of the lower table
+  pub names : AllByRecursion ColumnsDiffer schema.tables
   pub columns : AllByRecursion (ColumnsRefer schema) schema.tables
   pub edges : AllByRecursion (IsOwnerEdge schema) schema.edges
   pub rules : AllByRecursion (RulesWell schema) schema.edges

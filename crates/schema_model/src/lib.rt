@@ -1,2 +1,5 @@
-//! What a CREATE TABLE means, and why it may be refused: the definitions, in `specs/`.
+//! What a CREATE TABLE means, and why it may be refused: the definitions, in `specs/`, and the laws that hold of them, in
+//! `laws`.
 #![tactic(auto)]
+
+pub mod laws;
