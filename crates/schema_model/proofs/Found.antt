@@ -1,10 +1,11 @@
 -- What is found in a list: the first element that passes a test, and its place.
-use Rattle.std.proofs.Common.{◌≡◌, ℕ, suc, ◌<◌, List, [], ◌∷◌, length, Bool, true, false, ◌&&◌, ltb, sym, ◌∙◌, refl, ap}
-use Rattle.std.specs.Prelude.{Option, Some, None, slice_get, find, position}
+use Rattle.std.proofs.Common.{◌≡◌, ℕ, zero, suc, ◌<◌, ◌≤◌, List, [], ◌∷◌, ◌++◌, length, Bool, true, false, not, ◌&&◌, ltb, sym, ◌∙◌, refl, ap, arith}
+use Rattle.std.specs.Prelude.{Option, Some, None, slice_get, find, position, unwrap_or}
 use Rattle.std.specs.List.{AllByRecursion, position_or_len}
-use Rattle.std.proofs.lemmas.Bool.{cond-true, lt-ltb, ltb-true}
-use Rattle.std.proofs.lemmas.List.Folds.{find_at}
-use Rattle.schema_model.proofs.Places.{IsIn, all-at, at-place, place-lt}
+use Rattle.std.proofs.lemmas.Bool.{cond-true, lt-ltb, ltb-false, ltb-true}
+use Rattle.std.proofs.lemmas.List.Folds.{find-append, find_at}
+use Rattle.std.proofs.lemmas.List.Sums.{prefix_len-le-length}
+use Rattle.schema_model.proofs.Places.{IsIn, all-at, at-place, place-lt, slice_get-append, slice_get-push}
 
 module _ {X : Type 0} (test : X → Bool) where
   find_step : (first : X) (xs : List X) (x : X) → find test (first ∷ xs) ≡ Some x → (find test xs ≡ Some x → IsIn xs x × (test x ≡ true))
@@ -88,3 +89,43 @@ module _ {X : Type 0} (test : X → Bool) where
       let own = at-place xs place is.1 in
       let found : find test xs ≡ Some own.0 = find_at test xs ∙ ap (slice_get xs) is.0 ∙ own.1 in
       (own.0, own.1, (find-some xs own.0 found).1)
+
+  number_step : (xs : List X) → (b : Bool) → ltb (position_or_len test xs) (length xs) ≡ b → unwrap_or (position test xs) (length xs) ≡ position_or_len test xs
+  number_step xs true below = rw below refl
+  number_step xs false past =
+      let most : position_or_len test xs ≤ length xs = prefix_len-le-length (λ x. not (test x)) xs in
+      let least = ltb-false _ _ past in
+      rw past (omega arith)
+
+  -- the place of the first that passes, or else the length
+  number-is : (xs : List X) → unwrap_or (position test xs) (length xs) ≡ position_or_len test xs
+  number-is xs = number_step xs _ refl
+
+  past_the_last : (xs : List X) → find test xs ≡ None → position_or_len test xs ≡ length xs
+  past_the_last xs none = by _ refl
+    where
+      by : (b : Bool) → ltb (position_or_len test xs) (length xs) ≡ b → position_or_len test xs ≡ length xs
+      by true below =
+          let there = at-place xs (position_or_len test xs) (ltb-true _ _ below) in
+          let found : find test xs ≡ Some there.0 = find_at test xs ∙ there.1 in cc
+      by false past =
+          let most : position_or_len test xs ≤ length xs = prefix_len-le-length (λ x. not (test x)) xs in
+          let least = ltb-false _ _ past in omega arith
+
+  last_step : (xs : List X) (last x : X) → find test (xs ++ last ∷ []) ≡ Some x → (o : Option X) → find test xs ≡ o
+      → slice_get (xs ++ last ∷ []) (position_or_len test xs) ≡ Some x
+  last_step xs last x found (Some first) is =
+      let both : ◌≡◌ {A = Option X} (Some first) (Some x) = rw (find-append test xs (last ∷ []), is) at found in
+      slice_get-append xs (last ∷ []) (position_or_len test xs) x (sym (find_at test xs) ∙ is ∙ both)
+  last_step xs last x found None is =
+      let own : find test (last ∷ []) ≡ Some x = rw (find-append test xs (last ∷ []), is) at found in
+      let among = find-some (last ∷ []) x own in
+      rw (past_the_last xs is) (slice_get-push xs last ∙ by among.0)
+    where
+      by : IsIn (last ∷ []) x → ◌≡◌ {A = Option X} (Some last) (Some x)
+      by (zero, at) = at
+      by (suc place, at) = cc
+
+  -- What is found in a list and one element more stands where it is found in the list, or else last.
+  pub find-with_last : (xs : List X) (last x : X) → find test (xs ++ last ∷ []) ≡ Some x → slice_get (xs ++ last ∷ []) (unwrap_or (position test xs) (length xs)) ≡ Some x
+  find-with_last xs last x found = rw (number-is xs) (last_step xs last x found _ refl)

@@ -1,6 +1,17 @@
 pub mod Admitted
+pub mod ClosedWalks
+pub mod EdgeEnds
 pub mod Found
 pub mod KeyLemmas
 pub mod LimitLemmas
 pub mod Names
+pub mod NewColumns
+pub mod NewEdgeLemmas
+pub mod OwnerEdges
+pub mod OwnerRules
+pub mod OwnerSchemaLemmas
+pub mod OwnerSubjects
+pub mod OwnerTables
 pub mod Places
+pub mod RuledLemmas
+pub mod Targets

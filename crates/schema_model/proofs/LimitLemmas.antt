@@ -36,6 +36,7 @@ within_limits schema create within admitted = record {
   each = all-append IsTableWithin schema.tables (new_table schema create ∷ []) within.each (table_within schema create admitted, tt);
 }
 
+-- where the CREATE isn't refused
 pub within_limits-with_table : (schema : Schema) (holds_rows : ℕ → Bool) (create : CreateTable) → IsWithinLimits schema → refusal_of schema holds_rows create ≡ None → IsWithinLimits (with_table schema create)
 within_limits-with_table schema holds_rows create within none = within_limits schema create within (admitted schema holds_rows create none)
 

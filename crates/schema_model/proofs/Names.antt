@@ -12,10 +12,11 @@ use Rattle.schema_model.specs.OwnerSchema.{ColumnsDiffer}
 use Rattle.schema_model.specs.rules.RepeatedColumns.{repeated_after}
 use Rattle.schema_model.proofs.Places.{all-at, all-weaker, slice_get-in_map}
 
--- equal names are of equal bytes
+-- names that the test takes for equal are
 pub same_name : (one other : NameBytes) → bytes_eq one other ≡ true → one ≡ other
 same_name one other equal = (bytes_eq-Decides one other).0 equal
 
+-- and it takes equal names for equal
 pub equal_name : (one other : NameBytes) → one ≡ other → bytes_eq one other ≡ true
 equal_name one other same = (bytes_eq-Decides one other).1 same
 

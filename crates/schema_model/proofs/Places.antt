@@ -35,6 +35,12 @@ module _ {X : Type 0} where
   slice_get-append (first ∷ xs) ys zero x is = is
   slice_get-append (first ∷ xs) ys (suc place) x is = slice_get-append xs ys place x is
 
+  -- and what is added stands after it
+  pub slice_get-append_after : (xs ys : List X) (place : ℕ) (x : X) → slice_get ys place ≡ Some x → slice_get (xs ++ ys) (length xs + place) ≡ Some x
+  slice_get-append_after [] ys place x is = let n : 0 + place ≡ place = omega arith in rw n is
+  slice_get-append_after (first ∷ xs) ys place x is =
+      let n : suc (length xs) + place ≡ suc (length xs + place) = omega arith in rw n (slice_get-append_after xs ys place x is)
+
   -- below the length the longer list has no other
   pub slice_get-append_below : (xs ys : List X) (place : ℕ) → place < length xs → slice_get (xs ++ ys) place ≡ slice_get xs place
   slice_get-append_below [] ys place below = absurd (omega arith)
@@ -112,6 +118,16 @@ pub append-none : {Y : Type 0} (xs ys : List Y) → xs ++ ys ≡ [] → (xs ≡ 
 append-none [] ys none = (refl, none)
 append-none (first ∷ xs) ys none = let never : ⊥ = cc in absurd never
 
+in_range_from : (from len offset number : ℕ) → offset < len → number ≡ from + offset → IsIn (range_with_len from len) number
+in_range_from from zero offset number below is = absurd (omega arith)
+in_range_from from (suc len) zero number below is = (0, let n : from ≡ number = omega arith in ap (λ n. Some n) n)
+in_range_from from (suc len) (suc offset) number below is =
+    let later = in_range_from (from + 1) len offset number (omega arith) (omega arith) in (suc later.0, later.1)
+
+-- a number stands in the range up to a greater one
+pub in_range : (len number : ℕ) → number < len → IsIn (range_with_len 0 len) number
+in_range len number below = in_range_from 0 len number number below (omega arith)
+
 module _ {X Y : Type 0} where
   -- a list of images is empty where the list is
   pub map-none : (f : X → Y) (xs : List X) → map f xs ≡ [] → xs ≡ []
@@ -134,6 +150,34 @@ module _ {X : Type 0} (test : X → Bool) where
   pub filter-none : (xs : List X) → filter test xs ≡ [] → AllByRecursion (λ x. test x ≡ false) xs
   filter-none [] none = tt
   filter-none (first ∷ xs) none = filter_step first xs none (filter-none xs) _ refl
+
+  passes_step : (first : X) (xs : List X) (x : X) → IsIn (filter test (first ∷ xs)) x → (IsIn (filter test xs) x → test x ≡ true)
+      → (b : Bool) → test first ≡ b → test x ≡ true
+  passes_step first xs x among more true is = by (rw is at among)
+    where
+      by : IsIn (first ∷ filter test xs) x → test x ≡ true
+      by (zero, at) = let same : first ≡ x = cc in rw (← same) is
+      by (suc place, at) = more (place, at)
+  passes_step first xs x among more false is = more (rw is at among)
+
+  -- what is kept passes
+  pub filter-passes : (xs : List X) (x : X) → IsIn (filter test xs) x → test x ≡ true
+  filter-passes [] x (place, is) = cc
+  filter-passes (first ∷ xs) x among = passes_step first xs x among (filter-passes xs x) _ refl
+
+  kept_step : (first : X) (xs : List X) (x : X) → IsIn (filter test (first ∷ xs)) x → (IsIn (filter test xs) x → IsIn xs x)
+      → (b : Bool) → test first ≡ b → IsIn (first ∷ xs) x
+  kept_step first xs x among more true is = by (rw is at among)
+    where
+      by : IsIn (first ∷ filter test xs) x → IsIn (first ∷ xs) x
+      by (zero, at) = (0, at)
+      by (suc place, at) = let later = more (place, at) in (suc later.0, later.1)
+  kept_step first xs x among more false is = let later = more (rw is at among) in (suc later.0, later.1)
+
+  -- and stands in the list
+  pub in_filter : (xs : List X) (x : X) → IsIn (filter test xs) x → IsIn xs x
+  in_filter [] x among = among
+  in_filter (first ∷ xs) x among = kept_step first xs x among (in_filter xs x) _ refl
 
   any_step : (first : X) (xs : List X) → list_any test (first ∷ xs) ≡ true → (list_any test xs ≡ true → (x : X) × IsIn xs x × (test x ≡ true))
       → (b : Bool) → test first ≡ b → (x : X) × IsIn (first ∷ xs) x × (test x ≡ true)
@@ -179,3 +223,14 @@ module _ {X Y : Type 0} where
       by : IsIn (f first) y ⊎ IsIn (flat_map f xs) y → (IsIn (flat_map f xs) y → (x : X) × IsIn xs x × IsIn (f x) y) → (x : X) × IsIn (first ∷ xs) x × IsIn (f x) y
       by (inl own) more = (first, (0, refl), own)
       by (inr later) more = let from = more later in (from.0, (suc from.1.0, from.1.1), from.2)
+
+  made_step : (h : X → Option Y) (first : X) (xs : List X) (y : Y) → (IsIn (filter_map h xs) y → (x : X) × IsIn xs x × (h x ≡ Some y))
+      → (o : Option Y) → h first ≡ o → IsIn (cons_option o (filter_map h xs)) y → (x : X) × IsIn (first ∷ xs) x × (h x ≡ Some y)
+  made_step h first xs y more None is among = let from = more among in (from.0, (suc from.1.0, from.1.1), from.2)
+  made_step h first xs y more (Some one) is (zero, at) = let same : one ≡ y = cc in (first, (0, refl), rw (← same) is)
+  made_step h first xs y more (Some one) is (suc place, at) = let from = more (place, at) in (from.0, (suc from.1.0, from.1.1), from.2)
+
+  -- an element of what is made is made of some element
+  pub of_filter_map : (h : X → Option Y) (xs : List X) (y : Y) → IsIn (filter_map h xs) y → (x : X) × IsIn xs x × (h x ≡ Some y)
+  of_filter_map h [] y (place, is) = let never : ⊥ = cc in absurd never
+  of_filter_map h (first ∷ xs) y among = made_step h first xs y (of_filter_map h xs y) _ refl among
