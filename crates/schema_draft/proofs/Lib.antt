@@ -1,3 +1,4 @@
+pub mod ColumnCounts
 pub mod EdgeLists
 pub mod Lookups
 pub mod NameLookups

@@ -3,6 +3,7 @@ ghost use Rattle.std.specs.Prelude.{◌≡◌, ◌<◌, ◌≤◌, ◌+◌, ◌^
 ghost use Rattle.std.specs.Option.{option_copied};
 ghost use Rattle.schema_draft.specs.EdgeColumn.{edge_column_seen};
 ghost use Rattle.schema_draft.specs.Lent.{is_effect};
+ghost use Rattle.schema_model.specs.Columns.{columns_of};
 ghost use Rattle.schema_model.specs.NewEdges as spec;
 ghost use Rattle.schema_model.specs.NewTable.{new_table};
 ghost use Rattle.schema_model.specs.OnRules.{ruled_by};
@@ -94,7 +95,7 @@ pub fn new_edges(
 ) -> Result<List<Edge>, AllocError>
     requires made { table.now ≡ new_table schema.now draft.now }
     requires tables { length schema.now.tables < 2 ^ 32 }
-    requires room { length schema.now.edges + length table.now.columns ≤ 2 ^ 32 }
+    requires room { length schema.now.edges + length (columns_of draft.now) ≤ 2 ^ 32 }
     ensures { IfOk result (λ edges. edges ≡ spec.new_edges schema.now draft.now) }
 {
     let first = schema.edges.items().len();

@@ -2,6 +2,7 @@ use Rattle.std.proofs.Common.{◌<◌, ◌+◌, ◌≡◌, [], ◌∷◌, ◌++�
 use Rattle.std.proofs.lemmas.List.{length_push}
 use Rattle.schema_model.specs.NewEdges.{new_edge}
 use Rattle.schema_draft.specs.EdgeColumn.{edge_column_seen}
+use Rattle.schema_draft.proofs.ColumnCounts.{length-columns}
 use Rattle.schema_draft.proofs.EdgeLists.{edges_of-none, edges_of-some}
 use Rattle.schema_draft.proofs.edges.new_edges.Goals as goal
 use Rattle.schema_draft.proofs.edges.new_edges.Goals.{in-Some+in_ok-add, in_default}
@@ -33,3 +34,14 @@ loop-number-preserved c =
         fewer = omega (arith, ap length w.edges-is);
       }
     ]
+
+pub edge_column-requires : goal.edge_column-requires
+edge_column-requires c =
+    omega (arith, ap length c.items-column-items.ensures, length-columns c.args.schema.now c.args.draft.now c.args.table.now c.requires.made)
+
+pub overflow_cast-number : goal.overflow_cast-number
+overflow_cast-number c =
+    let first = ap length c.items-first.ensures in
+    let all = ap length c.items-column-items.ensures in
+    let some = ap length c.items.ensures in
+    omega (arith, length-columns c.args.schema.now c.args.draft.now c.args.table.now c.requires.made)
