@@ -1,6 +1,7 @@
 //! The first rule that a CREATE TABLE breaks.
 #![tactic(auto)]
 
+mod broken;
 mod columns;
 mod keys;
 mod on_rules;
@@ -8,3 +9,5 @@ mod owners;
 mod references;
 mod scene;
 mod tables;
+
+pub use broken::{Broken, broken_rule};

@@ -1,10 +1,10 @@
-use Rattle.std.proofs.Common.{◌≡◌, not, is_none, ap, ◌∙◌, rules, tests}
+use Rattle.std.proofs.Common.{◌≡◌, is_none, ap, ◌∙◌, rules, tests}
 use Rattle.std.specs.List.{find}
 use Rattle.std.specs.Option.{option_copied, option_map}
 use Rattle.std.proofs.lemmas.Iterator.{YieldsList-from_slice}
 use Rattle.std.proofs.lemmas.Iterator.Search.{find_from_yields_List}
 use Rattle.schema_draft.specs.Lent.{reference_seen}
-use Rattle.schema_model.specs.References.{Reference, references_of}
+use Rattle.schema_model.specs.References.{references_of}
 use Rattle.schema_model.specs.NewTable.{target_of}
 use Rattle.schema_model.specs.rules.MissingTables.{missing_tables}
 use Rattle.schema_rules.proofs.Firsts.{first-passing}
