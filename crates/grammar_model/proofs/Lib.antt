@@ -1,2 +1,3 @@
+pub mod FewParts
 pub mod Requests
 pub mod TextBytes

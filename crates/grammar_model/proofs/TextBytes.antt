@@ -21,17 +21,17 @@ use Rattle.grammar_model.specs.Terminals.{IsCutInto}
 use Rattle.grammar_model.specs.Values.{TextIs}
 
 -- the bytes of terminals
-abbrev written : Terminals → ℕ
+abbrev pub written : Terminals → ℕ
 written [] = 0
 written (Written kind bytes start ∷ rest) = length bytes + written rest
 written (Slot ∷ rest) = written rest
 
 -- the terminals that the language takes have at least as many bytes as its value counts
-abbrev Takes : {A : Type 0} → (A → ℕ) → Language A → Type 0
+abbrev pub Takes : {A : Type 0} → (A → ℕ) → Language A → Type 0
 Takes {A} count language = (value : A) (terminals rest : Terminals) → language value terminals rest → count value + written rest ≤ written terminals
 
 -- a value that counts for nothing
-abbrev none : {A : Type 0} → A → ℕ
+abbrev pub none : {A : Type 0} → A → ℕ
 none value = 0
 
 -- one terminal less has no more
@@ -39,7 +39,7 @@ less_step : (terminal : Terminal) (rest : Terminals) → written rest ≤ writte
 less_step (Written kind bytes start) rest = omega arith
 less_step Slot rest = omega arith
 
-written-less : {terminal : Terminal} {terminals rest : Terminals} → terminals ≡ terminal ∷ rest → written rest ≤ written terminals
+pub written-less : {terminal : Terminal} {terminals rest : Terminals} → terminals ≡ terminal ∷ rest → written rest ≤ written terminals
 written-less {terminal} {terminals} {rest} is = rw is (less_step terminal rest)
 
 -- between its quotes a text has as many bytes as its value, or more
@@ -91,7 +91,7 @@ many-takes count languages takes (value ∷ values) before terminals rest by =
     let others = many-takes count languages takes values (before + 1) by.0 rest by.2 in
     rw (sum_by-cons count value values) (omega arith)
 
-listed-takes : {A : Type 0} (count : A → ℕ) (language : Language A) → Takes count language → Takes (sum_by count) (listed language)
+pub listed-takes : {A : Type 0} (count : A → ℕ) (language : Language A) → Takes count language → Takes (sum_by count) (listed language)
 listed-takes {A} count language takes values terminals rest (first, middle, by, (others, end, more, last)) =
     let one = takes first terminals middle by in
     let all = many-takes count _ (λ before. after_comma) others 0 middle end more in
@@ -103,7 +103,7 @@ listed-takes {A} count language takes values terminals rest (first, middle, by, 
         let own = takes value middle rest found in
         omega arith
 
-bracketed-takes : {A : Type 0} (count : A → ℕ) (language : Language A) → Takes count language → Takes count (bracketed language)
+pub bracketed-takes : {A : Type 0} (count : A → ℕ) (language : Language A) → Takes count language → Takes count (bracketed language)
 bracketed-takes count language takes value terminals rest (_, first, opens, (found, middle, by, (_, _, closes, last))) =
     let left = written-less opens.1 in
     let own = takes found first middle by in
@@ -115,11 +115,11 @@ unfolding rules.tuple
 tuple-takes limits = bracketed-takes tuple_bytes _ (listed-takes text_bytes _ (literal-takes limits))
 
 -- the names of tables and columns count for nothing
-name-takes : (limits : Limits) → Takes none (rules.name limits)
+pub name-takes : (limits : Limits) → Takes none (rules.name limits)
 unfolding rules.name
 name-takes limits value terminals rest by = let less = written-less by.1 in omega arith
 
-names-takes : (limits : Limits) → Takes none (bracketed (rules.names limits))
+pub names-takes : (limits : Limits) → Takes none (bracketed (rules.names limits))
 unfolding rules.names
 names-takes limits value terminals rest by =
     let names = bracketed-takes (sum_by none) _ (listed-takes none _ (name-takes limits)) value terminals rest by in
@@ -191,7 +191,7 @@ statement-takes limits levels value terminals (inr (inr (inr (inr (inr (inr (inl
 statement-takes limits levels value terminals (inr (inr (inr (inr (inr (inr (inr by))))))) = rw (gdpr-none limits value terminals [] by) (omega arith)
 
 -- from the byte from which on a text isn't cut yet, its terminals lie one after another up to its end
-cut-within : (lexing : Lexing) (tokens : List Token) → IsCutInto lexing tokens → lexing.at + written (map terminal_of tokens) ≤ length lexing.text
+pub cut-within : (lexing : Lexing) (tokens : List Token) → IsCutInto lexing tokens → lexing.at + written (map terminal_of tokens) ≤ length lexing.text
 cut-within lexing [] ends = let within = ends.onward in omega arith
 cut-within lexing (token ∷ tokens) (inl (next, cut)) =
     let after = cut-within (record lexing { at = token.end }) tokens cut in
