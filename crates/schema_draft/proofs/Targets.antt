@@ -1,13 +1,10 @@
 -- The tables that names stand for, among tables.
-use Rattle.std.proofs.Common.{◌≡◌, ℕ, ◌<◌, Bool, true, false, cond, List, [], ◌∷◌, ◌++◌, length, slice_get, nat_lt, Option, None, Some, refl, sym, ap, ◌∙◌, bytes_eq, arith, rules}
-use Rattle.std.proofs.lemmas.Grind.{common_steps}
+use Rattle.std.proofs.Common.{◌≡◌, ℕ, Bool, true, false, cond, List, [], ◌∷◌, ◌++◌, length, slice_get, nat_lt, Option, None, Some, refl, sym, ap, ◌∙◌, bytes_eq, arith}
 use Rattle.std.specs.List.{find, position, position_or_len}
 use Rattle.std.specs.Option.{option_and_then, option_or, option_map}
 use Rattle.std.proofs.lemmas.List.Folds.{find-append, find_at}
-use Rattle.std.proofs.lemmas.Bool.{cases_lt}
 use Rattle.std.proofs.lemmas.Bool.Decides.{nat_tests}
 use Rattle.std.proofs.lemmas.Option.{slice_get_past}
-use Rattle.own_base.specs.declared.number.TableNo.{TableNo}
 use Rattle.own_model.specs.declared.schema.TableDef.{TableDef}
 use Rattle.schema_model.specs.Columns.{NameBytes}
 

@@ -1,7 +1,6 @@
-use Rattle.std.proofs.Common.{◌≡◌, ap, ◌∙◌, ◌++◌, ◌∷◌, [], Option, Some, None, bytes_eq, refl}
-use Rattle.std.specs.Borrow.{Bor}
+use Rattle.std.proofs.Common.{◌≡◌, ap, ◌∙◌, ◌++◌, ◌∷◌, [], bytes_eq}
 use Rattle.std.specs.List.{find}
-use Rattle.std.specs.Option.{option_copied, option_map, option_or}
+use Rattle.std.specs.Option.{option_copied, option_or}
 use Rattle.schema_draft.proofs.Targets.{find-more, option_map-or}
 use Rattle.schema_draft.proofs.named_table.target.Goals as goal
 

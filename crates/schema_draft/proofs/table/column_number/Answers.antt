@@ -10,6 +10,6 @@ returns-clause-number c =
     let name = c.args.name.now in
     let columns = c.columns.result.now in
     let found : c.position.result ≡ position (λ column. bytes_eq column.now.name name) columns =
-        position_from_yields_List (λ column. bytes_eq column.now.name name) _ _ c.position.result c.position.ensures.ran (YieldsList-from_slice columns cc) (λ x b q k. search (rules, tests)) in
+    position_from_yields_List (λ column. bytes_eq column.now.name name) _ _ c.position.result c.position.ensures.ran (YieldsList-from_slice columns cc) (λ x b q k. search (rules, tests)) in
     found ∙ position-map (λ column. bytes_eq column.name name) (λ column. column.now) columns
     ∙ ap (position (λ column. bytes_eq column.name name)) c.columns.ensures
