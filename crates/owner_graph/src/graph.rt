@@ -35,7 +35,8 @@ impl Graph {
     /// the fault tells of it.
     ///
     /// It takes time in proportion to the tables and the edges. Where there is no graph, it takes that time once more for each
-    /// table above the one that is told from which a walk leads to a closed one, though it lies on none itself.
+    /// table above the one that is told from which a walk leads to a closed one, though it lies on none itself. Where the
+    /// edges had a graph before the last table and its edges came there is no such table, since the last one is told.
     pub fn with_edges(alloc: Global, tables: u32, edges: &[Edge]) -> Result<Graph, GraphFault>
         requires { AreWithin tables edges.now }
         ensures graph { IfOk result (IsGraphOf tables edges.now) }
