@@ -1,4 +1,4 @@
+pub mod EdgesWithin
 pub mod OwnedRows
 pub mod RuleNames
-pub mod SameEnds
 pub mod SoundSchemas
