@@ -1,4 +1,5 @@
+pub mod EdgesWithin
 pub mod OwnedRows
+pub mod OwnedTables
 pub mod RuleNames
-pub mod SameEnds
 pub mod SoundSchemas

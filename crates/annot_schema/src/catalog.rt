@@ -7,6 +7,7 @@ ghost use Rattle.annot_schema.specs.Created.{IsAdmissible, IsAdmitted, IsSound, 
 
 use crate::admitted::Admitted;
 use crate::explain::explained;
+use crate::longer::{with_item, with_items};
 use own_base::{List, MakeCopy, Text};
 use own_model::{CreateText, Reply, Schema};
 use schema_draft::Names;
@@ -33,33 +34,6 @@ impl Model for Catalog {
     ghost view = { λ catalog. record { schema = catalog.schema; creates = catalog.creates } };
 
     ghost invariant = { λ catalog. IsCatalog catalog.names catalog.schema };
-}
-
-/// The items, and one more.
-fn with_item<T: MakeCopy + Drop>(
-    alloc: Global,
-    items: &List<T>,
-    item: T,
-) -> Result<List<T>, AllocError>
-    ensures { IfOk result (λ all. all ≡ items.now ++ item ∷ []) }
-{
-    let mut all = items.copy(alloc)?;
-    all.add(item)?;
-    Ok(all)
-}
-
-/// The items, and others after them.
-fn with_items<T: MakeCopy + Drop>(
-    alloc: Global,
-    items: &List<T>,
-    others: List<T>,
-) -> Result<List<T>, AllocError>
-    ensures { IfOk result (λ all. all ≡ items.now ++ others) }
-{
-    let mut all = items.copy(alloc)?.into_vec();
-    let mut others = others.into_vec();
-    all.append(&mut others)?;
-    Ok(List::from_vec(all))
 }
 
 /// The schema with a table and its edges at the end.

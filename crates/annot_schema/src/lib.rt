@@ -9,6 +9,7 @@ mod explain;
 mod fault;
 mod limits;
 mod line;
+mod longer;
 mod look_up;
 mod rows;
 mod walks;

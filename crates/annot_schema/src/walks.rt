@@ -1,83 +1,73 @@
-ghost use Rattle.std.specs.Prelude.{◌≡◌, ◌<◌, ◌^◌, length, IfOk};
-ghost use Rattle.schema_draft.specs.Lent.{reference_seen};
-ghost use Rattle.schema_draft.specs.Names.{AreNamesOf};
-ghost use Rattle.annot_schema.specs.Walks.{joined_by, joined_on, joining, walk_edges};
+//! Closed walks over the edges of a schema and those that a CREATE TABLE adds.
+ghost use Rattle.std.specs.Prelude.{◌≡◌, ◌≤◌, ◌<◌, ◌+◌, ◌^◌, ◌++◌, length, option_map, IfOk, IfSome};
+ghost use Rattle.owner_model.specs.AreWithin.{AreWithin};
+ghost use Rattle.owner_model.specs.Cycle.{cycle_of};
+ghost use Rattle.schema_model.specs.NewEdges.{new_edges};
+ghost use Rattle.schema_model.specs.OwnerSchema.{IsOwnerSchema};
+ghost use Rattle.schema_model.specs.Refusal.{closed, name_of};
+ghost use Rattle.annot_schema.specs.ClosedWalk.{IsWithin, cycle_seen};
+ghost use Rattle.annot_schema.specs.Told.{Tells};
 
-use own_base::{ColNo, ColumnSet, EdgeNo, List, MakeCopy, TableNo};
-use own_model::{ColumnDef, Edge, Schema};
-use schema_draft::{Draft, Names, Reference, gives_edge, is_upward, number_of};
+use crate::fault::SchemaFault;
+use crate::longer::with_items;
+use own_base::{List, MakeCopy, Name, TableNo};
+use own_model::{CreateTable, Edge, Schema};
+use owner_graph::{Graph, GraphFault};
 use std::alloc::{AllocError, Global};
 
-/// An edge of which nothing but its tables is said.
-fn joining(lower: TableNo, upper: TableNo) -> Edge
-    ensures { result ≡ joining lower upper }
+/// A closed walk, by two of its tables.
+#[derive(Clone, Copy)]
+struct ClosedWalk {
+    table: TableNo,
+    through: TableNo,
+}
+
+/// The closed walk that edges between so many tables have, where they have one.
+fn closed_walk(alloc: Global, tables: u32, edges: &[Edge]) -> Result<Option<ClosedWalk>, AllocError>
+    requires { AreWithin tables edges.now }
+    ensures told { IfOk result (λ walk. option_map cycle_seen walk ≡ cycle_of tables edges.now) }
+    ensures within { IfOk result (λ walk. IfSome walk (λ walk. IsWithin tables walk)) }
 {
-    Edge {
-        number: EdgeNo(0),
-        lower,
-        upper,
-        holder: lower,
-        column: ColNo(0),
-        owner: false,
-        get: ColumnSet(0),
-        del: ColumnSet(0),
-        strike: false,
+    match Graph::with_edges(alloc, tables, edges) {
+        Ok(graph) => {
+            std::mem::drop(graph);
+            Ok(None)
+        }
+        Err(GraphFault::Cycle { table, through }) => Ok(Some(ClosedWalk { table, through })),
+        Err(GraphFault::Memory) => Err(AllocError),
     }
 }
 
-/// The tables that a reference of the new table joins, where it gives an edge.
-#[tactic(auto, unfolding(crate::specs::Walks::joined_by))]
-fn joined_by(schema: &Schema, names: &Names, reference: Reference<'_>) -> Option<Edge>
-    requires named { AreNamesOf names.now schema.now }
-    requires tables { length schema.now.tables < 2 ^ 32 }
-    ensures { result ≡ joined_by schema.now (reference_seen reference.entry) }
+/// The name of a table, of the schema or the new one.
+fn name_of<'a>(schema: &'a Schema, create: &'a CreateTable, table: TableNo) -> &'a Name
+    requires { table.0 ≤ length schema.now.tables }
+    ensures { result.now ≡ name_of schema.now create.now table.0 }
 {
-    let refers = reference.refers;
-    let itself = TableNo(schema.tables.items().len() as u32);
-    let named = number_of(schema, names, &refers.table);
-    if !gives_edge(refers.kind) {
-        None
-    } else if is_upward(refers.kind) {
-        Some(joining(itself, named))
-    } else {
-        Some(joining(named, itself))
+    match schema.tables.items().get(table.0 as usize) {
+        Some(table) => &table.name,
+        None => &create.name,
     }
 }
 
-/// Those that a column's reference joins.
-fn joined_on(
-    schema: &Schema,
-    names: &Names,
-    draft: &Draft<'_>,
-    column: &ColumnDef,
-) -> Option<Edge>
-    requires named { AreNamesOf names.now schema.now }
-    requires tables { length schema.now.tables < 2 ^ 32 }
-    ensures { result ≡ joined_on schema.now draft.now column.now }
-{
-    match draft.reference_on(&column.name) {
-        Some(reference) => joined_by(schema, names, reference),
-        None => None,
-    }
-}
-
-/// The edges of the schema, and the tables that the new table's columns join.
-#[tactic(auto, unfolding(crate::specs::Walks::walk_edges))]
-fn walk_edges(
+/// Refuses a CREATE TABLE with whose edges a walk would come back to its table.
+pub fn check_walks(
     alloc: Global,
     schema: &Schema,
-    names: &Names,
-    draft: &Draft<'_>,
-) -> Result<List<Edge>, AllocError>
-    requires named { AreNamesOf names.now schema.now }
-    requires tables { length schema.now.tables < 2 ^ 32 }
-    ensures { IfOk result (λ edges. edges ≡ walk_edges schema.now draft.now) }
+    create: &CreateTable,
+    edges: &List<Edge>,
+) -> Result<(), SchemaFault>
+    requires new { edges.now ≡ new_edges schema.now create.now }
+    requires owner { IsOwnerSchema schema.now }
+    requires tables { length schema.now.tables + 1 < 2 ^ 32 }
+    ensures { Tells (closed schema.now create.now) result }
 {
-    let mut edges = schema.edges.copy(alloc)?;
-    for column in draft.columns() {
-        if let Some(edge) = joined_on(schema, names, draft, column) {
-            edges.add(edge)?;
-        }
+    let edges = with_items(alloc, &schema.edges, edges.copy(alloc)?)?;
+    let tables = schema.tables.items().len() as u32 + 1;
+    match closed_walk(alloc, tables, edges.items())? {
+        Some(walk) => Err(SchemaFault::Cycle {
+            table: name_of(schema, create, walk.table).copy(alloc)?,
+            through: name_of(schema, create, walk.through).copy(alloc)?,
+        }),
+        None => Ok(()),
     }
-    Ok(edges)
 }
