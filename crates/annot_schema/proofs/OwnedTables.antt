@@ -12,12 +12,13 @@ use Rattle.own_model.specs.declared.create.ColumnDef.{ColumnDef}
 use Rattle.own_model.specs.declared.create.CreateTable.{CreateTable}
 use Rattle.own_model.specs.declared.create.Part.{Part}
 use Rattle.own_model.specs.declared.create.Part.TheVariants as part
+use Rattle.own_model.specs.declared.refusal.Refusal.TheVariants.{Cycle as Told}
 use Rattle.own_model.specs.declared.schema.Column.{Column}
 use Rattle.own_model.specs.declared.schema.Edge.{Edge}
 use Rattle.own_model.specs.declared.schema.RefKind.{RefKind}
 use Rattle.own_model.specs.declared.schema.RefKind.TheVariants.{Plain, OwnedBy, Owns, AccessedBy, Accesses}
 use Rattle.own_model.specs.declared.schema.Schema.{Schema}
-use Rattle.owner_model.specs.Cycle.{cycle_of}
+use Rattle.owner_model.specs.Cycle.{Cycle, cycle_of}
 use Rattle.owner_model.specs.Leads.{leads}
 use Rattle.schema_model.specs.Columns.{NameBytes, column_names, column_of, columns_of, is_named}
 use Rattle.schema_model.specs.Kinds.{gives_edge, is_owns, is_upward}
@@ -25,9 +26,11 @@ use Rattle.schema_model.specs.NewEdges.{EdgeColumn, edge_column, edge_columns, n
 use Rattle.schema_model.specs.NewTable.{link_of, new_column, new_table}
 use Rattle.schema_model.specs.OwnerSchema.{IsOwnerSchema}
 use Rattle.schema_model.specs.References.{Reference, part_references, reference_after, reference_on, references_of}
+use Rattle.schema_model.specs.Refusal.{broken, closed, first_broken, name_of}
 use Rattle.schema_model.specs.Tables.{number_of}
 use Rattle.schema_model.specs.rules.MissingColumns.{missing_columns, stands_on}
 use Rattle.schema_model.specs.rules.SecondReferences.{second_references}
+use Rattle.schema_model.proofs.Admitted.{map_none, unbroken}
 use Rattle.schema_model.proofs.ClosedWalks.{leads-edge, leads-unclosed}
 use Rattle.schema_model.proofs.Found.{find-only}
 use Rattle.schema_model.proofs.Names.{distinct-unrepeated, equal_name, one_place, same_name}
@@ -195,3 +198,11 @@ module _ (schema : Schema) (create : CreateTable) (owner : IsOwnerSchema schema)
       let differs = not_itself (number_of schema reference.refers.table) own in
       let near = number_of-le schema reference.refers.table in
       omega arith)
+
+-- where no rule is broken and no walk is closed
+pub owns_tables-unbroken : (schema : Schema) (create : CreateTable) → IsOwnerSchema schema → first_broken 1 (broken schema create) ≡ None → closed schema create ≡ None → OwnsTablesOf schema create
+unfolding broken
+owns_tables-unbroken schema create owner kept unclosed =
+    let each = unbroken 1 (broken schema create) kept in
+    let none = map_none (λ (cycle : Cycle). Told (name_of schema create cycle.table) (name_of schema create cycle.through)) (cycle_of (length schema.tables + 1) (schema.edges ++ new_edges schema create)) unclosed in
+    owns_tables schema create owner none each.1.1.0 each.1.1.1.0

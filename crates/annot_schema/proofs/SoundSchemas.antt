@@ -1,5 +1,5 @@
 -- The schemas that admitted creates give.
-use Rattle.std.proofs.Common.{◌≡◌, ◌≤◌, ℕ, suc, List, ◌∷◌, [], ◌++◌, length, Bool, arith, sym, subst}
+use Rattle.std.proofs.Common.{◌≡◌, ◌<◌, ◌^◌, ◌+◌, ◌≤◌, ℕ, suc, List, ◌∷◌, [], ◌++◌, length, Bool, arith, sym, subst}
 use Rattle.std.specs.Prelude.{Option, None, Some, filter_map}
 use Rattle.std.specs.List.{cons_option, enumerate_from}
 use Rattle.std.proofs.lemmas.List.{length-append, length-map}
@@ -71,3 +71,8 @@ sound-with_table schema holds_rows create sound none = record {
 pub sound-with : (schema : Schema) (admitted : Admitted) → IsSound schema → IsAdmissible schema admitted → IsSound (schema_with schema admitted)
 sound-with schema admitted sound by =
     subst IsSound (sym (schema_with-admitted schema by.holds_rows by.create admitted by.by)) (sound-with_table schema by.holds_rows by.create sound by.by.unrefused)
+
+-- there is room for the numbers of the edges that a CREATE adds
+pub edges-room : (schema : Schema) (create : CreateTable) → IsSound schema → length (columns_of create) < 2 ^ 31 → length schema.edges + length (new_table schema create).columns ≤ 2 ^ 32
+unfolding new_table
+edges-room schema create sound columns = omega (arith, sound.edges, sound.within.tables, length-map (columns_of create) (new_column schema create))

@@ -1,15 +1,21 @@
-ghost use Rattle.std.specs.Prelude.{◌≡◌, ◌∷◌, [], ◌++◌, ℕ, Bool, IfOk};
+ghost use Rattle.std.specs.Prelude.{◌≡◌, ◌<◌, ◌^◌, ◌∷◌, [], ◌++◌, ℕ, Bool, length, IfOk, IfErr};
+ghost use Rattle.own_model.specs.Stored.{holds_rows};
 ghost use Rattle.own_model.specs.declared.create.CreateTable.{CreateTable};
 ghost use Rattle.own_model.specs.declared.reply.Reply.TheVariants.{Graph};
+ghost use Rattle.schema_model.specs.Columns.{columns_of};
 ghost use Rattle.schema_model.specs.Explained.{explained};
+ghost use Rattle.schema_model.specs.Refusal.{refusal_of};
 ghost use Rattle.schema_model.specs.WithTable.{with_table};
 ghost use Rattle.annot_schema.specs.Created.{IsAdmissible, IsAdmitted, IsSound, created_with, nothing_created, schema_with};
+ghost use Rattle.annot_schema.specs.Told.{IsCause};
 
+use crate::admit::admit;
 use crate::admitted::Admitted;
 use crate::explain::explained;
+use crate::fault::SchemaFault;
 use crate::longer::{with_item, with_items};
 use own_base::{List, MakeCopy, Text};
-use own_model::{CreateText, Reply, Schema};
+use own_model::{CreateTable, CreateText, Reply, Schema, StoreView};
 use schema_draft::Names;
 use std::alloc::{AllocError, Global};
 use std::marker::Model;
@@ -87,6 +93,23 @@ impl Catalog {
         ensures { IfOk result (λ reply. reply ≡ Graph (explained self.now.schema)) }
     {
         Ok(Reply::Graph(explained(alloc, &self.schema)?))
+    }
+
+    /// The table and the edges that a CREATE TABLE adds, where it is admitted over the rows that the view has; else the
+    /// first cause for which it isn't.
+    pub fn admit<V: StoreView>(
+        &self,
+        alloc: Global,
+        view: &V,
+        create: &CreateTable,
+    ) -> Result<Admitted, SchemaFault>
+        requires viewed { V.schema_of view.now ≡ self.now.schema }
+        requires columns { length (columns_of create.now) < 2 ^ 31 }
+        ensures admitted { IfOk result (IsAdmitted self.now.schema (holds_rows (V.rows view.now)) create.now) }
+        ensures admissible { IfOk result (IsAdmissible self.now.schema) }
+        ensures refused { IfErr result (IsCause (refusal_of self.now.schema (holds_rows (V.rows view.now)) create.now)) }
+    {
+        admit(alloc, view, &self.schema, &self.names, create)
     }
 
     /// This catalog with a table and edges that were admitted over its schema, and with the text of their create.

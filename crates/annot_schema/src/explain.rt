@@ -6,9 +6,10 @@ ghost use Rattle.text_model.specs.Canonical.{ref_kind_word};
 
 use crate::column_set::has_column;
 use crate::line::Line;
-use crate::look_up::{column_at, columns_at, is_private, is_subject, table_name};
+use crate::look_up::{column_at, columns_at, table_name};
 use own_base::{ColumnSet, List, Name, TableNo, Text};
 use own_model::{Column, Edge, RefKind, Schema, TableDef};
+use schema_rules::{is_private, is_subject};
 use std::alloc::{AllocError, Global};
 
 /// What a table is to data subjects.

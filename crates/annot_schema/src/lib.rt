@@ -2,6 +2,7 @@
 //! TABLE it admits.
 #![tactic(auto)]
 
+mod admit;
 mod admitted;
 mod catalog;
 mod column_set;

@@ -1,7 +1,6 @@
 ghost use Rattle.std.specs.Prelude.{◌≡◌, slice_get};
 ghost use Rattle.std.specs.Option.{option_copied};
 ghost use Rattle.schema_model.specs.Explained.{column_at, columns_at, table_name};
-ghost use Rattle.schema_model.specs.Tables.{is_private, is_subject};
 
 use own_base::{ColNo, TableNo};
 use own_model::{Column, Schema, TableDef};
@@ -41,25 +40,4 @@ pub fn table_name(schema: &Schema, table: TableNo) -> &str
         Some(table) => table.name.as_str(),
         None => "",
     }
-}
-
-/// Whether the rows of a table are data subjects.
-pub fn is_subject(schema: &Schema, table: usize) -> bool
-    ensures { result ≡ is_subject schema.now table }
-{
-    match schema.tables.items().get(table) {
-        Some(table) => table.subject,
-        None => false,
-    }
-}
-
-/// Whether a table is private: an owner edge goes out of it.
-pub fn is_private(schema: &Schema, table: usize) -> bool
-    ensures { result ≡ is_private schema.now table }
-{
-    schema
-        .edges
-        .items()
-        .iter()
-        .any(|edge| edge.owner && edge.lower.0 as usize == table)
 }

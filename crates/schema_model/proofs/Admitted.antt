@@ -42,7 +42,7 @@ or_none : {T : Type 0} (one other : Option T) → option_or one other ≡ None �
 or_none None other none = (refl, none)
 or_none (Some why) other none = let never : ⊥ = cc in absurd never
 
-map_none : {T U : Type 0} (f : T → U) (o : Option T) → option_map f o ≡ None → o ≡ None
+pub map_none : {T U : Type 0} (f : T → U) (o : Option T) → option_map f o ≡ None → o ≡ None
 map_none f None none = refl
 map_none f (Some x) none = cc
 

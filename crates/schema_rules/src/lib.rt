@@ -11,3 +11,4 @@ mod scene;
 mod tables;
 
 pub use broken::{Broken, broken_rule};
+pub use tables::{is_private, is_subject};

@@ -5,7 +5,7 @@ ghost use Rattle.schema_model.specs.Tables as spec;
 use own_model::Schema;
 
 /// Whether the rows of the table of this number are data subjects.
-fn is_subject(schema: &Schema, table: usize) -> bool
+pub fn is_subject(schema: &Schema, table: usize) -> bool
     ensures { result ≡ spec.is_subject schema.now table }
 {
     schema
@@ -16,7 +16,7 @@ fn is_subject(schema: &Schema, table: usize) -> bool
 }
 
 /// Whether an owner edge goes out of it.
-fn is_private(schema: &Schema, table: usize) -> bool
+pub fn is_private(schema: &Schema, table: usize) -> bool
     ensures { result ≡ spec.is_private schema.now table }
 {
     schema
