@@ -47,8 +47,8 @@ fn first_to_break<'a>(scene: &Scene<'_, 'a>, rule: u32) -> Option<&'a Name>
     }
 }
 
-/// The first rule that the CREATE breaks over the schema, and the first name that breaks it; none where it breaks no rule.
-/// The table is the one that the CREATE adds.
+/// The first rule that the CREATE breaks over the schema, and the first name that breaks it; none where it breaks no
+/// rule. The table is the one that the CREATE adds.
 pub fn broken_rule<'a>(
     schema: &Schema,
     names: &Names,

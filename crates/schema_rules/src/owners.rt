@@ -1,4 +1,4 @@
-//! The rules of owners: nobody owns a data subject, the public owns nothing, and what owns has an owner.
+//! The rules of owners: nobody owns a data subject, a public table owns nothing, and what owns has an owner.
 ghost use Rattle.std.specs.Prelude.{◌≡◌, slice_get};
 ghost use Rattle.std.specs.Option.{option_copied};
 ghost use Rattle.schema_draft.specs.Lent.{reference_seen};
