@@ -1,5 +1,8 @@
-//! Tests of the ownership graph, by its public calls, on edges whose orders and closed walks were worked out by hand.
+//! Tests of the ownership graph and of what its edges rule, by the public calls, on edges whose orders, closed walks and
+//! columns were worked out by hand.
 #![tactic(auto)]
 
 #[cfg(test)]
 mod graphs;
+#[cfg(test)]
+mod ruled;
