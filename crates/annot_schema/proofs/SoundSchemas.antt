@@ -73,6 +73,5 @@ sound-with schema admitted sound by =
     subst IsSound (sym (schema_with-admitted schema by.holds_rows by.create admitted by.by)) (sound-with_table schema by.holds_rows by.create sound by.by.unrefused)
 
 -- there is room for the numbers of the edges that a CREATE adds
-pub edges-room : (schema : Schema) (create : CreateTable) → IsSound schema → length (columns_of create) < 2 ^ 31 → length schema.edges + length (new_table schema create).columns ≤ 2 ^ 32
-unfolding new_table
-edges-room schema create sound columns = omega (arith, sound.edges, sound.within.tables, length-map (columns_of create) (new_column schema create))
+pub edges-room : (schema : Schema) (create : CreateTable) → IsSound schema → length (columns_of create) < 2 ^ 31 → length schema.edges + length (columns_of create) ≤ 2 ^ 32
+edges-room schema create sound columns = omega (arith, sound.edges, sound.within.tables)

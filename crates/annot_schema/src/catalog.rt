@@ -1,4 +1,4 @@
-ghost use Rattle.std.specs.Prelude.{◌≡◌, ◌<◌, ◌^◌, ◌∷◌, [], ◌++◌, ℕ, Bool, length, IfOk, IfErr};
+ghost use Rattle.std.specs.Prelude.{◌≡◌, ◌<◌, ◌^◌, ◌∷◌, [], ◌++◌, ℕ, Bool, bytes_eq, length, option_map, position, IfOk, IfErr};
 ghost use Rattle.own_model.specs.Stored.{holds_rows};
 ghost use Rattle.own_model.specs.declared.create.CreateTable.{CreateTable};
 ghost use Rattle.own_model.specs.declared.reply.Reply.TheVariants.{Graph};
@@ -14,7 +14,7 @@ use crate::admitted::Admitted;
 use crate::explain::explained;
 use crate::fault::SchemaFault;
 use crate::longer::{with_item, with_items};
-use own_base::{List, MakeCopy, Text};
+use own_base::{List, MakeCopy, Name, TableNo, Text};
 use own_model::{CreateTable, CreateText, Reply, Schema, StoreView};
 use schema_draft::Names;
 use std::alloc::{AllocError, Global};
@@ -86,6 +86,13 @@ impl Catalog {
         ensures { result.now ≡ self.now.creates }
     {
         self.creates.items()
+    }
+
+    /// The number of the table of this name. Takes no memory.
+    pub fn table(&self, name: &Name) -> Option<TableNo>
+        ensures { option_map (λ number. number.0) result ≡ position (λ table. bytes_eq table.name name.now) self.now.schema.tables }
+    {
+        self.names.table(name)
     }
 
     /// The answer to EXPLAIN COMPLIANCE.

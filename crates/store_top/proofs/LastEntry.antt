@@ -1,10 +1,18 @@
--- The last entry of a history, which memory may keep from being made.
-use Rattle.std.proofs.Common.{◌≡◌, ℕ, [], ◌∷◌, ◌++◌, length, take, ap, subst, ◌∙◌}
-use Rattle.std.specs.Prelude.{slice_index_or}
+-- The last entry of a history, which is the one that a call makes, and which memory may keep from being made.
+use Rattle.std.proofs.Common.{◌≡◌, ℕ, Bool, true, false, [], ◌∷◌, ◌++◌, length, take, ap, subst, ◌∙◌}
+use Rattle.std.specs.Prelude.{slice_index_or, if◌then◌else◌}
 use Rattle.std.proofs.Math.Seq.{get_or-append_seam, take-append_seam}
 use Rattle.own_model.specs.declared.history.Entry.{Entry}
+use Rattle.own_model.specs.declared.request.Request.{Request}
+use Rattle.own_model.specs.declared.request.Request.TheVariants.{Run, Syntax, Limit, End}
+use Rattle.own_model.specs.declared.schema.Schema.{Schema}
+use Rattle.own_model.specs.declared.script.ScriptCall.{ScriptCall}
+use Rattle.own_model.specs.declared.statement.Statement.{Statement}
 use Rattle.own_model.specs.Db.{empty}
+use Rattle.grammar_model.specs.Readable.{IsReadable}
+use Rattle.history_model.specs.Built.{built}
 use Rattle.history_model.specs.History.{History, flat}
+use Rattle.history_model.specs.Made.{entry_of}
 use Rattle.history_model.specs.MayBeUnmade.{MayBeUnmade}
 
 -- what is said of the last place is said of the entry that was put there
@@ -18,3 +26,23 @@ unmade-last before after entry last grown place cause =
     let P : History → Type 0 = λ h. MayBeUnmade (flat empty h) (slice_index_or after last entry).request in
     let Q : Entry → Type 0 = λ e. MayBeUnmade (flat empty before) e.request in
     subst Q own (subst P front (cause entry))
+
+-- a statement of a call can be read, if the call's request can
+readable_step : (statement : Statement) (b : Bool) → IsReadable (Run statement) → IsReadable (if b then Run statement else Syntax 0)
+readable_step statement true readable = readable
+readable_step statement false readable = tt
+
+readable-built : (schema : Schema) (session : ℕ) (request : Request) → IsReadable request → IsReadable (built schema session request)
+unfolding built
+readable-built schema session (Run statement) readable = readable_step statement _ readable
+readable-built schema session (Syntax byte) readable = readable
+readable-built schema session (Limit passed) readable = readable
+readable-built schema session End readable = readable
+
+-- so can the request of its entry, which is put last
+pub readable-last : (before after : History) (call : ScriptCall) (last : ℕ) → after ≡ before ++ entry_of empty before call ∷ [] → last ≡ length before
+    → IsReadable call.request → (default : Entry) → IsReadable (slice_index_or after last default).request
+readable-last before after call last grown place readable default =
+    let own : slice_index_or after last default ≡ entry_of empty before call = ap (λ n. slice_index_or after n default) place
+    ∙ (ap (λ h. slice_index_or h (length before) default) grown ∙ get_or-append_seam before (entry_of empty before call) [] default) in
+    rw own (readable-built (flat empty before).schema call.session.0 call.request readable)

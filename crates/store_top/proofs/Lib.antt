@@ -1,6 +1,12 @@
+pub mod CreatedTables
+pub mod FewColumns
+pub mod FittingValues
 pub mod LastEntry
+pub mod NamedRows
 pub mod Placed
-pub mod Put
+pub mod PutRows
 pub mod Results
 pub mod Runs
 pub mod Serving
+pub mod StateRows
+pub mod StoredTables

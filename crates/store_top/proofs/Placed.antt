@@ -1,6 +1,6 @@
 -- Where a row goes among rows whose keys rise strictly.
 use Rattle.std.proofs.Common.{◌≡◌, ℕ, zero, suc, ◌<◌, ◌≤◌, List, [], ◌∷◌, length, map, Bool, true, false, ◌||◌, refl, ap, sym, ◌∙◌, arith}
-use Rattle.std.specs.Prelude.{slice_index_or}
+use Rattle.std.specs.Prelude.{Some, None, find, slice_index_or}
 use Rattle.std.specs.List.{AllByRecursion, HoldsAt, insert, list_any}
 use Rattle.std.specs.Prelude.{Result, Ok, Err, IfOk, IfErr}
 use Rattle.std.specs.List.Sorted.{IsStrictlySortedBy, IsNonDecreasingBy, IsBinarySearchResult, IsSearchInRange}
@@ -12,10 +12,9 @@ use Rattle.own_base.specs.Key.{key_cmp}
 use Rattle.own_base.specs.declared.value.Key.{Key}
 use Rattle.own_model.specs.declared.schema.TableDef.{TableDef}
 use Rattle.own_model.proofs.KeyOrder.{key_order}
-use Rattle.own_model.specs.Db.{Row, key_of, IsRising, AreRising}
-use Rattle.history_model.specs.Run.{with_row, with_tuple, has_key}
-use Rattle.store_top.specs.declared.flat.Table.{Table}
-use Rattle.store_top.specs.Flat.{definition, rows_of}
+use Rattle.own_model.specs.Db.{Row, key_of, IsRising}
+use Rattle.own_model.specs.Stored.{has_key}
+use Rattle.history_model.specs.Run.{with_row, with_tuple}
 use Rattle.store_top.specs.Gap.{IsGap}
 
 -- what holds of each element holds of the element at a place
@@ -30,12 +29,15 @@ index_le_two Less = omega arith
 index_le_two Equal = omega arith
 index_le_two Greater = omega arith
 
+-- a smaller key is below what equals the greater one
+less_equal : {K : Type 0} {R : K → K → Ordering} → IsTotalOrder R → (a b q : K) → R a b ≡ Less → R b q ≡ Equal → R a q ≡ Less
+less_equal order a b q less is =
+    order.antisymm a q ∙ ap ordering_reverse (sym (order.congr b q a is)) ∙ sym (order.antisymm a b) ∙ less
+
 -- a smaller key stands to a third no later than a greater one
 index_rises : {K : Type 0} {R : K → K → Ordering} → IsTotalOrder R → (a b q : K) → R a b ≡ Less → (o : Ordering) → R b q ≡ o → ordering_index (R a q) ≤ ordering_index (R b q)
 index_rises order a b q less Less is = rw (order.trans a b q less is) (omega arith)
-index_rises order a b q less Equal is =
-    let same = order.antisymm a q ∙ ap ordering_reverse (sym (order.congr b q a is)) ∙ sym (order.antisymm a b) ∙ less in
-    rw same (omega arith)
+index_rises order a b q less Equal is = rw (less_equal order a b q less is) (omega arith)
 index_rises {R = R} order a b q less Greater is = rw is (index_le_two (R a q))
 
 module _ {X K : Type 0} (k : X → K) {R : K → K → Ordering} (order : IsTotalOrder R) where
@@ -86,6 +88,22 @@ module _ (table : TableDef) (key : Key) where
   list_any-found (first ∷ rest) zero lt found = rw (found first) refl
   list_any-found (first ∷ rest) (suc i) lt found = rw (list_any-found rest i (omega arith) found) (or_true _)
 
+  -- the row that has the key is the first that is looked for
+  pub find-found : (rows : List Row) (i : ℕ) (d : Row) → IsRising table rows → i < length rows → HoldsAt (λ row. key_cmp (key_of table row) key ≡ Equal) rows i
+      → find (has_key table key) rows ≡ Some (slice_index_or rows i d)
+  unfolding IsStrictlySortedBy
+  find-found [] i d rising lt found = absurd (omega arith)
+  find-found (first ∷ rest) zero d rising lt found = rw (found first) refl
+  find-found (first ∷ rest) (suc i) d rising lt found =
+      let below = all_at (λ row. key_cmp (key_of table first) (key_of table row) ≡ Less) rest i d (all_above (key_of table) key_order first rest rising.0) (omega arith) in
+      rw (less_equal key_order (key_of table first) (key_of table (slice_index_or rest i d)) key below (found d)) (find-found rest i d rising.1 (omega arith) found)
+
+  -- where no row has it, none is found
+  pub find-gap : (rows : List Row) (i : ℕ) → IsGap table key rows i → find (has_key table key) rows ≡ None
+  find-gap [] i gap = refl
+  find-gap (first ∷ rest) zero gap = rw (gap.behind 0 first (omega arith) (omega arith)) (find-gap rest 0 (gap_tail_zero first rest gap))
+  find-gap (first ∷ rest) (suc i) gap = rw (gap.before 0 first (omega arith) (omega arith)) (find-gap rest i (gap_tail first rest i gap))
+
 -- a row goes where its gap is
 pub with_row-insert : (table : TableDef) (row : Row) (rows : List Row) (i : ℕ) → IsGap table (key_of table row) rows i → with_row table row rows ≡ insert rows i row
 unfolding with_row
@@ -121,10 +139,3 @@ pub with_tuple-gap : (table : TableDef) (rows : List Row) (tuple : Row) (i : ℕ
     → with_tuple table rows tuple ≡ Ok (insert rows i tuple)
 unfolding with_tuple
 with_tuple-gap table rows tuple i gap = rw (list_any-gap table (key_of table tuple) rows i gap) (ap (λ rows. Ok rows) (with_row-insert table tuple rows i gap))
-
--- the rows of a table of the database rise
-pub rising_at : (tables : List Table) (i : ℕ) (default : Table) → AreRising (map definition tables) (map rows_of tables) → i < length tables
-    → IsRising (definition (slice_index_or tables i default)) (rows_of (slice_index_or tables i default))
-rising_at [] i default rising lt = absurd (omega arith)
-rising_at (table ∷ tables) zero default rising lt = rising.0
-rising_at (table ∷ tables) (suc i) default rising lt = rising_at tables i default rising.1 (omega arith)

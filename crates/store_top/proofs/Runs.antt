@@ -81,7 +81,7 @@ module _ (remaining_old remaining_new written_old written_new : Option (List ℕ
 
 -- the empty history is Serial
 pub serial-none : (history : History) → history ≡ [] → Serial empty history
-serial-none history is = subst (Serial empty) (sym is) (serial-few [] (omega arith) tt tt)
+serial-none history is = subst (Serial empty) (sym is) (serial-few [] (omega arith) (omega arith) tt tt)
 
 serial_stopped : (bytes : List ℕ) (calls : List ScriptCall) (history : History) (Told : List ℕ → List ℕ → Type 0) → HasCalls bytes calls
     → StopsAtCall calls history Told → Serial empty history

@@ -13,7 +13,7 @@ use Rattle.transcript_model.proofs.PrintedLemmas.{CallsWithin, EntriesWithin}
 use Rattle.transcript_model.proofs.TranscriptLemmas.{calls_within-more, entries_within-more, transcript-more, transcript-none}
 use Rattle.store_top.specs.declared.steps.RunFault.{RunFault}
 use Rattle.store_top.specs.declared.steps.RunFault.TheVariants.{Write, Memory}
-use Rattle.store_top.specs.Steps.{RunsTo, MakesCallTo, StopsAtCall, TellsCall, ToldBefore, ToldInPart}
+use Rattle.store_top.specs.Steps.{AreReadable, RunsTo, MakesCallTo, StopsAtCall, TellsCall, ToldBefore, ToldInPart}
 
 -- bytes that were appended one after another
 pub appends-more : (old mid new : Option (List ℕ)) (first second : List ℕ) → Appends old mid first → Appends mid new second → Appends old new (first ++ second)
@@ -40,6 +40,7 @@ pub record Serving (calls done rest : List ScriptCall) (history : History) (old 
   pub whole : done ++ rest ≡ calls
   pub runs : RunsTo done history old new
   pub numbered : AreNumbered done rest
+  pub readable : AreReadable rest
   pub calls_within : CallsWithin done done
   pub entries_within : EntriesWithin done history
   pub few : length history ≤ length done
@@ -50,11 +51,12 @@ few_added history call Unshown = omega (arith, length-append history (entry_of e
 few_added history call Unmade = rw append-nil (omega arith)
 
 -- none is served yet
-pub serving-none : (calls : List ScriptCall) (old : Option (List ℕ)) → AreNumbered [] calls → Serving calls [] calls [] old old
-serving-none calls old numbered = record {
+pub serving-none : (calls : List ScriptCall) (old : Option (List ℕ)) → AreNumbered [] calls → AreReadable calls → Serving calls [] calls [] old old
+serving-none calls old numbered readable = record {
   whole = refl;
   runs = record { text = []; transcript = transcript-none empty; written = appends-nothing old };
   numbered = numbered;
+  readable = readable;
   calls_within = tt;
   entries_within = tt;
   few = omega arith;
@@ -75,6 +77,7 @@ serving-more calls done call rest history after old mid new before served step =
         written = appends-more old mid new _ _ before.runs.written step.written;
       };
       numbered = before.numbered.1;
+      readable = before.readable.1;
       calls_within = calls_within-more done call next before.calls_within;
       entries_within = rw step.history_is (entries_within-more empty done history call step.want next before.entries_within);
       few = let le = before.few in let more = few_added history call step.want in rw long (rw step.history_is (omega arith));

@@ -1,7 +1,8 @@
 pub mod Engine
-pub mod Flat
 pub mod Gap
 pub mod KeyRef
+pub mod Put
+pub mod State
 pub mod Status
 pub mod Steps
 pub mod Top

@@ -1,14 +1,20 @@
 -- What serving calls one after another does to a history and a sink.
 use Rattle.std.specs.Prelude.{◌≡◌, ℕ, ◌<◌, List, [], ◌∷◌, ◌++◌, length, Option, take, Result, Ok, Err, IfOk}
 use Rattle.std.specs.Io.KnownBytes.{Appends}
+use Rattle.std.specs.List.{AllByRecursion}
 use Rattle.own_model.specs.declared.script.ScriptCall.{ScriptCall}
 use Rattle.own_model.specs.Db.{empty}
+use Rattle.grammar_model.specs.Readable.{IsReadable}
 use Rattle.history_model.specs.History.{History, flat}
 use Rattle.history_model.specs.Made.{Want, Unmade, added, entry_of}
 use Rattle.history_model.specs.MayBeUnmade.{MayBeUnmade}
 use Rattle.transcript_model.specs.Transcript.{IsTranscript, text_of_call}
 use Rattle.store_top.specs.declared.steps.RunFault.{RunFault}
 use Rattle.store_top.specs.declared.steps.RunFault.TheVariants.{Write, Memory}
+
+-- each of these calls asks for what a text or a session's end can give
+abbrev pub AreReadable : List ScriptCall → Type 0
+AreReadable calls = AllByRecursion (λ call. IsReadable call.request) calls
 
 -- known bytes grew by a text, and by a part of the next call's text, which isn't all of it
 abbrev pub ToldInPart : Option (List ℕ) → Option (List ℕ) → List ℕ → List ℕ → Type 0

@@ -1,22 +1,23 @@
 ghost use Rattle.std.specs.Prelude.{◌≡◌, ◌+◌, ◌-◌, ◌<◌, ◌≤◌, ◌++◌, ◌∷◌, [], length, take, vec_len, slice_index_or, IfOk, OnOk, OnErr};
 ghost use Rattle.std.specs.Vec.{vec_capacity};
 ghost use Rattle.own_model.specs.Db.{empty};
+ghost use Rattle.grammar_model.specs.Readable.{IsReadable};
 ghost use Rattle.history_model.specs.History.{flat, reply};
 ghost use Rattle.history_model.specs.Made.{entry_of};
 ghost use Rattle.history_model.specs.MayBeUnmade.{MayBeUnmade};
 ghost use Rattle.transcript_model.specs.Printed.{Tells};
 ghost use Rattle.store_top.specs.Engine.{HoldsFlat, HoldsFlatBeforeLast};
 
-use crate::flat::Flat;
+use crate::state::State;
 use own_base::{List, Place};
 use own_model::{Entry, Reply, ScriptCall, Verdict};
 use std::alloc::{AllocError, Global};
 use std::mem::drop;
 
-/// The tables, and the history that made them.
-#[derive(Debug, Drop)]
+/// The state of a store, and the history that made it.
+#[derive(Drop)]
 pub(crate) struct Engine {
-    pub(crate) flat: Flat,
+    pub(crate) state: State,
     pub(crate) history: Vec<Entry>,
 }
 
@@ -37,7 +38,7 @@ impl Engine {
     {
         let history = Vec::with_capacity(alloc, entries)?;
         Ok(Engine {
-            flat: Flat::new(alloc),
+            state: State::new(alloc),
             history,
         })
     }
@@ -46,8 +47,8 @@ impl Engine {
     pub(crate) fn into_history(self) -> List<Entry>
         ensures { result ≡ self.history.items }
     {
-        let Engine { flat, history } = self;
-        drop(flat);
+        let Engine { state, history } = self;
+        drop(state);
         List::from_vec(history)
     }
 
@@ -56,6 +57,7 @@ impl Engine {
     pub(crate) fn step(&mut self, alloc: Global, call: ScriptCall) -> Result<Answered, AllocError>
         requires holds { HoldsFlat self.old }
         requires room { vec_len self.old.history < vec_capacity self.old.history }
+        requires readable { IsReadable call.request }
         ensures holds { HoldsFlat self.new }
         ensures made { OnOk result (self.new.history.items ≡ self.old.history.items ++ entry_of empty self.old.history.items call ∷ []) }
         ensures told { IfOk result (λ answered. (answered.place.0 ≡ length self.old.history.items)
@@ -82,7 +84,7 @@ impl Engine {
         Entry {
             session,
             call,
-            request: self.flat.built(session, request),
+            request: self.state.built(session, request),
             verdict: Verdict::Took,
         }
     }
@@ -91,6 +93,7 @@ impl Engine {
     fn answer_last(&mut self, alloc: Global) -> Result<Answered, AllocError>
         requires before { HoldsFlatBeforeLast self.old }
         requires some { 0 < vec_len self.old.history }
+        requires readable { (default : _) → IsReadable (slice_index_or self.old.history.items (vec_len self.old.history - 1) default).request }
         ensures holds { HoldsFlat self.new }
         ensures made { OnOk result (self.new.history.items ≡ self.old.history.items) }
         ensures told { IfOk result (λ answered. (answered.place.0 + 1 ≡ vec_len self.old.history)
@@ -100,7 +103,7 @@ impl Engine {
         ensures room { vec_capacity self.old.history ≤ vec_capacity self.new.history }
     {
         let last = self.history.len() - 1;
-        match self.flat.answer(alloc, &self.history[last].request) {
+        match self.state.answer(alloc, &self.history[last].request) {
             Ok(reply) => Ok(Answered {
                 place: Place(last as u64),
                 reply,

@@ -26,6 +26,16 @@ pub(crate) fn key_at(row: &[Value], column: usize) -> KeyRef<'_>
     }
 }
 
+/// A key, lent.
+pub(crate) fn lent(key: &Key) -> KeyRef<'_>
+    ensures { key_seen result ≡ key.now }
+{
+    match key {
+        Key::Int(number) => KeyRef::Int(*number),
+        Key::Text(text) => KeyRef::Text(text),
+    }
+}
+
 /// How one key stands to another.
 pub(crate) fn compare(left: KeyRef, right: KeyRef) -> Ordering
     ensures { result ≡ key_cmp (key_seen left.entry) (key_seen right.entry) }

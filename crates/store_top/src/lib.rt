@@ -3,11 +3,14 @@
 #![tactic(auto)]
 
 mod built;
+mod create;
 mod engine;
-mod flat;
 mod key_ref;
+mod rows;
 mod running;
 mod served;
+mod state;
+mod statements;
 mod steps;
 
 pub use running::{run, step};

@@ -8,7 +8,7 @@ ghost use Rattle.history_model.specs.Serial.{Serial};
 ghost use Rattle.store_top.specs.Engine.{HoldsFlat};
 ghost use Rattle.store_top.specs.Status.{status_of};
 ghost use Rattle.store_words.specs.Words.{mode_of};
-ghost use Rattle.store_top.specs.Steps.{ToldBefore, ToldInPart};
+ghost use Rattle.store_top.specs.Steps.{AreReadable, ToldBefore, ToldInPart};
 ghost use Rattle.store_top.specs.Top.{IsBeforeCalls, IsUsageOrMemory, IsWithoutDisk, ReadsAtMost, RefusesInput, RunsInPart, RunsWhole, ServesBytes, ServesCalls};
 
 use crate::engine::Engine;
@@ -45,7 +45,8 @@ fn without_calls(alloc: Global, fault: TopFault) -> Ended
 
 /// Serves calls over no table.
 fn serve_script<W: Sink>(alloc: Global, calls: Vec<ScriptCall>, sink: &mut W) -> Ended
-    requires { AreNumbered [] calls.items }
+    requires numbered { AreNumbered [] calls.items }
+    requires readable { AreReadable calls.items }
     ensures { ServesCalls calls.items result.history (W.written sink.old) (W.written sink.new) (CountRose (W.faults sink.old) (W.faults sink.new))
         ((sink.new ≡ sink.old) × (result.history ≡ [])) result.fault }
 {
@@ -69,6 +70,7 @@ fn serve_engine<W: Sink>(
     requires fresh { engine.history.items ≡ [] }
     requires room { vec_len calls ≤ vec_capacity engine.history }
     requires numbered { AreNumbered [] calls.items }
+    requires readable { AreReadable calls.items }
     ensures { ServesCalls calls.items result.history (W.written sink.old) (W.written sink.new) (CountRose (W.faults sink.old) (W.faults sink.new))
         ((sink.new ≡ sink.old) × (result.history ≡ [])) result.fault }
 {

@@ -1,9 +1,10 @@
 ghost use Rattle.std.specs.Prelude.{◌≡◌, ◌<◌, ◌≤◌, [], vec_len, OnOk, Err};
 ghost use Rattle.std.specs.Vec.{vec_capacity};
 ghost use Rattle.outer_world.specs.FaultCount.{CountRose};
+ghost use Rattle.grammar_model.specs.Readable.{IsReadable};
 ghost use Rattle.script_model.specs.Numbered.{AreNumbered};
 ghost use Rattle.store_top.specs.Engine.{HoldsFlat};
-ghost use Rattle.store_top.specs.Steps.{MakesCall, MakesCallTo, RunsTo, StopsAtCall, ToldBefore, ToldInPart};
+ghost use Rattle.store_top.specs.Steps.{AreReadable, MakesCall, MakesCallTo, RunsTo, StopsAtCall, ToldBefore, ToldInPart};
 
 use crate::engine::Engine;
 use outer_world::{Sink, write_all};
@@ -26,6 +27,7 @@ pub(crate) enum RunFault {
 fn lines_of_call(engine: &mut Engine, alloc: Global, call: ScriptCall) -> Result<Text, AllocError>
     requires holds { HoldsFlat engine.old }
     requires room { vec_len engine.old.history < vec_capacity engine.old.history }
+    requires readable { IsReadable call.request }
     ensures holds { HoldsFlat engine.new }
     ensures makes { MakesCall (λ text. text) call engine.old.history.items engine.new.history.items result }
     ensures room { vec_capacity engine.old.history ≤ vec_capacity engine.new.history }
@@ -62,6 +64,7 @@ fn serve_call<W: Sink>(
 ) -> Result<(), RunFault>
     requires holds { HoldsFlat engine.old }
     requires room { vec_len engine.old.history < vec_capacity engine.old.history }
+    requires readable { IsReadable call.request }
     ensures holds { HoldsFlat engine.new }
     ensures makes { MakesCallTo call engine.old.history.items engine.new.history.items (W.written sink.old) (W.written sink.new) result }
     ensures room { vec_capacity engine.old.history ≤ vec_capacity engine.new.history }
@@ -85,6 +88,7 @@ pub(crate) fn serve_calls<W: Sink>(
     requires fresh { engine.old.history.items ≡ [] }
     requires room { vec_len calls ≤ vec_capacity engine.old.history }
     requires numbered { AreNumbered [] calls.items }
+    requires readable { AreReadable calls.items }
 
     ensures served { OnOk result (RunsTo calls.items engine.new.history.items (W.written sink.old) (W.written sink.new)) }
     ensures broken { result ≡ Err RunFault.Write → StopsAtCall calls.items engine.new.history.items (ToldInPart (W.written sink.old) (W.written sink.new)) }

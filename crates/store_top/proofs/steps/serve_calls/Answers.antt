@@ -8,7 +8,7 @@ loop-call-init g c = record {
   holds = c.requires.holds;
   capacity = omega arith;
   counted = omega arith;
-  serving = rw (c.into_iter-call-iterator.ensures.into_iter_gives.0, c.requires.fresh) (serving-none c.args.calls.items (g.W.Sink.written c.args.sink.now) c.requires.numbered);
+  serving = rw (c.into_iter-call-iterator.ensures.into_iter_gives.0, c.requires.fresh) (serving-none c.args.calls.items (g.W.Sink.written c.args.sink.now) c.requires.numbered c.requires.readable);
 }
 
 pub loop-call-preserved : goal.loop-call-preserved

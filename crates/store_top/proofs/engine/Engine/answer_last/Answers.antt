@@ -2,13 +2,9 @@ use Rattle.std.proofs.Common.{◌≡◌, ◌+◌, ◌-◌, length, take, vec_len
 use Rattle.own_model.specs.Db.{empty}
 use Rattle.history_model.specs.History.{flat, left_by}
 use Rattle.history_model.proofs.HistoryLemmas.{flat-by_last, reply-by_last}
-use Rattle.history_model.proofs.RisingKeys.{ordered-empty, ordered-flat}
 use Rattle.store_top.proofs.engine.Engine.answer_last.Goals as goal
 
-pub answer-requires : goal.answer-requires
-answer-requires c = rw c.requires.before (ordered-flat empty _ ordered-empty)
-
--- the tables were the flat database before the last entry, and take it in
+-- the state was the flat database before the last entry, and take it in
 pub returns-in-Ok-clause-holds : goal.returns-in-Ok-clause-holds
 returns-in-Ok-clause-holds c =
     let history = c.args.self.now.history.items in

@@ -2,8 +2,16 @@ use Rattle.std.proofs.Common.{◌≡◌, ◌-◌, [], ◌∷◌, ◌++◌, lengt
 use Rattle.std.proofs.lemmas.Result.{on_err_weaker}
 use Rattle.own_model.specs.Db.{empty}
 use Rattle.history_model.specs.Made.{entry_of}
-use Rattle.store_top.proofs.LastEntry.{unmade-last}
+use Rattle.store_top.proofs.LastEntry.{readable-last, unmade-last}
 use Rattle.store_top.proofs.engine.Engine.step.Goals as goal
+
+-- the call's entry asks for what the call asks for, or is a syntax refusal
+pub answer_last-requires-clause-readable : goal.answer_last-requires-clause-readable
+answer_last-requires-clause-readable c =
+    let history = c.args.self.now.history.items in
+    let place : vec_len c.push_reserved.new.self - 1 ≡ length history = omega (arith, c.args.self.now.history.ok.0) in
+    let grown = c.push_reserved.ensures.items ∙ ap (λ entry. history ++ entry ∷ []) c.entry_of-entry.ensures in
+    readable-last history c.push_reserved.new.self.items c.args.call (vec_len c.push_reserved.new.self - 1) grown place c.requires.readable
 
 -- what memory may keep from being made is the entry that the call would have
 pub returns-clause-spared : goal.returns-clause-spared
