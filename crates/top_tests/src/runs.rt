@@ -29,7 +29,10 @@ const REFUSALS: &str =
 const SESSIONS: &str =
     "CREATE DATA_SUBJECT TABLE users (id INT PRIMARY KEY, name TEXT);\n-- session 2\nSELECT * FROM users; SELEC\n-- session 1\nSELECT * FROM users;";
 
-const CASES: [Case; 8] = [
+const CATALOG: &str =
+    "CREATE DATA_SUBJECT TABLE users (id INT PRIMARY KEY, name TEXT); CREATE TABLE msgs (id INT PRIMARY KEY, sender INT OWNED_BY users(id)); CREATE TABLE users (id INT PRIMARY KEY); INSERT INTO msgs VALUES (1, NULL); CREATE TABLE cities (id INT PRIMARY KEY); INSERT INTO cities VALUES (2); CREATE DATA_SUBJECT TABLE people (id INT PRIMARY KEY, home INT OWNS cities(id)); EXPLAIN COMPLIANCE; SELECT * FROM cities;";
+
+const CASES: [Case; 9] = [
     Case {
         word: "step",
         input: FIRST,
@@ -47,6 +50,15 @@ const CASES: [Case; 8] = [
         status: 0,
         entries: 7,
         output: "0 1.1 ok\n1 1.2 ok 1\n2 1.3 rows 1\n  5|'Ann'\n3 1.4 refused duplicate users 5\n4 1.5 refused table cats\n5 1.6 refused syntax 0\n6 1.7 end\n",
+    },
+    Case {
+        word: "step",
+        input: CATALOG,
+        source_fails: &[],
+        sink_fails: &[],
+        status: 0,
+        entries: 10,
+        output: "0 1.1 ok\n1 1.2 ok\n2 1.3 refused taken users\n3 1.4 refused syntax 0\n4 1.5 ok\n5 1.6 ok 1\n6 1.7 refused rows cities\n7 1.8 graph 4\n  users subject\n  msgs private\n  msgs.sender OWNED_BY users\n  cities public\n8 1.9 rows 1\n  2\n9 1.10 end\n",
     },
     Case {
         word: "step",
