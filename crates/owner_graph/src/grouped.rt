@@ -4,26 +4,9 @@ ghost use Rattle.owner_graph.specs.Ends.{by_table};
 ghost use Rattle.owner_model.specs.AreWithin.{AreWithin};
 
 use crate::end::End;
-use own_base::List;
+use own_base::{List, MakeCopy};
 use own_model::Edge;
 use std::alloc::{AllocError, Global};
-
-/// The same edge.
-fn copied(edge: &Edge) -> Edge
-    ensures { result ≡ edge.now }
-{
-    Edge {
-        number: edge.number,
-        lower: edge.lower,
-        upper: edge.upper,
-        holder: edge.holder,
-        column: edge.column,
-        owner: edge.owner,
-        get: edge.get,
-        del: edge.del,
-        strike: edge.strike,
-    }
-}
 
 /// A list for each table, without edges.
 fn empty_groups(alloc: Global, tables: u32) -> Result<Vec<List<Edge>>, AllocError>
@@ -45,7 +28,8 @@ pub(crate) fn grouped(
     let mut groups = empty_groups(alloc, tables)?;
     for edge in edges {
         let table = end.table(edge);
-        groups[table.0 as usize].add(copied(edge))?;
+        let copied = edge.copy(alloc)?;
+        groups[table.0 as usize].add(copied)?;
     }
     Ok(groups)
 }

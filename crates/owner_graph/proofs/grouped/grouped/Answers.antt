@@ -10,4 +10,4 @@ index_mut-requires c =
 
 pub loop-edge-preserved : goal.loop-edge-preserved
 loop-edge-preserved c =
-    by_table-more c.args.end c.args.tables c.args.edges.now c.loop-edge.edge-index _ _ _ _ _ _ c.requires c.loop-edge-test.true c.loop-edge.invariant c.table-table.ensures c.index_mut.ensures.value c.copied.ensures c.in_ok-add.ensures.added
+    by_table-more c.args.end c.args.tables c.args.edges.now c.loop-edge.edge-index _ _ _ _ _ _ c.requires c.loop-edge-test.true c.loop-edge.invariant c.table-table.ensures c.index_mut.ensures.value c.in_ok-copied.ensures c.in_ok-add.ensures.added
