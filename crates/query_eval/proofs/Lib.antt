@@ -1,0 +1,4 @@
+pub mod KeptByKey
+pub mod PinnedRow
+pub mod Runs
+pub mod TableRows
