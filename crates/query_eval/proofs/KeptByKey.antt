@@ -1,5 +1,5 @@
 -- Rows that a condition with `primary key = literal` keeps: the row of that key, where it is kept.
-use Rattle.std.proofs.Common.{◌≡◌, List, [], ◌∷◌, Bool, true, false, cond, Some, None, Ordering, map, refl, sym, ap, ◌∙◌, subst}
+use Rattle.std.proofs.Common.{◌≡◌, List, [], ◌∷◌, Bool, true, false, cond, Some, Ordering, map, refl, sym, ap, ◌∙◌}
 use Rattle.std.specs.declared.cmp.Ordering.TheVariants.{Less, Equal, Greater}
 use Rattle.std.specs.List.{AllByRecursion as Each, filter, find}
 use Rattle.std.specs.List.Sorted.{IsStrictlySortedBy}
@@ -16,6 +16,7 @@ use Rattle.own_model.specs.Stored.{has_key, is_equal}
 use Rattle.own_model.proofs.KeyOrder.{key_order}
 use Rattle.query_model.specs.Footprints.{pinned_by}
 use Rattle.query_model.specs.Truth.{cell, is_true, keeps, truth}
+use Rattle.query_model.proofs.SortedRows.{none_pass}
 use Rattle.query_eval.specs.Stored.{IsStored}
 use Rattle.query_eval.proofs.PinnedRow.{true_pins}
 
@@ -24,11 +25,6 @@ equal_from : (ordering : Ordering) → is_equal ordering ≡ true → ordering �
 equal_from Less is = cc
 equal_from Equal is = refl
 equal_from Greater is = cc
-
--- nothing passes
-none_pass : {X : Type 0} (p : X → Bool) (xs : List X) → Each (λ x. p x ≡ false) xs → filter p xs ≡ []
-none_pass p [] none = refl
-none_pass p (first ∷ rest) none = rw (none.0) (none_pass p rest none.1)
 
 module _ (table : TableDef) (condition : BoundCond) (key : Key) (pins : pinned_by table.key.0 condition ≡ Some key) where
   -- a row of another key isn't kept

@@ -2,10 +2,7 @@
 use Rattle.std.proofs.Common.{◌≡◌, ℕ, ◌==◌, List, [], ◌∷◌, Bool, true, false, cond, fold, Option, Some, None, Ordering, map, refl, sym, ap, ◌∙◌, subst}
 use Rattle.std.proofs.lemmas.Bool.{eqb-true}
 use Rattle.std.specs.declared.cmp.Ordering.TheVariants.{Less, Equal, Greater}
-use Rattle.std.specs.List.{filter, filter_map, find}
-use Rattle.std.specs.List.Sorted.{IsStrictlySortedBy}
-use Rattle.std.specs.List.{AllByRecursion as Each}
-use Rattle.std.specs.Option.{option_to_list}
+use Rattle.std.specs.List.{filter_map}
 use Rattle.std.proofs.lemmas.List.Folds.{fold_stays}
 use Rattle.own_base.specs.Key.{key_cmp}
 use Rattle.own_base.specs.declared.number.ColNo.{ColNo}
@@ -20,14 +17,11 @@ use Rattle.own_model.specs.declared.bound.BoundOperand.{BoundOperand}
 use Rattle.own_model.specs.declared.bound.BoundOperand.TheVariants.{Column, Literal}
 use Rattle.own_model.specs.declared.condition.Cmp.{Cmp}
 use Rattle.own_model.specs.declared.condition.Cmp.TheVariants.{Eq, Ne, Lt, Le, Gt, Ge}
-use Rattle.own_model.specs.declared.schema.TableDef.{TableDef}
 use Rattle.own_model.specs.declared.truth.Truth.{Truth as Answer}
 use Rattle.own_model.specs.declared.truth.Truth.TheVariants.{True, False, Unknown}
-use Rattle.own_model.specs.Db.{IsRising, Row, as_key, key_of}
-use Rattle.own_model.specs.Stored.{has_key, is_equal}
-use Rattle.own_model.proofs.KeyOrder.{key_order}
-use Rattle.query_model.specs.Footprints.{Pinned, compared_key, first_key, literal_key, pinned_by, pinned_key, pinned_step}
-use Rattle.query_model.specs.Truth.{cell, compared, comparison, is_true, keeps, least, lesser, operand, takes, truth, truth_of, truth_step}
+use Rattle.own_model.specs.Db.{Row, as_key}
+use Rattle.query_model.specs.Footprints.{Pinned, compared_key, first_key, literal_key, pinned_by, pinned_step}
+use Rattle.query_model.specs.Truth.{cell, compared, comparison, least, lesser, operand, takes, truth, truth_of, truth_step}
 use Rattle.query_eval.specs.Stored.{IsStored}
 
 -- an AND that began Unknown isn't True
@@ -64,11 +58,13 @@ same_key key Null literal stored pins holds = cc
 same_key key (Sum number) literal stored pins holds = absurd stored
 
 module _ (row : Row) (key_column : ℕ) (key : Key) (stored : IsStored (cell row key_column)) where
+  -- a comparison with a literal, by whether its column is the key's
   literal_pins : (column : ColNo) (literal : Value) (b : Bool) → (column.0 == key_column) ≡ b → cond b (literal_key literal) None ≡ Some key
       → comparison Eq (compared (cell row column.0) literal) ≡ True → key_cmp (as_key (cell row key_column)) key ≡ Equal
   literal_pins column literal true is pins holds = same_key key (cell row key_column) literal stored pins (subst (λ n. comparison Eq (compared (cell row n) literal) ≡ True) (eqb-true _ _ is) holds)
   literal_pins column literal false is pins holds = cc
 
+  -- a comparison that pins a key
   compare_pins : (column : ColNo) (sign : Cmp) (right : BoundOperand) → compared_key key_column column.0 sign right ≡ Some key
       → comparison sign (compared (cell row column.0) (operand row right)) ≡ True → key_cmp (as_key (cell row key_column)) key ≡ Equal
   compare_pins column Eq (Literal value) pins holds = literal_pins column value (column.0 == key_column) refl pins holds
@@ -79,12 +75,14 @@ module _ (row : Row) (key_column : ℕ) (key : Key) (stored : IsStored (cell row
   compare_pins column Gt right pins holds = cc
   compare_pins column Ge right pins holds = cc
 
+  -- what a condition pins, and whether it holds
   abbrev pins_of : BoundCond → Pinned
   pins_of = fold-BoundCond Pinned (pinned_step key_column)
 
   abbrev holds_of : BoundCond → Answer
   holds_of = fold-BoundCond Answer (truth_step row)
 
+  -- a part that pins a key by itself is a comparison
   alone_layer : (layer : BoundCond-F BoundCond) → (pinned_step key_column (map-BoundCond BoundCond Pinned pins_of layer)).alone ≡ Some key
       → truth_step row (map-BoundCond BoundCond Answer holds_of layer) ≡ True → key_cmp (as_key (cell row key_column)) key ≡ Equal
   alone_layer (BoundCond-F.Every parts) pins holds = cc
@@ -107,12 +105,14 @@ module _ (row : Row) (key_column : ℕ) (key : Key) (stored : IsStored (cell row
     where
       both : (holds_of first ≡ True) × (least (map holds_of rest) ≡ True)
       both = all_true (holds_of first) (map holds_of rest) holds
+
       by : (first_key (filter_map (λ part. part.alone) (map pins_of rest)) ≡ Some key → key_cmp (as_key (cell row key_column)) key ≡ Equal)
           → (o : Option Key) → (pins_of first).alone ≡ o → first_key (filter_map (λ part. part.alone) (map pins_of (first ∷ rest))) ≡ Some key
           → key_cmp (as_key (cell row key_column)) key ≡ Equal
       by more (Some found) is pins = let same : (pins_of first).alone ≡ Some key = is ∙ (rw is at pins) in alone_pins first same both.0
       by more None is pins = more (rw is at pins)
 
+  -- a condition that pins a key is a comparison or an AND
   whole_layer : (layer : BoundCond-F BoundCond) → (pinned_step key_column (map-BoundCond BoundCond Pinned pins_of layer)).whole ≡ Some key
       → truth_step row (map-BoundCond BoundCond Answer holds_of layer) ≡ True → key_cmp (as_key (cell row key_column)) key ≡ Equal
   whole_layer (BoundCond-F.Every parts) pins holds = first_pins parts pins holds

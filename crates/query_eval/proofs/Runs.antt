@@ -1,5 +1,5 @@
 -- Rows run by run.
-use Rattle.std.proofs.Common.{◌≡◌, ℕ, ◌+◌, ◌-◌, ◌≤◌, List, ◌++◌, Bool, length, take, drop, refl, sym, ap, ◌∙◌, arith, length-append, length-drop, append_assoc}
+use Rattle.std.proofs.Common.{◌≡◌, ℕ, ◌+◌, ◌-◌, ◌≤◌, List, ◌++◌, Bool, length, take, sym, ap, ◌∙◌, arith, length-append, length-drop}
 use Rattle.std.specs.List.{filter}
 use Rattle.std.proofs.Math.Seq.{take-append-add, take-append_seam}
 use Rattle.std.proofs.lemmas.List.{length-take-le, take-append-drop}
@@ -15,7 +15,7 @@ module _ (rows : List Row) (at : ℕ) (run : List Row) (within : at ≤ length r
       omega (arith, parts)
 
   -- the rows up to its end
-  pub take_run : take (at + length run) rows ≡ take at rows ++ run
+  take_run : take (at + length run) rows ≡ take at rows ++ run
   take_run =
       let front : List Row = take at rows in
       let whole : front ++ (run ++ runs.rest) ≡ rows = ap (λ l. front ++ l) (sym runs.follow) ∙ take-append-drop at rows in
@@ -23,5 +23,9 @@ module _ (rows : List Row) (at : ℕ) (run : List Row) (within : at ≤ length r
       let taken : take (length front + length run) (front ++ (run ++ runs.rest)) ≡ front ++ run = take-append-add front (run ++ runs.rest) (length run) ∙ ap (λ l. front ++ l) (take-append_seam run runs.rest) in
       rw (long, whole) at taken
 
-  pub filter_run : (p : Row → Bool) → filter p (take (at + length run) rows) ≡ filter p (take at rows) ++ filter p run
+  filter_run : (p : Row → Bool) → filter p (take (at + length run) rows) ≡ filter p (take at rows) ++ filter p run
   filter_run p = ap (filter p) take_run ∙ filter-append p (take at rows) run
+
+  -- what is kept up to its end
+  pub kept_run : (p : Row → Bool) (kept more : List Row) → kept ≡ filter p (take at rows) → more ≡ kept ++ filter p run → more ≡ filter p (take (at + length run) rows)
+  kept_run p kept more before is = is ∙ ap (λ l. l ++ filter p run) before ∙ sym (filter_run p)

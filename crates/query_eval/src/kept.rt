@@ -59,10 +59,10 @@ fn kept_by_key<'a, V: StoreView>(
     ensures { IfOk result (λ kept. kept ≡ filter (keeps (option_copied cond.entry)) (option_to_list (row_named (V.schema_of view.now) (V.rows view.now) name.now))) }
 {
     let mut kept = LentRows::new(alloc);
-    if let Some(row) = view.row(name) {
-        if keeps(cond, row, None) {
-            kept.push(row)?;
-        }
+    if let Some(row) = view.row(name)
+        && keeps(cond, row, None)
+    {
+        kept.push(row)?;
     }
     Ok(kept)
 }

@@ -1,8 +1,24 @@
 ghost use Rattle.std.specs.Prelude.{◌≡◌, [], ◌∷◌, ◌++◌, length, map, OnOk};
+ghost use Rattle.std.specs.Ordering.{is_lt};
+ghost use Rattle.query_model.specs.Order.{ordered_by, precedes};
+ghost use Rattle.query_model.specs.Truth.{cell};
 
-use own_base::Row;
+use own_base::{ColNo, Row};
+use pred_eval::compare_cells;
 use std::alloc::{AllocError, Global};
+use std::cmp::Ordering;
 use std::marker::Model;
+
+/// How two rows stand to each other by a column, rising or with DESC: the lesser comes first.
+fn row_order(left: &Row, right: &Row, column: ColNo, down: bool) -> Ordering
+    ensures { is_lt result ≡ precedes down (cell left.now column.0) (cell right.now column.0) }
+{
+    if down {
+        compare_cells(right, left, column)
+    } else {
+        compare_cells(left, right, column)
+    }
+}
 
 /// Rows that are lent, in order; contracts see the list of the rows.
 #[derive(Drop)]
@@ -42,6 +58,14 @@ impl<'a> LentRows<'a> {
         ensures { result ≡ length self.now }
     {
         self.rows.len()
+    }
+
+    /// Puts the rows in order by a column, rising or with DESC. Where neither of two comes first, they stay as they stood.
+    pub fn sort(&mut self, column: ColNo, down: bool) -> Result<(), AllocError>
+        ensures { OnOk result (self.new ≡ ordered_by column.0 down self.old) }
+    {
+        self.rows
+            .sort_by(|left, right| row_order(left, right, column, down))
     }
 
     /// Lends the rows, in order. Takes no memory.

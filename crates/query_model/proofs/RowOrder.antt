@@ -5,7 +5,7 @@ use Rattle.std.specs.Cmp.{IsStrictWeakOrder}
 use Rattle.std.proofs.lemmas.List.Sorted.{IsStrictWeakOrder-flip, ranks_by}
 use Rattle.own_base.specs.declared.number.ColNo.{ColNo}
 use Rattle.own_model.specs.Db.{Row}
-use Rattle.query_model.specs.Order.{is_less, ordered_by, precedes, value_cmp}
+use Rattle.query_model.specs.Order.{is_less, precedes, value_cmp}
 use Rattle.query_model.specs.Query.{in_order}
 use Rattle.query_model.specs.Truth.{cell}
 use Rattle.query_model.proofs.SortedRows.{length-sorted}

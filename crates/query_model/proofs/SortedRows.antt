@@ -1,6 +1,5 @@
 -- Rows in order: a stable sort gives the rows that are put one after another at their place.
-use Rattle.std.proofs.Common.{◌≡◌, ℕ, suc, ◌+◌, ◌<◌, ◌≤◌, List, [], ◌∷◌, ◌++◌, Bool, true, false, not, ◌&&◌, cond, fold, length, get_or, refl, sym, ap, ◌∙◌, subst, arith, append-nil, append_assoc, add-one}
-use Rattle.std.specs.Prelude.{if◌then◌else◌}
+use Rattle.std.proofs.Common.{◌≡◌, ℕ, suc, ◌+◌, ◌<◌, ◌≤◌, List, [], ◌∷◌, ◌++◌, Bool, true, false, cond, fold, length, get_or, refl, sym, ap, ◌∙◌, subst, arith, append-nil, append_assoc}
 use Rattle.std.specs.Cmp.{IsStrictWeakOrder}
 use Rattle.std.specs.List.{AllByRecursion as Each, filter}
 use Rattle.std.specs.List.Sorted.{IsSortedBy, IsStableBy, ties}
@@ -19,16 +18,18 @@ module _ {X : Type 0} where
   each_from_places P [] at = tt
   each_from_places P (first ∷ rest) at = (at 0 first (omega arith), each_from_places P rest (λ k d within. at (suc k) d (omega arith)))
 
+  -- what holds of each, or less, holds of each
   each_weaker : (P Q : X → Type 0) → ((x : X) → P x → Q x) → (xs : List X) → Each P xs → Each Q xs
   each_weaker P Q gives [] all = tt
   each_weaker P Q gives (first ∷ rest) all = (gives first all.0, each_weaker P Q gives rest all.1)
 
   -- nothing passes
-  none_pass : (p : X → Bool) (xs : List X) → Each (λ x. p x ≡ false) xs → filter p xs ≡ []
+  pub none_pass : (p : X → Bool) (xs : List X) → Each (λ x. p x ≡ false) xs → filter p xs ≡ []
   none_pass p [] none = refl
   none_pass p (first ∷ rest) none = rw (none.0) (none_pass p rest none.1)
 
   module _ (lt : X → X → Bool) (order : IsStrictWeakOrder lt) where
+    -- no row comes before one at a lesser place
     rises_from_places : (xs : List X) → ((i j : ℕ) (d : X) → i ≤ j → j < length xs → lt (get_or xs j d) (get_or xs i d) ≡ false) → Rises lt xs
     unfolding Rises
     rises_from_places [] up = tt
@@ -41,6 +42,7 @@ module _ {X : Type 0} where
     rises_from_sorted : (xs : List X) → IsSortedBy lt xs → Rises lt xs
     rises_from_sorted xs up = rises_from_places xs (sorted_far lt order xs up)
 
+    -- nothing is less than itself
     never_less : (x : X) → lt x x ≡ false
     never_less x = by (lt x x) refl
       where
@@ -48,16 +50,15 @@ module _ {X : Type 0} where
         by true less = order.one_way x x less
         by false not_less = not_less
 
+    -- so it ties with itself
     ties_itself : (x : X) → ties lt x x ≡ true
     ties_itself x = rw (never_less x) refl
 
-    -- what is less than a member of a tie is less than the other, too; so nothing that is less ties
+    -- what is less doesn't tie
     less_no_tie : (x y : X) → lt x y ≡ true → ties lt x y ≡ false
     less_no_tie x y less = rw less refl
 
-    more_no_tie : (x y : X) → lt y x ≡ true → ties lt x y ≡ false
-    more_no_tie x y more = rw (order.one_way y x more, more) refl
-
+    -- what is less than one is less than any that isn't below that one
     less_then : (x y z : X) → lt x y ≡ true → lt z y ≡ false → lt x z ≡ true
     less_then x y z less at_most = by (lt x z) refl
       where
@@ -73,6 +74,7 @@ module _ {X : Type 0} where
           each_weaker (λ later. lt later first ≡ false) (λ later. ties lt x later ≡ false) (λ later at_most. less_no_tie x later (less_then x first later less at_most)) rest rises,
         )
 
+    -- the first of its own tie
     ties_begin : (x : X) (rest : List X) → filter (ties lt x) (x ∷ rest) ≡ x ∷ filter (ties lt x) rest
     ties_begin x rest = rw (ties_itself x) refl
 
@@ -94,8 +96,10 @@ module _ {X : Type 0} where
             let tie : ties lt x y ≡ true = rw (p, q) refl in
             let here : x ∷ filter (ties lt x) xs ≡ y ∷ filter (ties lt x) ys = sym (ties_begin x xs) ∙ same x ∙ rw tie refl in
             cc
+
         tails : x ≡ y → (z : X) → filter (ties lt z) xs ≡ filter (ties lt z) ys
         tails is z = rest_same z y xs ys (ties lt z y) refl (subst (λ w. filter (ties lt z) (w ∷ xs) ≡ filter (ties lt z) (y ∷ ys)) is (same z))
+
         by : (((z : X) → filter (ties lt z) xs ≡ filter (ties lt z) ys) → xs ≡ ys) → (a b : Bool) → lt x y ≡ a → lt y x ≡ b → x ∷ xs ≡ y ∷ ys
         by more true b p q = let never : x ∷ filter (ties lt x) xs ≡ [] = sym (ties_begin x xs) ∙ same x ∙ none_tie x y ys p up'.0 in cc
         by more false true p q = let never : [] ≡ y ∷ filter (ties lt y) ys = sym (none_tie y x xs q up.0) ∙ same y ∙ ties_begin y ys in cc
@@ -135,6 +139,7 @@ module _ (before : Row → Row → Bool) (order : IsStrictWeakOrder before) wher
       not_more true c p q = let never : false ≡ true = rw p at tie in cc
       not_more false true p q = let never : false ≡ true = rw (p, q) at tie in cc
       not_more false false p q = q
+
       below : (b : Bool) → before x first ≡ b → before x first ≡ true
       below true is = is
       below false is = let never : true ≡ false = sym less ∙ order.chain row x first (not_more _ _ refl refl) is in cc
@@ -150,6 +155,7 @@ module _ (before : Row → Row → Bool) (order : IsStrictWeakOrder before) wher
           → (b : Bool) → cond b (first ∷ filter (ties before x) (placed before row rest)) (filter (ties before x) (placed before row rest)) ≡ cond b (first ∷ filter (ties before x) rest) (filter (ties before x) rest) ++ cond (ties before x row) (row ∷ []) []
       passed more true = ap (λ l. first ∷ l) more
       passed more false = more
+
       by : filter (ties before x) (placed before row rest) ≡ filter (ties before x) rest ++ cond (ties before x row) (row ∷ []) []
           → (b : Bool) → before row first ≡ b → filter (ties before x) (cond b (row ∷ first ∷ rest) (first ∷ placed before row rest)) ≡ filter (ties before x) (first ∷ rest) ++ cond (ties before x row) (row ∷ []) []
       by more true less = ties_before x row first rest less up.0 (ties before x row) refl
@@ -160,6 +166,7 @@ module _ (before : Row → Row → Bool) (order : IsStrictWeakOrder before) wher
   rises_sorted rows [] up = up
   rises_sorted rows (first ∷ rest) up = rises_sorted (placed before first rows) rest (rises_placed first rows up)
 
+  -- and each tie has them as they stood
   ties_sorted : (x : Row) (rows more : List Row) → Rises before rows
       → filter (ties before x) (fold (λ ordered row. placed before row ordered) rows more) ≡ filter (ties before x) rows ++ filter (ties before x) more
   ties_sorted x rows [] up = sym (append-nil (filter (ties before x) rows))
@@ -188,6 +195,7 @@ length-placed before row (first ∷ rest) = by (length-placed before row rest) (
     by more true = refl
     by more false = ap suc more
 
+-- rows put one after another are as many
 length-put : (before : Row → Row → Bool) (rows more : List Row) → length (fold (λ ordered row. placed before row ordered) rows more) ≡ length rows + length more
 length-put before rows [] = omega arith
 length-put before rows (first ∷ rest) = let more = length-put before (placed before first rows) rest in let one = length-placed before first rows in omega (arith, more, one)

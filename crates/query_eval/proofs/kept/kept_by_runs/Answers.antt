@@ -1,8 +1,7 @@
-use Rattle.std.proofs.Common.{◌++◌, ◌∙◌, ap, sym, arith}
-use Rattle.std.specs.List.{filter}
+use Rattle.std.proofs.Common.{arith}
 use Rattle.std.specs.Option.{option_copied}
 use Rattle.query_model.specs.Truth.{keeps}
-use Rattle.query_eval.proofs.Runs.{filter_run, run_within}
+use Rattle.query_eval.proofs.Runs.{kept_run, run_within}
 use Rattle.query_eval.proofs.kept.kept_by_runs.Goals as goal
 
 -- the end of a run is no farther than the number of rows, which fits
@@ -15,9 +14,8 @@ overflow_add-at g c =
 pub loop-at-preserved : goal.loop-at-preserved
 loop-at-preserved g c =
     let run = c.rows_from-run.result.now in
-    let more = run_within _ c.loop-at.at run (omega arith) c.rows_from-run.ensures in
-    let kept = filter_run _ c.loop-at.at run (omega arith) c.rows_from-run.ensures (keeps (option_copied c.args.cond)) in (
+    let more = run_within _ c.loop-at.at run (omega arith) c.rows_from-run.ensures in (
       c.loop-at.invariant.0,
       omega (arith, more),
-      c.in_ok-keep_more.ensures ∙ ap (λ l. l ++ filter (keeps (option_copied c.args.cond)) run) c.loop-at.invariant.2 ∙ sym kept,
+      kept_run _ c.loop-at.at run (omega arith) c.rows_from-run.ensures (keeps (option_copied c.args.cond)) c.loop-at.kept c.keep_more.new.kept c.loop-at.invariant.2 c.in_ok-keep_more.ensures,
     )
