@@ -1,0 +1,5 @@
+pub mod AbsentColumns
+pub mod FirstKey
+pub mod PinnedParts
+pub mod Ranges
+pub mod ShortCuts

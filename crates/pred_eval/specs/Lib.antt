@@ -1,0 +1,4 @@
+pub mod NullTest
+pub mod Pinned
+pub mod RowPair
+pub mod ValueFault

@@ -1,0 +1,15 @@
+//! Whether a condition holds of a row, and what an expression gives over one.
+#![tactic(auto)]
+
+mod cells;
+mod compare;
+mod condition;
+mod expression;
+mod pinned;
+mod row_pair;
+
+pub use cells::{cell, compare_cells, copied_cell};
+pub use compare::{compare_values, compared};
+pub use condition::{keeps, truth};
+pub use expression::{ValueFault, value};
+pub use pinned::pinned_key;

@@ -1,0 +1,2 @@
+pub mod TruthByVariant
+pub mod ValueOrder
