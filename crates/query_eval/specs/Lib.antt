@@ -1,0 +1,4 @@
+pub mod ByValue
+pub mod Numbers
+pub mod Stored
+pub mod Tally

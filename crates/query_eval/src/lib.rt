@@ -1,0 +1,9 @@
+//! The rows of a select: joins, groups and views.
+#![tactic(auto)]
+
+mod group_tally;
+mod group_value;
+mod item_tally;
+mod lent_rows;
+mod number_tally;
+mod value_index;
