@@ -1,5 +1,5 @@
 -- The groups of some rows, and of one row more.
-use Rattle.std.proofs.Common.{◌≡◌, ℕ, Bool, true, false, ◌||◌, cond, List, [], ◌∷◌, ◌++◌, map, Option, None, Some, unwrap_or, refl, sym, ap, ◌∙◌, arith, append-nil}
+use Rattle.std.proofs.Common.{◌≡◌, ℕ, Bool, true, false, ◌||◌, cond, List, [], ◌∷◌, ◌++◌, None, Some, unwrap_or, refl, sym, ap, ◌∙◌, append-nil}
 use Rattle.std.specs.declared.cmp.Ordering.{Ordering}
 use Rattle.std.specs.declared.cmp.Ordering.TheVariants.{Less, Equal, Greater}
 use Rattle.std.specs.Ordering.{ordering_reverse}
@@ -72,7 +72,7 @@ regrouped false false d = refl
 
 has-values : (column : ℕ) (value : Value) (values : List Value) (rows : List Row)
     → has_value value (fold (λ values row. with_value (cell row column) values) values rows)
-      ≡ (list_any (λ row. is_equal (value_cmp (cell row column) value)) rows || has_value value values)
+    ≡ (list_any (λ row. is_equal (value_cmp (cell row column) value)) rows || has_value value values)
 has-values column value values [] = refl
 has-values column value values (row ∷ rows) =
     has-values column value (with_value (cell row column) values) rows
@@ -113,5 +113,5 @@ module _ {X : Type 0} where
       let after : Value → X = λ value. keep (group_of column (rows ++ row ∷ []) value) in
       ap (insert_entry value_cmp (by_value keep column rows) (cell row column)) (ap keep (group_of-joined column rows row (cell row column) (tied_itself value_order (cell row column))))
       ∙ insert-entries_of before after (cell row column) (values_of column rows) (λ other apart. ap keep (group_of-apart column rows row other apart))
-          (λ other equal. ap keep (group_of-equal column (rows ++ row ∷ []) (cell row column) other equal)) (sorted-values_of column rows)
+      (λ other equal. ap keep (group_of-equal column (rows ++ row ∷ []) (cell row column) other equal)) (sorted-values_of column rows)
       ∙ ap (entries_of after) (sym (values_of-push column rows row))

@@ -1,5 +1,5 @@
 -- The entries of a map whose keys are values.
-use Rattle.std.proofs.Common.{◌≡◌, Bool, true, false, ◌||◌, cond, List, [], ◌∷◌, map, Option, None, Some, refl, sym, ap, ◌∙◌, arith}
+use Rattle.std.proofs.Common.{◌≡◌, Bool, true, false, ◌||◌, cond, List, [], ◌∷◌, map, None, Some, refl, sym, ap, ◌∙◌}
 use Rattle.std.specs.declared.cmp.Ordering.{Ordering}
 use Rattle.std.specs.declared.cmp.Ordering.TheVariants.{Less, Equal, Greater}
 use Rattle.std.specs.Ordering.{is_eq, ordering_reverse, match_ordering}
@@ -100,7 +100,7 @@ module _ {X : Type 0} where
       → IsStrictlySortedBy value_cmp (first ∷ rest)
       → insert_entry value_cmp (entries_of keep rest) value (after value) ≡ entries_of after (with_value value rest)
       → match_ordering o ((value, after value) ∷ entries_of keep (first ∷ rest)) ((first, after value) ∷ entries_of keep rest) ((first, keep first) ∷ insert_entry value_cmp (entries_of keep rest) value (after value))
-        ≡ entries_of after (at_first o value first rest (with_value value rest))
+      ≡ entries_of after (at_first o value first rest (with_value value rest))
   unfolding IsStrictlySortedBy
   insert-first Less keep after value first rest is same alike sorted hence =
       ap (λ others. (value, after value) ∷ others) (kept-above keep after value (first ∷ rest) same (is, above-below value first rest is sorted.0))
@@ -121,7 +121,7 @@ module _ {X : Type 0} where
       → IsStrictlySortedBy value_cmp (first ∷ keys_of entries) → IsSome (cond (is_eq o) (Some kept) (lookup (is_at (value_cmp value)) entries))
       → (IsSome (lookup (is_at (value_cmp value)) entries) → set_value (is_at (value_cmp value)) entries new ≡ insert_entry value_cmp entries value new)
       → cond (is_eq o) ((first, new) ∷ entries) ((first, kept) ∷ set_value (is_at (value_cmp value)) entries new)
-        ≡ match_ordering o ((value, new) ∷ (first, kept) ∷ entries) ((first, new) ∷ entries) ((first, kept) ∷ insert_entry value_cmp entries value new)
+      ≡ match_ordering o ((value, new) ∷ (first, kept) ∷ entries) ((first, new) ∷ entries) ((first, kept) ∷ insert_entry value_cmp entries value new)
   unfolding IsStrictlySortedBy
   set_value-first Less value first kept entries new is sorted there hence =
       let none : lookup (is_at (value_cmp value)) entries ≡ None = lookup-none (is_at (value_cmp value)) entries (none_below_head value_order value (first, kept) entries sorted is).1 in

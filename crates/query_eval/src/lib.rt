@@ -6,4 +6,5 @@ mod group_value;
 mod item_tally;
 mod lent_rows;
 mod number_tally;
+mod table_rows;
 mod value_index;
