@@ -3,7 +3,7 @@ use Rattle.std.proofs.Common.{◌≡◌, Bool, true, false, ◌||◌, cond, List
 use Rattle.std.specs.declared.cmp.Ordering.{Ordering}
 use Rattle.std.specs.declared.cmp.Ordering.TheVariants.{Less, Equal, Greater}
 use Rattle.std.specs.Ordering.{is_eq, ordering_reverse, match_ordering}
-use Rattle.std.specs.Option.{IsSome, is_some, unwrap_or}
+use Rattle.std.specs.Option.{IsSome}
 use Rattle.std.specs.List.{AllByRecursion, list_any}
 use Rattle.std.specs.List.Sorted.{IsStrictlySortedBy}
 use Rattle.std.specs.Map.{lookup, set_value, keys_of}
@@ -136,11 +136,3 @@ module _ {X : Type 0} where
   set_value-is_insert_entry value [] new sorted there = cc
   set_value-is_insert_entry value (entry ∷ entries) new sorted there =
       set_value-first (value_cmp value entry.0) value entry.0 entry.1 entries new refl sorted there (set_value-is_insert_entry value entries new sorted.1)
-
-  -- what stands in the map for a value, written over with what came of it
-  pub set_value-found : (value : Value) (entries : List (Value × X)) (kept new missing : X) (next : X → X) → IsStrictlySortedBy value_cmp (keys_of entries)
-      → Some kept ≡ lookup (is_at (value_cmp value)) entries → new ≡ next kept
-      → set_value (is_at (value_cmp value)) entries new ≡ insert_entry value_cmp entries value (next (unwrap_or (lookup (is_at (value_cmp value)) entries) missing))
-  set_value-found value entries kept new missing next sorted found is =
-      set_value-is_insert_entry value entries new sorted (ap is_some (sym found))
-      ∙ ap (insert_entry value_cmp entries value) (is ∙ ap (λ kept. next (unwrap_or kept missing)) found)

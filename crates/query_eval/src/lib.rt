@@ -8,3 +8,4 @@ mod lent_rows;
 mod number_tally;
 mod table_rows;
 mod value_index;
+mod value_tallies;

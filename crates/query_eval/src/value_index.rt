@@ -1,9 +1,6 @@
-ghost use Rattle.std.specs.Prelude.{◌≡◌, ◌∷◌, [], ◌++◌, map, OnOk, unwrap_or};
-ghost use Rattle.std.specs.BTreeMap.{insert_entry, is_at};
-ghost use Rattle.std.specs.Map.{lookup};
-ghost use Rattle.std.specs.Option.{option_copied};
-ghost use Rattle.query_model.specs.Order.{value_cmp};
-ghost use Rattle.query_model.specs.Truth.{cell};
+ghost use Rattle.std.specs.Prelude.{◌≡◌, ◌∷◌, [], ◌++◌, List, map, OnOk};
+ghost use Rattle.own_model.specs.Db.{Row as Values};
+ghost use Rattle.query_eval.specs.ByValue.{by_value};
 
 use crate::group_value::GroupValue;
 use crate::lent_rows::LentRows;
@@ -20,15 +17,27 @@ pub(crate) struct ValueIndex<'a> {
 }
 
 impl<'a> ValueIndex<'a> {
-    /// One row more.
-    fn add(&mut self, alloc: Global, row: &'a Row) -> Result<(), AllocError>
+    /// No rows yet. It takes no memory.
+    pub(crate) fn new(alloc: Global, column: ColNo) -> ValueIndex<'a>
+        ensures column { result.column ≡ column }
+        ensures rows { result.rows.entries ≡ by_value (λ rows. rows) column.0 [] }
+    {
+        ValueIndex {
+            column,
+            rows: BTreeMap::new(alloc),
+        }
+    }
+
+    /// One row more than some.
+    pub(crate) fn add(&mut self, alloc: Global, row: &'a Row) -> Result<(), AllocError>
         ensures column { OnOk result (self.new.column ≡ self.old.column) }
-        ensures rows { OnOk result (let value = cell row.now self.old.column.0 in self.new.rows.entries
-            ≡ insert_entry value_cmp self.old.rows.entries value (unwrap_or (lookup (is_at (value_cmp value)) self.old.rows.entries) [] ++ row.now ∷ [])) }
+        ensures rows { OnOk result ((rows : List Values) → self.old.rows.entries ≡ by_value (λ rows. rows) self.old.column.0 rows
+            → self.new.rows.entries ≡ by_value (λ rows. rows) self.old.column.0 (rows ++ row.now ∷ [])) }
     {
         let value = GroupValue::new(cell(row, self.column));
         if let Some(rows) = self.rows.get_mut(&value) {
-            return rows.push(row);
+            rows.push(row)?;
+            return Ok(());
         }
         let mut rows = LentRows::new(alloc);
         rows.push(row)?;

@@ -1,0 +1,56 @@
+ghost use Rattle.std.specs.Prelude.{◌≡◌, ◌+◌, ◌<◌, ◌^◌, ◌∷◌, [], ◌++◌, List, length, OnOk};
+ghost use Rattle.own_model.specs.Db.{Row as Values};
+ghost use Rattle.query_eval.specs.ByValue.{by_value};
+ghost use Rattle.query_eval.specs.Stored.{IsStoredRow};
+ghost use Rattle.query_eval.specs.Tally.{tally};
+
+use crate::group_tally::GroupTally;
+use crate::group_value::GroupValue;
+use own_base::{ColNo, Row};
+use own_model::BoundItem;
+use pred_eval::cell;
+use std::alloc::{AllocError, Global};
+use std::collections::BTreeMap;
+
+/// What is counted for each value of a column.
+#[derive(Drop)]
+pub(crate) struct ValueTallies<'a> {
+    column: ColNo,
+    items: &'a [BoundItem],
+    groups: BTreeMap<GroupValue<'a>, GroupTally>,
+}
+
+impl<'a> ValueTallies<'a> {
+    /// No rows yet. It takes no memory.
+    pub(crate) fn new(alloc: Global, items: &'a [BoundItem], column: ColNo) -> ValueTallies<'a>
+        ensures column { result.column ≡ column }
+        ensures items { result.items.now ≡ items.now }
+        ensures groups { result.groups.entries ≡ by_value (tally items.now) column.0 [] }
+    {
+        ValueTallies {
+            column,
+            items,
+            groups: BTreeMap::new(alloc),
+        }
+    }
+
+    /// One row more than some: few enough that they are counted in 64 bits.
+    pub(crate) fn add(&mut self, alloc: Global, row: &'a Row) -> Result<(), AllocError>
+        requires few { (rows : List Values) × (self.old.groups.entries ≡ by_value (tally self.old.items.now) self.old.column.0 rows) × (length rows + 1 < 2 ^ 63) }
+        requires stored { IsStoredRow row.now }
+        ensures column { OnOk result (self.new.column ≡ self.old.column) }
+        ensures items { OnOk result (self.new.items.now ≡ self.old.items.now) }
+        ensures groups { OnOk result ((rows : List Values) → self.old.groups.entries ≡ by_value (tally self.old.items.now) self.old.column.0 rows
+            → self.new.groups.entries ≡ by_value (tally self.old.items.now) self.old.column.0 (rows ++ row.now ∷ [])) }
+    {
+        let value = GroupValue::new(cell(row, self.column));
+        if let Some(group) = self.groups.get_mut(&value) {
+            group.add(row);
+            return Ok(());
+        }
+        let mut group = GroupTally::new(alloc, self.items)?;
+        group.add(row);
+        self.groups.insert(value, group)?;
+        Ok(())
+    }
+}
