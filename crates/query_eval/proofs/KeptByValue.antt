@@ -10,7 +10,7 @@ use Rattle.query_model.specs.Order.{value_cmp}
 use Rattle.query_model.specs.Query.{group_of}
 use Rattle.query_model.specs.Truth.{cell}
 use Rattle.query_eval.specs.ByValue.{by_value}
-use Rattle.query_eval.proofs.Groups.{insert-by_value, lookup-by_value}
+use Rattle.query_eval.proofs.RowGroups.{insert-by_value, lookup-by_value}
 use Rattle.query_eval.proofs.OrderedEntries.{set_value-is_insert_entry}
 
 module _ {X : Type 0} (keep : List Row → X) (column : ℕ) (rows : List Row) (entries : List (Value × X)) (is : entries ≡ by_value keep column rows) where

@@ -1,5 +1,7 @@
-pub mod Groups
 pub mod KeptByValue
+pub mod LentList
 pub mod OrderedEntries
+pub mod RowGroups
 pub mod Runs
+pub mod ShownGroups
 pub mod Tallies

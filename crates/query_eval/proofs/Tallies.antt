@@ -82,7 +82,7 @@ shown-tally (item ∷ items) value rows = rw (shown-tally items value rows) (ap 
     shown-item (SumOf column) = shown_sum-is (filter_map (number_in column.0) rows)
 
 -- a group has no more rows than there are
-length-group_of : (column : ℕ) (rows : List Row) (value : Value) → length (group_of column rows value) ≤ length rows
+pub length-group_of : (column : ℕ) (rows : List Row) (value : Value) → length (group_of column rows value) ≤ length rows
 length-group_of column rows value = omega (arith, length-filter_both (λ row. is_equal (value_cmp (cell row column) value)) (λ row. not (is_equal (value_cmp (cell row column) value))) (λ _. refl) rows)
 
 -- what is found for a value of few rows has room for a row more

@@ -1,4 +1,5 @@
 pub mod ByValue
+pub mod Groups
 pub mod Numbers
 pub mod Stored
 pub mod TableRows

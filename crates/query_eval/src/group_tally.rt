@@ -1,10 +1,11 @@
 ghost use Rattle.std.specs.Prelude.{◌≡◌, ◌∷◌, [], ◌++◌, map, IfOk};
 ghost use Rattle.std.specs.List.{All};
-ghost use Rattle.query_eval.specs.Stored.{IsStoredRow};
+ghost use Rattle.query_eval.specs.Stored.{AreStored, IsStoredRow};
 ghost use Rattle.query_eval.specs.Tally.{HasRoom, shown_tally, tally, with_row};
 
+use crate::group_value::GroupValue;
 use crate::item_tally::ItemTally;
-use own_base::{List, Row, Value};
+use own_base::{List, Row};
 use own_model::BoundItem;
 use std::alloc::{AllocError, Global};
 use std::marker::Model;
@@ -36,6 +37,22 @@ impl GroupTally {
         Ok(GroupTally { items: tallies })
     }
 
+    /// What is counted in some rows.
+    pub(crate) fn of_rows(
+        alloc: Global,
+        items: &[BoundItem],
+        rows: &[&Row],
+    ) -> Result<GroupTally, AllocError>
+        requires { AreStored (map (λ row. row.now) rows.now) }
+        ensures { IfOk result (λ group. group ≡ tally items.now (map (λ row. row.now) rows.now)) }
+    {
+        let mut group = GroupTally::new(alloc, items)?;
+        for row in rows {
+            group.add(row);
+        }
+        Ok(group)
+    }
+
     /// One row more. Takes no memory.
     pub(crate) fn add(&mut self, row: &Row)
         requires room { All (HasRoom 1) self.old }
@@ -48,7 +65,7 @@ impl GroupTally {
     }
 
     /// What the select shows of a group that has this value.
-    pub(crate) fn shown(&self, alloc: Global, value: &Value) -> Result<Row, AllocError>
+    pub(crate) fn shown(&self, alloc: Global, value: &GroupValue<'_>) -> Result<Row, AllocError>
         requires { All (HasRoom 0) self.now }
         ensures { IfOk result (λ row. row ≡ map (shown_tally value.now) self.now) }
     {

@@ -1,8 +1,9 @@
-ghost use Rattle.std.specs.Prelude.{◌≡◌, unwrap_or, OnOk, OnErr, ◌++◌, ◌∷◌, []};
+ghost use Rattle.std.specs.Prelude.{◌≡◌, unwrap_or, IfOk};
 ghost use Rattle.std.specs.Option.{option_copied};
 
-use own_base::Value;
+use own_base::{MakeCopy, Value};
 use pred_eval::compare_values;
+use std::alloc::{AllocError, Global};
 use std::cmp::Ordering;
 use std::marker::Model;
 
@@ -30,6 +31,16 @@ impl<'a> GroupValue<'a> {
         ensures { result ≡ unwrap_or (option_copied value.entry) Value.Null }
     {
         GroupValue { value }
+    }
+
+    /// A copy of the value.
+    pub(crate) fn copied(&self, alloc: Global) -> Result<Value, AllocError>
+        ensures { IfOk result (λ copy. copy ≡ self.now) }
+    {
+        match self.value {
+            Some(value) => value.copy(alloc),
+            None => Ok(Value::Null),
+        }
     }
 }
 

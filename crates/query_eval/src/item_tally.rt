@@ -2,8 +2,9 @@ ghost use Rattle.std.specs.Prelude.{◌≡◌, [], IfOk};
 ghost use Rattle.query_eval.specs.Stored.{IsStoredRow};
 ghost use Rattle.query_eval.specs.Tally.{HasRoom, item_tally, shown_tally, with_row};
 
+use crate::group_value::GroupValue;
 use crate::number_tally::NumberTally;
-use own_base::{ColNo, MakeCopy, Row, Value};
+use own_base::{ColNo, Row, Value};
 use own_model::BoundItem;
 use pred_eval::cell;
 use std::alloc::{AllocError, Global};
@@ -49,12 +50,12 @@ impl ItemTally {
     }
 
     /// What the item shows of a group that has this value.
-    pub(crate) fn shown(&self, alloc: Global, value: &Value) -> Result<Value, AllocError>
+    pub(crate) fn shown(&self, alloc: Global, value: &GroupValue<'_>) -> Result<Value, AllocError>
         requires { HasRoom 0 self.now }
         ensures { IfOk result (λ shown. shown ≡ shown_tally value.now self.now) }
     {
         match self {
-            ItemTally::Group => value.copy(alloc),
+            ItemTally::Group => value.copied(alloc),
             ItemTally::Count(rows) => Ok(Value::Int(*rows as i64)),
             ItemTally::Sum(_, numbers) => Ok(numbers.shown()),
         }

@@ -3,6 +3,7 @@
 
 mod group_tally;
 mod group_value;
+mod groups;
 mod item_tally;
 mod lent_rows;
 mod number_tally;

@@ -1,7 +1,7 @@
-ghost use Rattle.std.specs.Prelude.{◌≡◌, ◌+◌, ◌<◌, ◌^◌, ◌∷◌, [], ◌++◌, List, length, OnOk};
+ghost use Rattle.std.specs.Prelude.{◌≡◌, ◌+◌, ◌<◌, ◌^◌, ◌∷◌, [], ◌++◌, List, length, map, IfOk, OnOk};
 ghost use Rattle.own_model.specs.Db.{Row as Values};
 ghost use Rattle.query_eval.specs.ByValue.{by_value};
-ghost use Rattle.query_eval.specs.Stored.{IsStoredRow};
+ghost use Rattle.query_eval.specs.Stored.{AreStored, IsStoredRow};
 ghost use Rattle.query_eval.specs.Tally.{tally};
 
 use crate::group_tally::GroupTally;
@@ -34,6 +34,23 @@ impl<'a> ValueTallies<'a> {
         }
     }
 
+    /// What is counted in some rows for each value of a column.
+    pub(crate) fn of_rows(
+        alloc: Global,
+        items: &'a [BoundItem],
+        column: ColNo,
+        rows: &[&'a Row],
+    ) -> Result<ValueTallies<'a>, AllocError>
+        requires { AreStored (map (λ row. row.now) rows.now) }
+        ensures { IfOk result (λ tallies. tallies.groups.entries ≡ by_value (tally items.now) column.0 (map (λ row. row.now) rows.now)) }
+    {
+        let mut tallies = ValueTallies::new(alloc, items, column);
+        for row in rows {
+            tallies.add(alloc, row)?;
+        }
+        Ok(tallies)
+    }
+
     /// One row more than some: few enough that they are counted in 64 bits.
     pub(crate) fn add(&mut self, alloc: Global, row: &'a Row) -> Result<(), AllocError>
         requires few { (rows : List Values) × (self.old.groups.entries ≡ by_value (tally self.old.items.now) self.old.column.0 rows) × (length rows + 1 < 2 ^ 63) }
@@ -52,5 +69,12 @@ impl<'a> ValueTallies<'a> {
         group.add(row);
         self.groups.insert(value, group)?;
         Ok(())
+    }
+
+    /// How many values there are. Takes no memory.
+    pub(crate) fn count(&self) -> usize
+        ensures { result ≡ length self.now.groups.entries }
+    {
+        self.groups.len()
     }
 }
