@@ -8,7 +8,7 @@ use Rattle.own_model.specs.Db.{Row}
 use Rattle.query_model.specs.Query.{group_of, summary, values_of}
 use Rattle.query_eval.specs.ByValue.{by_value}
 use Rattle.query_eval.specs.declared.item_tally.ItemTally.{ItemTally}
-use Rattle.query_eval.specs.Groups.{shown_entry}
+use Rattle.query_eval.specs.ShownEntry.{shown_entry}
 use Rattle.query_eval.specs.Tally.{HasRoom, tally}
 use Rattle.query_eval.proofs.Tallies.{length-group_of, shown-tally, tally-room}
 

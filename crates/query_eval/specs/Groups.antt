@@ -1,17 +1,12 @@
 -- The groups of a grouped select, by the rows that they show.
 use Rattle.std.specs.Prelude.{List, [], ◌∷◌, map}
 use Rattle.std.specs.List.{All}
-use Rattle.own_base.specs.declared.value.Value.{Value}
 use Rattle.own_base.specs.declared.value.Value.TheVariants.{Null}
 use Rattle.own_model.specs.Db.{Row}
 use Rattle.query_eval.specs.declared.groups.Counted.{Counted}
 use Rattle.query_eval.specs.declared.groups.Counted.TheVariants.{Whole, ByValue}
-use Rattle.query_eval.specs.declared.item_tally.ItemTally.{ItemTally}
-use Rattle.query_eval.specs.Tally.{HasRoom, shown_tally}
-
--- what is shown of a group
-abbrev pub shown_entry : Value × List ItemTally → Row
-shown_entry entry = map (shown_tally entry.0) entry.1
+use Rattle.query_eval.specs.ShownEntry.{shown_entry}
+use Rattle.query_eval.specs.Tally.{HasRoom}
 
 -- one row for all rows, or one for each value
 abbrev pub shown_groups : Counted → List Row

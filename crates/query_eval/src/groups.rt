@@ -72,4 +72,19 @@ impl<'a> Groups<'a> {
             Counted::ByValue(tallies) => tallies.count(),
         }
     }
+
+    /// The rows that they show.
+    pub(crate) fn rows(&self, alloc: Global) -> Result<List<Row>, AllocError>
+        ensures { IfOk result (λ rows. rows ≡ self.now) }
+    {
+        match &self.counted {
+            Counted::Whole(group) => {
+                let row = group.shown(alloc, &GroupValue::new(None))?;
+                let mut rows = List::new(alloc);
+                rows.add(row)?;
+                Ok(rows)
+            }
+            Counted::ByValue(tallies) => tallies.shown(alloc),
+        }
+    }
 }

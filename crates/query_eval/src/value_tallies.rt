@@ -1,12 +1,14 @@
-ghost use Rattle.std.specs.Prelude.{◌≡◌, ◌+◌, ◌<◌, ◌^◌, ◌∷◌, [], ◌++◌, List, length, map, IfOk, OnOk};
+ghost use Rattle.std.specs.Prelude.{◌≡◌, ◌+◌, ◌<◌, ◌^◌, ◌∷◌, [], ◌++◌, List as Seq, length, map, IfOk, OnOk};
+ghost use Rattle.std.specs.List.{All};
 ghost use Rattle.own_model.specs.Db.{Row as Values};
 ghost use Rattle.query_eval.specs.ByValue.{by_value};
+ghost use Rattle.query_eval.specs.ShownEntry.{shown_entry};
 ghost use Rattle.query_eval.specs.Stored.{AreStored, IsStoredRow};
-ghost use Rattle.query_eval.specs.Tally.{tally};
+ghost use Rattle.query_eval.specs.Tally.{HasRoom, tally};
 
 use crate::group_tally::GroupTally;
 use crate::group_value::GroupValue;
-use own_base::{ColNo, Row};
+use own_base::{ColNo, List, Row};
 use own_model::BoundItem;
 use pred_eval::cell;
 use std::alloc::{AllocError, Global};
@@ -53,11 +55,11 @@ impl<'a> ValueTallies<'a> {
 
     /// One row more than some: few enough that they are counted in 64 bits.
     pub(crate) fn add(&mut self, alloc: Global, row: &'a Row) -> Result<(), AllocError>
-        requires few { (rows : List Values) × (self.old.groups.entries ≡ by_value (tally self.old.items.now) self.old.column.0 rows) × (length rows + 1 < 2 ^ 63) }
+        requires few { (rows : Seq Values) × (self.old.groups.entries ≡ by_value (tally self.old.items.now) self.old.column.0 rows) × (length rows + 1 < 2 ^ 63) }
         requires stored { IsStoredRow row.now }
         ensures column { OnOk result (self.new.column ≡ self.old.column) }
         ensures items { OnOk result (self.new.items.now ≡ self.old.items.now) }
-        ensures groups { OnOk result ((rows : List Values) → self.old.groups.entries ≡ by_value (tally self.old.items.now) self.old.column.0 rows
+        ensures groups { OnOk result ((rows : Seq Values) → self.old.groups.entries ≡ by_value (tally self.old.items.now) self.old.column.0 rows
             → self.new.groups.entries ≡ by_value (tally self.old.items.now) self.old.column.0 (rows ++ row.now ∷ [])) }
     {
         let value = GroupValue::new(cell(row, self.column));
@@ -76,5 +78,17 @@ impl<'a> ValueTallies<'a> {
         ensures { result ≡ length self.now.groups.entries }
     {
         self.groups.len()
+    }
+
+    /// The rows that the select shows, one for each value.
+    pub(crate) fn shown(&self, alloc: Global) -> Result<List<Row>, AllocError>
+        requires { All (λ entry. All (HasRoom 0) entry.1) self.now.groups.entries }
+        ensures { IfOk result (λ rows. rows ≡ map shown_entry self.now.groups.entries) }
+    {
+        let mut rows = List::new(alloc);
+        for (value, group) in self.groups.iter() {
+            rows.add(group.shown(alloc, value)?)?;
+        }
+        Ok(rows)
     }
 }
