@@ -10,6 +10,7 @@ mod row_pair;
 
 pub use cells::{cell, compare_cells, copied_cell};
 pub use compare::{compare_values, compared};
-pub use condition::{keeps, truth};
+pub use condition::{keeps, keeps_row, truth};
 pub use expression::{ValueFault, value};
 pub use pinned::pinned_key;
+pub use row_pair::RowPair;
