@@ -1,7 +1,6 @@
 pub mod KeptByValue
-pub mod LentList
 pub mod OrderedEntries
 pub mod RowGroups
-pub mod Runs
+pub mod RunsLeft
 pub mod ShownGroups
 pub mod Tallies

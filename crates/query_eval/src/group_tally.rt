@@ -7,6 +7,7 @@ use crate::group_value::GroupValue;
 use crate::item_tally::ItemTally;
 use own_base::{List, Row};
 use own_model::BoundItem;
+use pred_eval::RowPair;
 use std::alloc::{AllocError, Global};
 use std::marker::Model;
 
@@ -41,10 +42,10 @@ impl GroupTally {
     pub(crate) fn of_rows(
         alloc: Global,
         items: &[BoundItem],
-        rows: &[&Row],
+        rows: &[RowPair<'_>],
     ) -> Result<GroupTally, AllocError>
-        requires { AreStored (map (λ row. row.now) rows.now) }
-        ensures { IfOk result (λ group. group ≡ tally items.now (map (λ row. row.now) rows.now)) }
+        requires { AreStored rows.now }
+        ensures { IfOk result (λ group. group ≡ tally items.now rows.now) }
     {
         let mut group = GroupTally::new(alloc, items)?;
         for row in rows {
@@ -54,7 +55,7 @@ impl GroupTally {
     }
 
     /// One row more. Takes no memory.
-    pub(crate) fn add(&mut self, row: &Row)
+    pub(crate) fn add(&mut self, row: &RowPair<'_>)
         requires room { All (HasRoom 1) self.old }
         requires stored { IsStoredRow row.now }
         ensures { self.new ≡ map (with_row row.now) self.old }

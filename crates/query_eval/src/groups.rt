@@ -7,6 +7,7 @@ use crate::group_value::GroupValue;
 use crate::value_tallies::ValueTallies;
 use own_base::{ColNo, List, Row};
 use own_model::BoundItem;
+use pred_eval::RowPair;
 use std::alloc::{AllocError, Global};
 use std::marker::Model;
 
@@ -42,10 +43,10 @@ impl<'a> Groups<'a> {
         alloc: Global,
         items: &'a [BoundItem],
         group: Option<ColNo>,
-        rows: &[&'a Row],
+        rows: &[RowPair<'a>],
     ) -> Result<Groups<'a>, AllocError>
-        requires { AreStored (map (λ row. row.now) rows.now) }
-        ensures { IfOk result (λ groups. groups ≡ grouped items.now group (map (λ row. row.now) rows.now)) }
+        requires { AreStored rows.now }
+        ensures { IfOk result (λ groups. groups ≡ grouped items.now group rows.now) }
     {
         match group {
             None => {

@@ -4,9 +4,9 @@ ghost use Rattle.query_eval.specs.Tally.{HasRoom, item_tally, shown_tally, with_
 
 use crate::group_value::GroupValue;
 use crate::number_tally::NumberTally;
-use own_base::{ColNo, Row, Value};
+use own_base::{ColNo, Value};
 use own_model::BoundItem;
-use pred_eval::cell;
+use pred_eval::RowPair;
 use std::alloc::{AllocError, Global};
 
 /// What is counted for an item of a grouped select.
@@ -33,7 +33,7 @@ impl ItemTally {
     }
 
     /// One row more. Takes no memory.
-    pub(crate) fn add(&mut self, row: &Row)
+    pub(crate) fn add(&mut self, row: &RowPair<'_>)
         requires room { HasRoom 1 self.old }
         requires stored { IsStoredRow row.now }
         ensures { self.new ≡ with_row row.now self.old }
@@ -42,7 +42,7 @@ impl ItemTally {
             ItemTally::Group => {}
             ItemTally::Count(rows) => *rows += 1,
             ItemTally::Sum(column, numbers) => {
-                if let Some(Value::Int(number)) = cell(row, *column) {
+                if let Some(Value::Int(number)) = row.cell(*column) {
                     numbers.add(number);
                 }
             }

@@ -3,7 +3,7 @@ ghost use Rattle.own_model.specs.Db.{Row as Values};
 ghost use Rattle.query_eval.specs.ByValue.{by_value};
 
 use crate::group_value::GroupValue;
-use crate::lent_rows::LentRows;
+use crate::row_list::RowList;
 use own_base::{ColNo, Row, Value};
 use pred_eval::cell;
 use std::alloc::{AllocError, Global};
@@ -13,7 +13,7 @@ use std::collections::BTreeMap;
 #[derive(Drop)]
 pub(crate) struct ValueIndex<'a> {
     column: ColNo,
-    rows: BTreeMap<GroupValue<'a>, LentRows<'a>>,
+    rows: BTreeMap<GroupValue<'a>, RowList<'a>>,
 }
 
 impl<'a> ValueIndex<'a> {
@@ -39,7 +39,7 @@ impl<'a> ValueIndex<'a> {
             rows.push(row)?;
             return Ok(());
         }
-        let mut rows = LentRows::new(alloc);
+        let mut rows = RowList::new(alloc);
         rows.push(row)?;
         self.rows.insert(value, rows)?;
         Ok(())

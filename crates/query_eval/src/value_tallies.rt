@@ -10,7 +10,7 @@ use crate::group_tally::GroupTally;
 use crate::group_value::GroupValue;
 use own_base::{ColNo, List, Row};
 use own_model::BoundItem;
-use pred_eval::cell;
+use pred_eval::RowPair;
 use std::alloc::{AllocError, Global};
 use std::collections::BTreeMap;
 
@@ -41,10 +41,10 @@ impl<'a> ValueTallies<'a> {
         alloc: Global,
         items: &'a [BoundItem],
         column: ColNo,
-        rows: &[&'a Row],
+        rows: &[RowPair<'a>],
     ) -> Result<ValueTallies<'a>, AllocError>
-        requires { AreStored (map (λ row. row.now) rows.now) }
-        ensures { IfOk result (λ tallies. tallies.groups.entries ≡ by_value (tally items.now) column.0 (map (λ row. row.now) rows.now)) }
+        requires { AreStored rows.now }
+        ensures { IfOk result (λ tallies. tallies.groups.entries ≡ by_value (tally items.now) column.0 rows.now) }
     {
         let mut tallies = ValueTallies::new(alloc, items, column);
         for row in rows {
@@ -54,7 +54,7 @@ impl<'a> ValueTallies<'a> {
     }
 
     /// One row more than some: few enough that they are counted in 64 bits.
-    pub(crate) fn add(&mut self, alloc: Global, row: &'a Row) -> Result<(), AllocError>
+    pub(crate) fn add(&mut self, alloc: Global, row: &RowPair<'a>) -> Result<(), AllocError>
         requires few { (rows : Seq Values) × (self.old.groups.entries ≡ by_value (tally self.old.items.now) self.old.column.0 rows) × (length rows + 1 < 2 ^ 63) }
         requires stored { IsStoredRow row.now }
         ensures column { OnOk result (self.new.column ≡ self.old.column) }
@@ -62,7 +62,7 @@ impl<'a> ValueTallies<'a> {
         ensures groups { OnOk result ((rows : Seq Values) → self.old.groups.entries ≡ by_value (tally self.old.items.now) self.old.column.0 rows
             → self.new.groups.entries ≡ by_value (tally self.old.items.now) self.old.column.0 (rows ++ row.now ∷ [])) }
     {
-        let value = GroupValue::new(cell(row, self.column));
+        let value = GroupValue::new(row.cell(self.column));
         if let Some(group) = self.groups.get_mut(&value) {
             group.add(row);
             return Ok(());

@@ -2,7 +2,7 @@ use Rattle.std.proofs.Common.{◌≡◌, ◌<◌, [], length, arith}
 use Rattle.std.proofs.lemmas.List.{nil_from_length}
 use Rattle.std.proofs.lemmas.Bool.Decides.{nat_tests}
 use Rattle.own_model.specs.Stored.{rows_at}
-use Rattle.query_eval.proofs.Runs.{run_taken, run_within}
+use Rattle.query_eval.proofs.RunsLeft.{run_taken, run_within}
 use Rattle.query_eval.proofs.table_rows.TableRows.refill.Goals as goal
 
 -- The run ends within the table, whose rows are counted.

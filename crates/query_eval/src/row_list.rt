@@ -6,11 +6,11 @@ use std::marker::Model;
 
 /// Rows that are lent, in order; contracts see the list of the rows.
 #[derive(Drop)]
-pub(crate) struct LentRows<'a> {
+pub(crate) struct RowList<'a> {
     rows: Vec<&'a Row>,
 }
 
-impl<'a> Model for LentRows<'a> {
+impl<'a> Model for RowList<'a> {
     ghost use Rattle.std.specs.Prelude.{List, map};
     ghost use Rattle.own_base.specs.declared.value.Value.{Value as Held};
 
@@ -19,12 +19,12 @@ impl<'a> Model for LentRows<'a> {
     ghost view = { λ lent. map (λ row. row.now) lent.rows.items };
 }
 
-impl<'a> LentRows<'a> {
+impl<'a> RowList<'a> {
     /// No rows. It takes no memory.
-    pub(crate) fn new(alloc: Global) -> LentRows<'a>
+    pub(crate) fn new(alloc: Global) -> RowList<'a>
         ensures { result ≡ [] }
     {
-        LentRows {
+        RowList {
             rows: Vec::new(alloc),
         }
     }
