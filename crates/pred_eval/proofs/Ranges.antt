@@ -17,4 +17,5 @@ pub in_range_past : (z : ℤ) → (FitsSigned w64 z → ⊥) → in_range z ≡ 
 in_range_past (pos n) past = elim (cases_lt n (2 ^ 63)) [ inl below ↦ absurd (past (record { sfits = below })) | inr above ↦ grind (arith, nat_tests) ]
 in_range_past (negsuc n) past = elim (cases_lt n (2 ^ 63)) [ inl below ↦ absurd (past (record { sfits = below })) | inr above ↦ grind (arith, nat_tests) ]
 
+-- whether a sum of numbers is one
 pub ruleset ranges = (in_range_fits, in_range_past)

@@ -8,7 +8,7 @@ mod expression;
 mod pinned;
 mod row_pair;
 
-pub use cells::{cell, compare_cells, copied_cell};
+pub use cells::{cell, copied_cell};
 pub use compare::{compare_values, compared};
 pub use condition::{keeps, keeps_row, truth};
 pub use expression::{ValueFault, value};

@@ -1,6 +1,12 @@
+pub mod KeptByKey
 pub mod KeptByValue
 pub mod OrderedEntries
+pub mod PinnedRow
+pub mod Replies
 pub mod RowGroups
+pub mod Runs
 pub mod RunsLeft
 pub mod ShownGroups
+pub mod SortedByColumn
+pub mod TableRows
 pub mod Tallies

@@ -1,2 +1,4 @@
+pub mod RowOrder
+pub mod SortedRows
 pub mod TruthByVariant
 pub mod ValueOrder

@@ -1,11 +1,11 @@
 -- The order of values is total.
-use Rattle.std.proofs.Common.{◌≡◌, ℕ, ℤ, pos, List, [], refl, sym, ◌∙◌, ap}
+use Rattle.std.proofs.Common.{◌≡◌, ℕ, ℤ, pos, List, [], refl, sym, ◌∙◌}
 use Rattle.std.specs.Cmp.{IsTotalOrder}
 use Rattle.std.specs.Cmp.Lexicographic.{slice_cmp}
 use Rattle.std.specs.declared.cmp.Ordering.{Ordering}
 use Rattle.std.specs.declared.cmp.Ordering.TheVariants.{Less, Equal, Greater}
-use Rattle.std.specs.Ordering.{int_cmp, nat_cmp, on, ordering_reverse, ordering_then, then_cmp}
-use Rattle.std.proofs.lemmas.Cmp.{int_cmp_total, nat_cmp_total, nat_list_cmp_total, on_total, then_total, tied_itself}
+use Rattle.std.specs.Ordering.{int_cmp, nat_cmp, on, ordering_then, then_cmp}
+use Rattle.std.proofs.lemmas.Cmp.{int_cmp_total, nat_cmp_total, nat_list_cmp_total, on_total, then_total}
 use Rattle.own_base.specs.declared.value.Value.{Value}
 use Rattle.own_base.specs.declared.value.Value.TheVariants.{Null, Int, Text, Sum}
 use Rattle.query_model.specs.Order.{value_cmp}
@@ -35,6 +35,7 @@ bytes_of (Sum number) = []
 by_parts : Value → Value → Ordering
 by_parts = then_cmp (on rank nat_cmp) (then_cmp (on number_of int_cmp) (on bytes_of (slice_cmp nat_cmp)))
 
+-- which is total
 by_parts_total : IsTotalOrder by_parts
 unfolding by_parts
 by_parts_total = then_total (on_total rank nat_cmp_total) (then_total (on_total number_of int_cmp_total) (on_total bytes_of nat_list_cmp_total))
@@ -45,6 +46,7 @@ ends_equal Less = refl
 ends_equal Equal = refl
 ends_equal Greater = refl
 
+-- it is the order of values
 same : (x y : Value) → value_cmp x y ≡ by_parts x y
 unfolding value_cmp by_parts rank number_of bytes_of
 same Null Null = refl

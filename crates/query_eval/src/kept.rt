@@ -1,0 +1,117 @@
+ghost use Rattle.std.specs.Prelude.{◌≡◌, ◌<◌, [], ◌∷◌, ◌++◌, filter, length, IfOk, OnOk};
+ghost use Rattle.std.specs.Option.{option_copied, option_to_list};
+ghost use Rattle.own_model.specs.Stored.{row_named, rows_at};
+ghost use Rattle.query_model.specs.Footprints.{key_column};
+ghost use Rattle.query_model.specs.Truth.{keeps};
+ghost use Rattle.query_eval.specs.Tables.{AreTables};
+
+use crate::lent_rows::LentRows;
+use own_base::{ColNo, Row, RowName, TableNo};
+use own_model::{BoundCond, StoreView};
+use pred_eval::{RowPair, keeps_row, pinned_key};
+use std::alloc::{AllocError, Global};
+
+/// One row more, where WHERE keeps it, behind the rows so far.
+pub(crate) fn keep<'a>(
+    kept: &mut LentRows<'a>,
+    row: RowPair<'a>,
+    cond: Option<&BoundCond>,
+) -> Result<(), AllocError>
+    ensures { OnOk result (kept.new ≡ kept.old ++ filter (keeps (option_copied cond.entry)) (row.entry ∷ [])) }
+{
+    if keeps_row(cond, &row) {
+        kept.push(row)?;
+    }
+    Ok(())
+}
+
+/// Those of some more rows that WHERE keeps, behind the rows so far.
+fn keep_more<'a>(
+    kept: &mut LentRows<'a>,
+    rows: &'a [Row],
+    cond: Option<&BoundCond>,
+) -> Result<(), AllocError>
+    ensures { OnOk result (kept.new ≡ kept.old ++ filter (keeps (option_copied cond.entry)) rows.now) }
+{
+    for row in rows {
+        keep(kept, RowPair::new(row, None), cond)?;
+    }
+    Ok(())
+}
+
+/// The rows that WHERE keeps.
+pub fn kept_rows<'a>(
+    alloc: Global,
+    rows: &'a [Row],
+    cond: Option<&BoundCond>,
+) -> Result<LentRows<'a>, AllocError>
+    ensures { IfOk result (λ kept. kept ≡ filter (keeps (option_copied cond.entry)) rows.now) }
+{
+    let mut kept = LentRows::new(alloc);
+    keep_more(&mut kept, rows, cond)?;
+    Ok(kept)
+}
+
+/// The column of a table's primary key.
+fn key_column<V: StoreView>(view: &V, table: TableNo) -> ColNo
+    requires { table.0 < length (V.schema_of view.now).tables }
+    ensures { result.0 ≡ key_column (V.schema_of view.now) table }
+{
+    view.schema().tables.items()[table.0 as usize].key
+}
+
+/// The row of a name, where WHERE keeps it.
+fn kept_by_key<'a, V: StoreView>(
+    alloc: Global,
+    view: &'a V,
+    name: &RowName,
+    cond: Option<&BoundCond>,
+) -> Result<LentRows<'a>, AllocError>
+    requires { name.now.table.0 < length (V.schema_of view.now).tables }
+    ensures { IfOk result (λ kept. kept ≡ filter (keeps (option_copied cond.entry)) (option_to_list (row_named (V.schema_of view.now) (V.rows view.now) name.now))) }
+{
+    let mut kept = LentRows::new(alloc);
+    if let Some(row) = view.row(name) {
+        keep(&mut kept, RowPair::new(row, None), cond)?;
+    }
+    Ok(kept)
+}
+
+/// The rows of a table that WHERE keeps, run by run.
+fn kept_by_runs<'a, V: StoreView>(
+    alloc: Global,
+    view: &'a V,
+    table: TableNo,
+    cond: Option<&BoundCond>,
+) -> Result<LentRows<'a>, AllocError>
+    requires { table.0 < length (V.schema_of view.now).tables }
+    ensures { IfOk result (λ kept. kept ≡ filter (keeps (option_copied cond.entry)) (rows_at (V.rows view.now) table.0)) }
+{
+    let mut kept = LentRows::new(alloc);
+    let count = view.count(table);
+    let mut at = 0;
+    while at < count {
+        let run = view.rows_from(table, at);
+        keep_more(&mut kept, run, cond)?;
+        at += run.len() as u64;
+    }
+    Ok(kept)
+}
+
+/// The rows of a table that WHERE keeps. Where it pins a primary key, only that row is looked at.
+#[tactic(auto, using(crate::proofs::TableRows::kept_of_table))]
+pub fn kept_in_table<'a, V: StoreView>(
+    alloc: Global,
+    view: &'a V,
+    table: TableNo,
+    cond: Option<&BoundCond>,
+) -> Result<LentRows<'a>, AllocError>
+    requires there { table.0 < length (V.schema_of view.now).tables }
+    requires tables { AreTables (V.schema_of view.now) (V.rows view.now) }
+    ensures { IfOk result (λ kept. kept ≡ filter (keeps (option_copied cond.entry)) (rows_at (V.rows view.now) table.0)) }
+{
+    match pinned_key(alloc, cond, key_column(view, table))? {
+        Some(key) => kept_by_key(alloc, view, &RowName { table, key }, cond),
+        None => kept_by_runs(alloc, view, table, cond),
+    }
+}

@@ -1,0 +1,56 @@
+ghost use Rattle.std.specs.Prelude.{◌≡◌, false, map, IfOk};
+ghost use Rattle.query_model.specs.Query.{in_order, projected, query_rows, reply_of, selected};
+ghost use Rattle.query_eval.specs.Sources.{IsTableOf};
+ghost use Rattle.query_eval.specs.Tables.{AreTables};
+
+use crate::in_order::put_in_order;
+use crate::kept::{kept_in_table, kept_rows};
+use crate::lent_rows::LentRows;
+use crate::shown::shown_rows;
+use own_base::Row;
+use own_model::{BoundSelect, LimitName, REPLY_ROWS, Refusal, Reply, Source1, StoreView};
+use std::alloc::{AllocError, Global};
+
+/// The reply to a select that isn't grouped, from the rows that WHERE keeps. They are counted before they are copied.
+#[tactic(auto, using(crate::proofs::Replies::too_many_kept, crate::proofs::Replies::few_kept))]
+fn plain_reply(alloc: Global, kept: LentRows<'_>, query: &BoundSelect) -> Result<Reply, AllocError>
+    ensures { IfOk result (λ reply. reply ≡ reply_of (map (projected query.now.items) (in_order query.now.order kept.entry))) }
+{
+    if kept.count() as u64 > REPLY_ROWS {
+        return Ok(Reply::Refused(Refusal::Limit(LimitName::Reply)));
+    }
+    let mut rows = kept;
+    put_in_order(&mut rows, query.order)?;
+    Ok(Reply::Rows(shown_rows(alloc, query.items.items(), &rows)?))
+}
+
+/// The reply to a select that isn't grouped, over the rows of its source.
+#[tactic(auto, unfolding(query_model::specs::Query::selected))]
+pub fn select_rows(alloc: Global, rows: &[Row], query: &BoundSelect) -> Result<Reply, AllocError>
+    requires { query.now.grouped ≡ false }
+    ensures { IfOk result (λ reply. reply ≡ reply_of (selected query.now rows.now)) }
+{
+    let kept = kept_rows(alloc, rows, query.cond.as_ref())?;
+    plain_reply(alloc, kept, query)
+}
+
+/// The reply to a select that isn't grouped, from a table of a store.
+#[tactic(auto, unfolding(query_model::specs::Query::query_rows, query_model::specs::Query::selected))]
+pub fn select<V: StoreView>(
+    alloc: Global,
+    view: &V,
+    query: &BoundSelect,
+) -> Result<Reply, AllocError>
+    requires plain { query.now.grouped ≡ false }
+    requires source { IsTableOf (V.schema_of view.now) query.now.source }
+    requires tables { AreTables (V.schema_of view.now) (V.rows view.now) }
+    ensures { IfOk result (λ reply. reply ≡ reply_of (query_rows (V.schema_of view.now) (V.rows view.now) query.now)) }
+{
+    match &query.source {
+        Source1::Table(table) => {
+            let kept = kept_in_table(alloc, view, *table, query.cond.as_ref())?;
+            plain_reply(alloc, kept, query)
+        }
+        Source1::View(_) | Source1::Pair { .. } => unreachable!(),
+    }
+}
