@@ -12,5 +12,5 @@ pub use cells::{cell, copied_cell};
 pub use compare::{compare_values, compared};
 pub use condition::{keeps, keeps_row, truth};
 pub use expression::{ValueFault, value};
-pub use pinned::pinned_key;
+pub use pinned::{literal_key, pinned_key};
 pub use row_pair::RowPair;

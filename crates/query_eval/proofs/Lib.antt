@@ -1,5 +1,6 @@
 pub mod KeptByKey
 pub mod KeptByValue
+pub mod MeetingRows
 pub mod OrderedEntries
 pub mod PinnedRow
 pub mod Replies

@@ -61,7 +61,7 @@ turned Equal = refl
 turned Greater = refl
 
 -- values equal each other
-is_equal-back : (value other : Value) → is_equal (value_cmp value other) ≡ is_equal (value_cmp other value)
+pub is_equal-back : (value other : Value) → is_equal (value_cmp value other) ≡ is_equal (value_cmp other value)
 is_equal-back value other = ap is_equal (value_order.antisymm value other) ∙ turned (value_cmp other value)
 
 regrouped : (a b d : Bool) → (a || (b || d)) ≡ ((b || a) || d)

@@ -1,5 +1,6 @@
 pub mod ByValue
 pub mod Groups
+pub mod Meetings
 pub mod Numbers
 pub mod ShownEntry
 pub mod Sources

@@ -1,5 +1,6 @@
 ghost use Rattle.std.specs.Prelude.{◌≡◌, unwrap_or, IfOk};
 ghost use Rattle.std.specs.Option.{option_copied};
+ghost use Rattle.query_model.specs.Truth.{is_null};
 
 use own_base::{MakeCopy, Value};
 use pred_eval::compare_values;
@@ -31,6 +32,13 @@ impl<'a> GroupValue<'a> {
         ensures { result ≡ unwrap_or (option_copied value.entry) Value.Null }
     {
         GroupValue { value }
+    }
+
+    /// Whether it is NULL. Takes no memory.
+    pub(crate) fn is_null(&self) -> bool
+        ensures { result ≡ is_null self.now }
+    {
+        matches!(self.value, None | Some(Value::Null))
     }
 
     /// A copy of the value.

@@ -4,7 +4,7 @@ use own_base::Row;
 use std::alloc::{AllocError, Global};
 use std::marker::Model;
 
-/// Rows that are lent, in order; contracts see the list of the rows.
+/// Rows of a table that are lent, in order; contracts see the list of the rows.
 #[derive(Drop)]
 pub(crate) struct RowList<'a> {
     rows: Vec<&'a Row>,

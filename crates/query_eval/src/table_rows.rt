@@ -23,6 +23,7 @@ impl<'a, V: StoreView> TableRows<'a, V> {
     pub(crate) fn new(view: &'a V, table: TableNo) -> TableRows<'a, V>
         requires { table.0 < length (V.schema_of view.now).tables }
         ensures view { result.view.now ≡ view.now }
+        ensures table { result.table ≡ table }
         ensures rows { rows_left result.run.now result.behind (rows_at (V.rows view.now) table.0) ≡ rows_at (V.rows view.now) table.0 }
     {
         TableRows {

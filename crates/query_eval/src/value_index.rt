@@ -1,10 +1,15 @@
-ghost use Rattle.std.specs.Prelude.{◌≡◌, ◌∷◌, [], ◌++◌, List, map, OnOk};
+ghost use Rattle.std.specs.Prelude.{◌≡◌, ◌<◌, ◌∷◌, [], ◌++◌, List as Seq, length, unwrap_or, IfOk, OnOk};
+ghost use Rattle.std.specs.Option.{option_copied};
 ghost use Rattle.own_model.specs.Db.{Row as Values};
+ghost use Rattle.own_model.specs.Stored.{rows_at};
 ghost use Rattle.query_eval.specs.ByValue.{by_value};
+ghost use Rattle.query_eval.specs.Meetings.{meeting};
 
 use crate::group_value::GroupValue;
 use crate::row_list::RowList;
-use own_base::{ColNo, Row, Value};
+use crate::table_rows::TableRows;
+use own_base::{ColNo, Row, TableNo, Value};
+use own_model::StoreView;
 use pred_eval::cell;
 use std::alloc::{AllocError, Global};
 use std::collections::BTreeMap;
@@ -28,10 +33,28 @@ impl<'a> ValueIndex<'a> {
         }
     }
 
+    /// The rows of a table by what stands in a column.
+    pub(crate) fn of_table<V: StoreView>(
+        alloc: Global,
+        view: &'a V,
+        table: TableNo,
+        column: ColNo,
+    ) -> Result<ValueIndex<'a>, AllocError>
+        requires { table.0 < length (V.schema_of view.now).tables }
+        ensures column { IfOk result (λ index. index.column ≡ column) }
+        ensures rows { IfOk result (λ index. index.rows.entries ≡ by_value (λ rows. rows) column.0 (rows_at (V.rows view.now) table.0)) }
+    {
+        let mut index = ValueIndex::new(alloc, column);
+        for row in TableRows::new(view, table) {
+            index.add(alloc, row)?;
+        }
+        Ok(index)
+    }
+
     /// One row more than some.
     pub(crate) fn add(&mut self, alloc: Global, row: &'a Row) -> Result<(), AllocError>
         ensures column { OnOk result (self.new.column ≡ self.old.column) }
-        ensures rows { OnOk result ((rows : List Values) → self.old.rows.entries ≡ by_value (λ rows. rows) self.old.column.0 rows
+        ensures rows { OnOk result ((rows : Seq Values) → self.old.rows.entries ≡ by_value (λ rows. rows) self.old.column.0 rows
             → self.new.rows.entries ≡ by_value (λ rows. rows) self.old.column.0 (rows ++ row.now ∷ [])) }
     {
         let value = GroupValue::new(cell(row, self.column));
@@ -43,5 +66,17 @@ impl<'a> ValueIndex<'a> {
         rows.push(row)?;
         self.rows.insert(value, rows)?;
         Ok(())
+    }
+
+    /// The rows that meet a value in a join, where there are some; none is NULL. Takes no memory.
+    pub(crate) fn meeting(&self, value: Option<&'a Value>) -> Option<&RowList<'a>>
+        ensures { (rows : Seq Values) → self.now.rows.entries ≡ by_value (λ rows. rows) self.now.column.0 rows
+            → unwrap_or (option_copied result) [] ≡ meeting (unwrap_or (option_copied value.entry) Value.Null) self.now.column.0 rows }
+    {
+        let value = GroupValue::new(value);
+        if value.is_null() {
+            return None;
+        }
+        self.rows.get(&value)
     }
 }
