@@ -46,6 +46,30 @@ meets-null : (right : Value) → meets Null right ≡ false
 unfolding compared
 meets-null right = refl
 
+-- two values that aren't NULL meet each other
+both_meet : (left right : Value) → is_null left ≡ false → is_null right ≡ false → meets left right ≡ meets right left
+both_meet left right some some' = meets-equal left right some ∙ is_equal-back left right ∙ sym (meets-equal right left some')
+
+-- what a value meets meets it
+pub meets-back : (left right : Value) → meets left right ≡ meets right left
+unfolding compared
+meets-back Null Null = refl
+meets-back Null (Int b) = refl
+meets-back Null (Text b) = refl
+meets-back Null (Sum b) = refl
+meets-back (Int a) Null = refl
+meets-back (Int a) (Int b) = both_meet (Int a) (Int b) refl refl
+meets-back (Int a) (Text b) = both_meet (Int a) (Text b) refl refl
+meets-back (Int a) (Sum b) = both_meet (Int a) (Sum b) refl refl
+meets-back (Text a) Null = refl
+meets-back (Text a) (Int b) = both_meet (Text a) (Int b) refl refl
+meets-back (Text a) (Text b) = both_meet (Text a) (Text b) refl refl
+meets-back (Text a) (Sum b) = both_meet (Text a) (Sum b) refl refl
+meets-back (Sum a) Null = refl
+meets-back (Sum a) (Int b) = both_meet (Sum a) (Int b) refl refl
+meets-back (Sum a) (Text b) = both_meet (Sum a) (Text b) refl refl
+meets-back (Sum a) (Sum b) = both_meet (Sum a) (Sum b) refl refl
+
 -- what meets a value that isn't NULL is its group
 pub meeting-group : (value : Value) (column : ℕ) (rows : List Row) → is_null value ≡ false → meeting value column rows ≡ group_of column rows value
 meeting-group value column rows some =

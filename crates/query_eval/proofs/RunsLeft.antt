@@ -12,5 +12,5 @@ run_taken behind rows run rest follow =
     ap (λ others. run ++ others) (sym (drop-drop (length run) behind rows) ∙ ap (drop (length run)) follow ∙ drop_at run rest (length run) refl) ∙ sym follow
 
 -- one row more is gone through
-pub one_gone : {X : Type 0} (gone : List X) (row : X) (left rest all : List X) → left ≡ row ∷ rest → gone ++ left ≡ all → (gone ++ row ∷ []) ++ rest ≡ all
-one_gone gone row left rest all step before = append_assoc gone (row ∷ []) rest ∙ ap (λ others. gone ++ others) (sym step) ∙ before
+pub one_gone : {X : Type 0} (gone : List X) (row : X) {left rest all : List X} → left ≡ row ∷ rest → gone ++ left ≡ all → (gone ++ row ∷ []) ++ rest ≡ all
+one_gone gone row {rest = rest} step before = append_assoc gone (row ∷ []) rest ∙ ap (λ others. gone ++ others) (sym step) ∙ before

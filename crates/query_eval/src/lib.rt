@@ -8,6 +8,7 @@ mod in_order;
 mod item_tally;
 mod kept;
 mod lent_rows;
+mod meeting;
 mod number_tally;
 mod row_list;
 mod row_order;

@@ -16,7 +16,7 @@ loop-row-preserved g c =
     let gone = c.loop-row.invariant in
     let more = c.in_ok-add.ensures.rows gone.0 (rw (gone.2) gone.3) in (
       gone.0 ++ c.in-Some.row.now ∷ [],
-      one_gone gone.0 c.in-Some.row.now _ _ _ c.in-Some.ensures.steps gone.1,
+      one_gone gone.0 c.in-Some.row.now c.in-Some.ensures.steps gone.1,
       c.in_ok-add.ensures.column ∙ gone.2,
       rw gone.2 at more,
     )
