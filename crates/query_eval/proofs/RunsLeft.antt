@@ -1,5 +1,5 @@
 -- The runs of a table's rows.
-use Rattle.std.proofs.Common.{◌≡◌, ℕ, ◌+◌, ◌<◌, ◌≤◌, List, [], ◌∷◌, ◌++◌, drop, length, refl, sym, ap, ◌∙◌, arith, append_assoc, length-append, length-drop}
+use Rattle.std.proofs.Common.{◌≡◌, ℕ, ◌+◌, ◌<◌, ◌≤◌, List, ◌++◌, drop, length, refl, sym, ap, ◌∙◌, arith, length-append, length-drop}
 use Rattle.std.proofs.lemmas.List.{drop-drop, drop_at}
 
 -- no run passes the end
@@ -10,7 +10,3 @@ run_within behind rows run rest follow before = omega (arith, length-drop behind
 pub run_taken : {X : Type 0} (behind : ℕ) (rows run rest : List X) → drop behind rows ≡ run ++ rest → run ++ drop (behind + length run) rows ≡ drop behind rows
 run_taken behind rows run rest follow =
     ap (λ others. run ++ others) (sym (drop-drop (length run) behind rows) ∙ ap (drop (length run)) follow ∙ drop_at run rest (length run) refl) ∙ sym follow
-
--- one row more is gone through
-pub one_gone : {X : Type 0} (gone : List X) (row : X) {left rest all : List X} → left ≡ row ∷ rest → gone ++ left ≡ all → (gone ++ row ∷ []) ++ rest ≡ all
-one_gone gone row {rest = rest} step before = append_assoc gone (row ∷ []) rest ∙ ap (λ others. gone ++ others) (sym step) ∙ before

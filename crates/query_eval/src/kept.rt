@@ -53,7 +53,7 @@ pub fn kept_rows<'a>(
 }
 
 /// The column of a table's primary key.
-fn key_column<V: StoreView>(view: &V, table: TableNo) -> ColNo
+pub(crate) fn key_column<V: StoreView>(view: &V, table: TableNo) -> ColNo
     requires { table.0 < length (V.schema_of view.now).tables }
     ensures { result.0 ≡ key_column (V.schema_of view.now) table }
 {

@@ -6,6 +6,7 @@ mod group_value;
 mod groups;
 mod in_order;
 mod item_tally;
+mod join;
 mod kept;
 mod lent_rows;
 mod meeting;

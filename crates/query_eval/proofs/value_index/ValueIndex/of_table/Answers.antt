@@ -1,5 +1,4 @@
-use Rattle.std.proofs.Common.{[], ◌∷◌, ◌++◌, ◌∙◌}
-use Rattle.query_eval.proofs.RunsLeft.{one_gone}
+use Rattle.std.proofs.Common.{[], ◌∷◌, ◌++◌, ◌∙◌, append_assoc}
 use Rattle.query_eval.proofs.value_index.ValueIndex.of_table.Goals as goal
 
 pub loop-row-init : goal.loop-row-init
@@ -16,7 +15,7 @@ loop-row-preserved g c =
     let gone = c.loop-row.invariant in
     let more = c.in_ok-add.ensures.rows gone.0 (rw (gone.2) gone.3) in (
       gone.0 ++ c.in-Some.row.now ∷ [],
-      one_gone gone.0 c.in-Some.row.now c.in-Some.ensures.steps gone.1,
+      rw (append_assoc, ← c.in-Some.ensures.steps) gone.1,
       c.in_ok-add.ensures.column ∙ gone.2,
       rw gone.2 at more,
     )
