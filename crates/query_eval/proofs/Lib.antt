@@ -12,5 +12,6 @@ pub mod Runs
 pub mod RunsLeft
 pub mod ShownGroups
 pub mod SortedByColumn
+pub mod StoredRows
 pub mod TableRows
 pub mod Tallies

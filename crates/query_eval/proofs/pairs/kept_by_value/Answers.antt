@@ -3,7 +3,7 @@ use Rattle.std.specs.Option.{option_copied}
 use Rattle.own_model.specs.Stored.{rows_at}
 use Rattle.query_model.specs.Truth.{keeps}
 use Rattle.query_eval.proofs.JoinedRows.{kept-more}
-use Rattle.query_eval.proofs.join.kept_by_value.Goals as goal
+use Rattle.query_eval.proofs.pairs.kept_by_value.Goals as goal
 
 -- A row more is gone through, with the rows that it meets.
 pub loop-left-preserved : goal.loop-left-preserved

@@ -6,7 +6,7 @@ use Rattle.own_model.specs.Stored.{rows_at}
 use Rattle.query_model.specs.Query.{joined}
 use Rattle.query_model.specs.Truth.{keeps}
 use Rattle.query_eval.specs.TableRows.{rows_left}
-use Rattle.query_eval.proofs.join.kept_by_value.Given as goal
+use Rattle.query_eval.proofs.pairs.kept_by_value.Given as goal
 
 -- some rows of the left table are gone through, and their pairs are kept
 abbrev pub invariant-loop-left : goal.invariant-loop-left

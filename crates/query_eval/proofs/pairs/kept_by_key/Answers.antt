@@ -5,7 +5,7 @@ use Rattle.query_model.specs.Truth.{keeps}
 use Rattle.query_eval.specs.TableRows.{rows_left}
 use Rattle.query_eval.proofs.JoinedRows.{kept-more, next-stored}
 use Rattle.query_eval.proofs.TableRows.{stored_at, stored_cell}
-use Rattle.query_eval.proofs.join.kept_by_key.Goals as goal
+use Rattle.query_eval.proofs.pairs.kept_by_key.Goals as goal
 
 -- A row of the left table holds no sums.
 pub meeting_row-requires-clause-stored : goal.meeting_row-requires-clause-stored

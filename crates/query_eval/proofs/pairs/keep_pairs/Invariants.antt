@@ -2,7 +2,7 @@ use Rattle.std.proofs.Common.{◌≡◌, ◌++◌, map, take}
 use Rattle.std.specs.List.{filter}
 use Rattle.std.specs.Option.{option_copied}
 use Rattle.query_model.specs.Truth.{keeps}
-use Rattle.query_eval.proofs.join.keep_pairs.Given as goal
+use Rattle.query_eval.proofs.pairs.keep_pairs.Given as goal
 
 -- the pairs with the rows so far
 abbrev pub invariant-loop-right : goal.invariant-loop-right
