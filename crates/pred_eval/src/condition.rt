@@ -160,12 +160,19 @@ pub fn truth(cond: &BoundCond, left: &Row, right: Option<&Row>) -> Truth
     truth_over(cond, &RowPair::new(left, right))
 }
 
-/// Whether WHERE keeps a row, or a pair of a join: its condition is True of it, or there is none. Takes no memory.
+/// Whether WHERE keeps a row of a source: its condition is True of it, or there is none. Takes no memory.
+pub fn keeps_row(cond: Option<&BoundCond>, row: &RowPair<'_>) -> bool
+    ensures { result ≡ keeps (option_copied cond.entry) row.now }
+{
+    match cond {
+        Some(cond) => matches!(truth_over(cond, row), Truth::True),
+        None => true,
+    }
+}
+
+/// Whether WHERE keeps a row, or a pair of a join. Takes no memory.
 pub fn keeps(cond: Option<&BoundCond>, left: &Row, right: Option<&Row>) -> bool
     ensures { result ≡ keeps (option_copied cond.entry) (whole_row left.now (option_copied right.entry)) }
 {
-    match cond {
-        Some(cond) => matches!(truth(cond, left, right), Truth::True),
-        None => true,
-    }
+    keeps_row(cond, &RowPair::new(left, right))
 }

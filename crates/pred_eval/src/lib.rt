@@ -8,8 +8,9 @@ mod expression;
 mod pinned;
 mod row_pair;
 
-pub use cells::{cell, compare_cells, copied_cell};
+pub use cells::{cell, copied_cell};
 pub use compare::{compare_values, compared};
-pub use condition::{keeps, truth};
+pub use condition::{keeps, keeps_row, truth};
 pub use expression::{ValueFault, value};
-pub use pinned::pinned_key;
+pub use pinned::{literal_key, pinned_key};
+pub use row_pair::RowPair;

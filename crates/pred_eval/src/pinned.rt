@@ -7,8 +7,8 @@ use own_base::{ColNo, Key, MakeCopy, Value};
 use own_model::{BoundCond, BoundOperand, Cmp};
 use std::alloc::{AllocError, Global};
 
-/// A literal as a key; NULL is none.
-fn literal_key(alloc: Global, value: &Value) -> Result<Option<Key>, AllocError>
+/// A value as a key; NULL is none.
+pub fn literal_key(alloc: Global, value: &Value) -> Result<Option<Key>, AllocError>
     ensures { IfOk result (λ key. key ≡ literal_key value.now) }
 {
     match value {

@@ -1,11 +1,7 @@
 -- Rows that a condition with `primary key = literal` keeps: the row of that key, where it is kept.
-use Rattle.std.proofs.Common.{◌≡◌, List, [], ◌∷◌, Bool, true, false, cond, Some, Ordering, map, refl, sym, ap, ◌∙◌}
-use Rattle.std.specs.declared.cmp.Ordering.TheVariants.{Less, Equal, Greater}
+use Rattle.std.proofs.Common.{◌≡◌, List, true, false, Some, refl, sym, ap, ◌∙◌}
 use Rattle.std.specs.List.{AllByRecursion as Each, filter, find}
-use Rattle.std.specs.List.Sorted.{IsStrictlySortedBy}
 use Rattle.std.specs.Option.{option_to_list}
-use Rattle.std.specs.Ordering.{ordering_reverse}
-use Rattle.own_base.specs.Key.{key_cmp}
 use Rattle.own_base.specs.declared.value.Key.{Key}
 use Rattle.own_model.specs.declared.bound.BoundCond.{BoundCond}
 use Rattle.own_model.specs.declared.schema.TableDef.{TableDef}
@@ -13,18 +9,11 @@ use Rattle.own_model.specs.declared.truth.Truth.{Truth as Answer}
 use Rattle.own_model.specs.declared.truth.Truth.TheVariants.{True, False, Unknown}
 use Rattle.own_model.specs.Db.{IsRising, Row, key_of}
 use Rattle.own_model.specs.Stored.{has_key, is_equal}
-use Rattle.own_model.proofs.KeyOrder.{key_order}
 use Rattle.query_model.specs.Footprints.{pinned_by}
 use Rattle.query_model.specs.Truth.{cell, is_true, keeps, truth}
-use Rattle.query_model.proofs.SortedRows.{none_pass}
 use Rattle.query_eval.specs.Stored.{IsStored}
 use Rattle.query_eval.proofs.PinnedRow.{true_pins}
-
--- only an equality is equal
-equal_from : (ordering : Ordering) → is_equal ordering ≡ true → ordering ≡ Equal
-equal_from Less is = cc
-equal_from Equal is = refl
-equal_from Greater is = cc
+use Rattle.query_eval.proofs.RowOfKey.{passing_of_rising}
 
 module _ (table : TableDef) (condition : BoundCond) (key : Key) (pins : pinned_by table.key.0 condition ≡ Some key) where
   -- a row of another key isn't kept
@@ -37,25 +26,7 @@ module _ (table : TableDef) (condition : BoundCond) (key : Key) (pins : pinned_b
       by False is = refl
       by Unknown is = refl
 
-  -- no row behind one of this key has it
-  others : (first : Row) (rest : List Row) → key_cmp (key_of table first) key ≡ Equal → Each (λ later. key_cmp (key_of table first) later ≡ Less) (map (key_of table) rest)
-      → Each (λ row. IsStored (cell row table.key.0)) rest → Each (λ row. keeps (Some condition) row ≡ false) rest
-  others first [] equal rises stored = tt
-  others first (next ∷ rest) equal rises stored =
-      let above : key_cmp key (key_of table next) ≡ Less = sym (key_order.congr (key_of table first) key (key_of table next) equal) ∙ rises.0 in
-      let greater : key_cmp (key_of table next) key ≡ Greater = key_order.antisymm (key_of table next) key ∙ ap ordering_reverse above in
-      (not_kept next stored.0 (ap is_equal greater), others first rest equal rises.1 stored.1)
-
   -- the rows that are kept are that of the key, where it is kept
   pub kept_of_rising : (rows : List Row) → IsRising table rows → Each (λ row. IsStored (cell row table.key.0)) rows
       → filter (keeps (Some condition)) rows ≡ filter (keeps (Some condition)) (option_to_list (find (has_key table key) rows))
-  unfolding IsStrictlySortedBy
-  kept_of_rising [] rising stored = refl
-  kept_of_rising (first ∷ rest) rising stored = by (kept_of_rising rest rising.1 stored.1) (has_key table key first) refl
-    where
-      by : filter (keeps (Some condition)) rest ≡ filter (keeps (Some condition)) (option_to_list (find (has_key table key) rest)) → (b : Bool) → has_key table key first ≡ b
-          → filter (keeps (Some condition)) (first ∷ rest) ≡ filter (keeps (Some condition)) (option_to_list (cond b (Some first) (find (has_key table key) rest)))
-      by more true is =
-          let none : filter (keeps (Some condition)) rest ≡ [] = none_pass (keeps (Some condition)) rest (others first rest (equal_from _ is) rising.0 stored.1) in
-          rw none refl
-      by more false is = let passed : keeps (Some condition) first ≡ false = not_kept first stored.0 is in rw passed more
+  kept_of_rising = passing_of_rising table key (keeps (Some condition)) not_kept

@@ -44,7 +44,7 @@ taken_by_eq Equal holds = refl
 taken_by_eq Greater holds = cc
 
 -- a value that equals a literal has its key
-same_key : (key : Key) (value literal : Value) → IsStored value → literal_key literal ≡ Some key → comparison Eq (compared value literal) ≡ True → key_cmp (as_key value) key ≡ Equal
+pub same_key : (key : Key) (value literal : Value) → IsStored value → literal_key literal ≡ Some key → comparison Eq (compared value literal) ≡ True → key_cmp (as_key value) key ≡ Equal
 unfolding compared
 same_key key (Int number) (Int other) stored pins holds = let is : as_a_key.Int other ≡ key = cc in subst (λ k. key_cmp (as_a_key.Int number) k ≡ Equal) is (taken_by_eq _ holds)
 same_key key (Text bytes) (Text other) stored pins holds = let is : as_a_key.Text other ≡ key = cc in subst (λ k. key_cmp (as_a_key.Text bytes) k ≡ Equal) is (taken_by_eq _ holds)

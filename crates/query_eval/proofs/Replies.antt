@@ -33,3 +33,16 @@ module _ (items : List BoundItem) (order : Option (ColNo × Bool)) (kept : List 
   few_kept few =
       let is : nat_lt REPLY_ROWS (length shown) ≡ false = le-ltb _ _ (subst (λ n. n ≤ REPLY_ROWS) (sym length-shown) few) in
       rw is refl
+
+module _ (order : Option (ColNo × Bool)) (rows : List Row) where
+  -- too many rows in order
+  pub too_many_ordered : REPLY_ROWS < length rows → Refused (Limit limit.Reply) ≡ reply_of (in_order order rows)
+  too_many_ordered many =
+      let is : nat_lt REPLY_ROWS (length (in_order order rows)) ≡ true = lt-ltb _ _ (subst (λ n. REPLY_ROWS < n) (sym (length-in_order order rows)) many) in
+      rw is refl
+
+  -- no more than a reply has
+  pub few_ordered : length rows ≤ REPLY_ROWS → Rows (in_order order rows) ≡ reply_of (in_order order rows)
+  few_ordered few =
+      let is : nat_lt REPLY_ROWS (length (in_order order rows)) ≡ false = le-ltb _ _ (subst (λ n. n ≤ REPLY_ROWS) (sym (length-in_order order rows)) few) in
+      rw is refl

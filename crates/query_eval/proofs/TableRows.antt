@@ -37,14 +37,14 @@ stored_at rows n stored = elim (cases_lt n (length rows)) [
 ]
 
 -- nor does a row in a column
-stored_cell : (column : ℕ) (row : Row) → IsStoredRow row → IsStored (cell row column)
+pub stored_cell : (column : ℕ) (row : Row) → IsStoredRow row → IsStored (cell row column)
 stored_cell column row stored = elim (cases_lt column (length row)) [
   | inl within ↦ All-get_or IsStored row column Null within stored
   | inr past ↦ subst IsStored (sym (get_or_past row column Null past)) tt
 ]
 
 -- nor do rows
-stored_cells : (column : ℕ) (rows : List Row) → AreStored rows → Each (λ row. IsStored (cell row column)) rows
+pub stored_cells : (column : ℕ) (rows : List Row) → AreStored rows → Each (λ row. IsStored (cell row column)) rows
 stored_cells column rows stored =
     recursion_from_All (λ row. IsStored (cell row column)) rows (All-weaker IsStoredRow (λ row. IsStored (cell row column)) (stored_cell column) rows stored)
 

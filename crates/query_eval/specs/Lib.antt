@@ -1,3 +1,10 @@
+pub mod ByValue
+pub mod Groups
+pub mod Meetings
+pub mod Numbers
+pub mod ShownEntry
 pub mod Sources
 pub mod Stored
+pub mod TableRows
 pub mod Tables
+pub mod Tally

@@ -1,4 +1,4 @@
-ghost use Rattle.std.specs.Prelude.{◌≡◌, ◌<◌, ◌++◌, filter, length, IfOk, OnOk};
+ghost use Rattle.std.specs.Prelude.{◌≡◌, ◌<◌, [], ◌∷◌, ◌++◌, filter, length, IfOk, OnOk};
 ghost use Rattle.std.specs.Option.{option_copied, option_to_list};
 ghost use Rattle.own_model.specs.Stored.{row_named, rows_at};
 ghost use Rattle.query_model.specs.Footprints.{key_column};
@@ -8,8 +8,22 @@ ghost use Rattle.query_eval.specs.Tables.{AreTables};
 use crate::lent_rows::LentRows;
 use own_base::{ColNo, Row, RowName, TableNo};
 use own_model::{BoundCond, StoreView};
-use pred_eval::{keeps, pinned_key};
+use pred_eval::{RowPair, keeps_row, pinned_key};
 use std::alloc::{AllocError, Global};
+
+/// One row more, where WHERE keeps it, behind the rows so far.
+pub(crate) fn keep<'a>(
+    kept: &mut LentRows<'a>,
+    row: RowPair<'a>,
+    cond: Option<&BoundCond>,
+) -> Result<(), AllocError>
+    ensures { OnOk result (kept.new ≡ kept.old ++ filter (keeps (option_copied cond.entry)) (row.entry ∷ [])) }
+{
+    if keeps_row(cond, &row) {
+        kept.push(row)?;
+    }
+    Ok(())
+}
 
 /// Those of some more rows that WHERE keeps, behind the rows so far.
 fn keep_more<'a>(
@@ -20,9 +34,7 @@ fn keep_more<'a>(
     ensures { OnOk result (kept.new ≡ kept.old ++ filter (keeps (option_copied cond.entry)) rows.now) }
 {
     for row in rows {
-        if keeps(cond, row, None) {
-            kept.push(row)?;
-        }
+        keep(kept, RowPair::new(row, None), cond)?;
     }
     Ok(())
 }
@@ -41,7 +53,7 @@ pub fn kept_rows<'a>(
 }
 
 /// The column of a table's primary key.
-fn key_column<V: StoreView>(view: &V, table: TableNo) -> ColNo
+pub(crate) fn key_column<V: StoreView>(view: &V, table: TableNo) -> ColNo
     requires { table.0 < length (V.schema_of view.now).tables }
     ensures { result.0 ≡ key_column (V.schema_of view.now) table }
 {
@@ -59,10 +71,8 @@ fn kept_by_key<'a, V: StoreView>(
     ensures { IfOk result (λ kept. kept ≡ filter (keeps (option_copied cond.entry)) (option_to_list (row_named (V.schema_of view.now) (V.rows view.now) name.now))) }
 {
     let mut kept = LentRows::new(alloc);
-    if let Some(row) = view.row(name)
-        && keeps(cond, row, None)
-    {
-        kept.push(row)?;
+    if let Some(row) = view.row(name) {
+        keep(&mut kept, RowPair::new(row, None), cond)?;
     }
     Ok(kept)
 }

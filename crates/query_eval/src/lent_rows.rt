@@ -1,38 +1,25 @@
-ghost use Rattle.std.specs.Prelude.{◌≡◌, [], ◌∷◌, ◌++◌, length, map, OnOk};
-ghost use Rattle.std.specs.Ordering.{is_lt};
-ghost use Rattle.query_model.specs.Order.{ordered_by, precedes};
-ghost use Rattle.query_model.specs.Truth.{cell};
+ghost use Rattle.std.specs.Prelude.{◌≡◌, [], ◌∷◌, ◌++◌, length, OnOk};
+ghost use Rattle.query_model.specs.Order.{ordered_by};
 
-use own_base::{ColNo, Row};
-use pred_eval::compare_cells;
+use crate::row_order::row_order;
+use own_base::ColNo;
+use pred_eval::RowPair;
 use std::alloc::{AllocError, Global};
-use std::cmp::Ordering;
 use std::marker::Model;
 
-/// How two rows stand to each other by a column, rising or with DESC: the lesser comes first.
-fn row_order(left: &Row, right: &Row, column: ColNo, down: bool) -> Ordering
-    ensures { is_lt result ≡ precedes down (cell left.now column.0) (cell right.now column.0) }
-{
-    if down {
-        compare_cells(right, left, column)
-    } else {
-        compare_cells(left, right, column)
-    }
-}
-
-/// Rows that are lent, in order; contracts see the list of the rows.
+/// Rows of a source that are lent, in order; contracts see the list of the rows.
 #[derive(Drop)]
 pub struct LentRows<'a> {
-    rows: Vec<&'a Row>,
+    rows: Vec<RowPair<'a>>,
 }
 
 impl<'a> Model for LentRows<'a> {
-    ghost use Rattle.std.specs.Prelude.{List, map};
+    ghost use Rattle.std.specs.Prelude.{List};
     ghost use Rattle.own_base.specs.declared.value.Value.{Value as Held};
 
     ghost Value = { List (List Held) };
 
-    ghost view = { λ lent. map (λ row. row.now) lent.rows.items };
+    ghost view = { λ lent. lent.rows.items };
 }
 
 impl<'a> LentRows<'a> {
@@ -46,8 +33,8 @@ impl<'a> LentRows<'a> {
     }
 
     /// One row more, last.
-    pub fn push(&mut self, row: &'a Row) -> Result<(), AllocError>
-        ensures { OnOk result (self.new ≡ self.old ++ row.now ∷ []) }
+    pub fn push(&mut self, row: RowPair<'a>) -> Result<(), AllocError>
+        ensures { OnOk result (self.new ≡ self.old ++ row.entry ∷ []) }
     {
         self.rows.push(row)?;
         Ok(())
@@ -69,8 +56,8 @@ impl<'a> LentRows<'a> {
     }
 
     /// Lends the rows, in order. Takes no memory.
-    pub fn rows(&self) -> &[&'a Row]
-        ensures { map (λ row. row.now) result.now ≡ self.now }
+    pub fn rows(&self) -> &[RowPair<'a>]
+        ensures { result.now ≡ self.now }
     {
         self.rows.as_slice()
     }

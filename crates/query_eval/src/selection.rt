@@ -13,7 +13,11 @@ use std::alloc::{AllocError, Global};
 
 /// The reply to a select that isn't grouped, from the rows that WHERE keeps. They are counted before they are copied.
 #[tactic(auto, using(crate::proofs::Replies::too_many_kept, crate::proofs::Replies::few_kept))]
-fn plain_reply(alloc: Global, kept: LentRows<'_>, query: &BoundSelect) -> Result<Reply, AllocError>
+pub(crate) fn plain_reply(
+    alloc: Global,
+    kept: LentRows<'_>,
+    query: &BoundSelect,
+) -> Result<Reply, AllocError>
     ensures { IfOk result (λ reply. reply ≡ reply_of (map (projected query.now.items) (in_order query.now.order kept.entry))) }
 {
     if kept.count() as u64 > REPLY_ROWS {

@@ -4,21 +4,21 @@ ghost use Rattle.query_model.specs.Query.{projected, shown_item};
 use crate::lent_rows::LentRows;
 use own_base::{List, Row, Value};
 use own_model::BoundItem;
-use pred_eval::copied_cell;
+use pred_eval::RowPair;
 use std::alloc::{AllocError, Global};
 
 /// What an item of a plain select shows of a row.
-fn shown_item(alloc: Global, row: &Row, item: &BoundItem) -> Result<Value, AllocError>
+fn shown_item(alloc: Global, row: &RowPair<'_>, item: &BoundItem) -> Result<Value, AllocError>
     ensures { IfOk result (λ value. value ≡ shown_item row.now item.now) }
 {
     match item {
-        BoundItem::Column(column) => copied_cell(alloc, row, *column),
+        BoundItem::Column(column) => row.copied_cell(alloc, *column),
         BoundItem::Count | BoundItem::SumOf(_) => Ok(Value::Null),
     }
 }
 
 /// The row that the items of a plain select show of a row.
-fn shown_row(alloc: Global, items: &[BoundItem], row: &Row) -> Result<Row, AllocError>
+fn shown_row(alloc: Global, items: &[BoundItem], row: &RowPair<'_>) -> Result<Row, AllocError>
     ensures { IfOk result (λ shown. shown ≡ projected items.now row.now) }
 {
     let mut shown = List::new(alloc);

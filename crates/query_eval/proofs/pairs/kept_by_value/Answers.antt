@@ -1,0 +1,19 @@
+use Rattle.std.proofs.Common.{[], ◌∷◌, ◌++◌, append_assoc, unwrap_or}
+use Rattle.std.specs.Option.{option_copied}
+use Rattle.own_model.specs.Stored.{rows_at}
+use Rattle.query_model.specs.Truth.{keeps}
+use Rattle.query_eval.proofs.JoinedRows.{kept-more}
+use Rattle.query_eval.proofs.pairs.kept_by_value.Goals as goal
+
+-- A row more is gone through, with the rows that it meets.
+pub loop-left-preserved : goal.loop-left-preserved
+loop-left-preserved g c =
+    let gone = c.loop-left.invariant in
+    let rights = rows_at (g.V.StoreView.rows c.args.view.now) c.args.tables.right.0 in
+    let index = c.in_ok-index.ensures in
+    let met = rw (c.cell.ensures, index.column) at (c.meeting-rights.ensures rights (rw (index.column) index.rows)) in (
+      gone.0 ++ c.in-Some.left.now ∷ [],
+      rw (append_assoc, ← c.in-Some.ensures.steps) gone.1,
+      kept-more (keeps (option_copied c.args.cond)) c.args.tables.left_column.0 c.args.tables.right_column.0 gone.0 rights c.in-Some.left.now c.loop-left.kept
+          (unwrap_or (option_copied c.meeting-rights.result) []) c.keep_found.new.kept gone.2 met c.in_ok-keep_found.ensures,
+    )

@@ -1,0 +1,43 @@
+ghost use Rattle.std.specs.Prelude.{◌≡◌, filter, IfOk};
+ghost use Rattle.std.specs.Option.{option_copied};
+ghost use Rattle.query_model.specs.Query.{base_rows};
+ghost use Rattle.query_model.specs.Truth.{keeps};
+ghost use Rattle.query_eval.specs.Sources.{IsBaseOf};
+ghost use Rattle.query_eval.specs.Tables.{AreTables};
+
+use crate::kept::kept_in_table;
+use crate::lent_rows::LentRows;
+use crate::pairs::{Joined, kept_pairs};
+use own_model::{BoundCond, Source1, StoreView};
+use std::alloc::{AllocError, Global};
+
+/// The rows of a source that WHERE keeps: of a table, or the pairs of a join.
+pub(crate) fn kept_in_source<'a, V: StoreView>(
+    alloc: Global,
+    view: &'a V,
+    source: &Source1,
+    cond: Option<&BoundCond>,
+) -> Result<LentRows<'a>, AllocError>
+    requires source { IsBaseOf (V.schema_of view.now) source.now }
+    requires tables { AreTables (V.schema_of view.now) (V.rows view.now) }
+    ensures { IfOk result (λ kept. kept ≡ filter (keeps (option_copied cond.entry)) (base_rows (V.rows view.now) source.now)) }
+{
+    match source {
+        Source1::Table(table) => kept_in_table(alloc, view, *table, cond),
+        Source1::Pair {
+            left,
+            right,
+            left_column,
+            right_column,
+        } => {
+            let tables = Joined {
+                left: *left,
+                right: *right,
+                left_column: *left_column,
+                right_column: *right_column,
+            };
+            kept_pairs(alloc, view, tables, cond)
+        }
+        Source1::View(_) => unreachable!(),
+    }
+}
