@@ -5,11 +5,13 @@ mod columns;
 mod fault;
 mod item;
 mod least;
+mod meant;
 mod name;
 mod scope;
 
 pub use columns::{Columns, Heading};
 pub use fault::Fault;
 pub use least::Least;
+pub use meant::Meant;
 pub use name::is_same_name;
 pub use scope::{Named, Scope, Source};
