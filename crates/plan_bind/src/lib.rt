@@ -8,6 +8,7 @@ mod least;
 mod meant;
 mod name;
 mod scope;
+mod tables;
 
 pub use columns::{Columns, Heading};
 pub use fault::Fault;
@@ -15,3 +16,4 @@ pub use least::Least;
 pub use meant::Meant;
 pub use name::is_same_name;
 pub use scope::{Named, Scope, Source};
+pub use tables::{NumberedTable, NumberedView, table_named, view_named};
