@@ -1,4 +1,4 @@
-ghost use Rattle.std.specs.Prelude.{◌≡◌, None, Some, option_map, slice_get};
+ghost use Rattle.std.specs.Prelude.{◌≡◌, None, Some, is_none, option_map, slice_get};
 ghost use Rattle.std.specs.Option.{option_map_or, option_to_list};
 ghost use Rattle.query_model.specs.Scope as spec;
 ghost use Rattle.plan_bind.specs.Lent.{named_of};
@@ -26,6 +26,13 @@ impl<'a> Model for Meant<'a> {
 }
 
 impl<'a> Meant<'a> {
+    /// Whether the reference means no column.
+    pub fn is_none(&self) -> bool
+        ensures { result ≡ is_none self.now }
+    {
+        self.named.is_none()
+    }
+
     /// Its number; that of the first where there is no column.
     pub fn number(&self) -> ColNo
         ensures { result.0 ≡ option_map_or (λ named. named.number) self.now 0 }
