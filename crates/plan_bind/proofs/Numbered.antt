@@ -29,7 +29,11 @@ slice_get-zip_right (a ∷ xs) [] i none = refl
 slice_get-zip_right (a ∷ xs) (b ∷ ys) zero none = absurd (cc)
 slice_get-zip_right (a ∷ xs) (b ∷ ys) (suc i) none = slice_get-zip_right xs ys i none
 
-pub ruleset columns = (length-zip, slice_get-map, slice_get-zip, slice_get-zip_left, slice_get-zip_right)
+-- side by side there are no more than in the first
+pub length-zip_left : {A B : Type 0} (xs : List A) (ys : List B) → length (zip xs ys) ≤ length xs
+length-zip_left xs ys = rw (length-zip xs ys) (omega arith)
+
+pub ruleset columns = (length-zip, slice_get-map, slice_get-zip, slice_get-zip_left, slice_get-zip_right, length-zip_left)
 
 -- of one list behind another: a number of the first
 pub slice_get-append : {A : Type 0} (xs ys : List A) (i : ℕ) → i < length xs → slice_get (xs ++ ys) i ≡ slice_get xs i

@@ -1,3 +1,4 @@
 pub mod After
 pub mod Lent
+pub mod Rows
 pub mod Told

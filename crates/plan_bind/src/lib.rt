@@ -4,6 +4,8 @@
 mod columns;
 mod condition;
 mod fault;
+mod from;
+mod grouping;
 mod item;
 mod kinds;
 mod least;
@@ -16,6 +18,8 @@ mod tables;
 pub use columns::{Columns, Heading};
 pub use condition::{bind_condition, bind_where};
 pub use fault::Fault;
+pub use from::{Rows, Sources, bind_from, bind_table};
+pub use grouping::{is_grouped, listed_items};
 pub use kinds::{are_compared, is_text, kind_of};
 pub use least::Least;
 pub use meant::Meant;
