@@ -1,4 +1,5 @@
 pub mod After
 pub mod Lent
 pub mod Rows
+pub mod Star
 pub mod Told

@@ -1,6 +1,7 @@
 ghost use Rattle.std.specs.Prelude.{◌≡◌, None, Some, is_none, option_map, slice_get};
 ghost use Rattle.std.specs.Option.{option_map_or, option_to_list};
 ghost use Rattle.query_model.specs.Scope as spec;
+ghost use Rattle.query_model.specs.SelectFaults.{is_of_one_table, is_one_column};
 ghost use Rattle.plan_bind.specs.Lent.{named_of};
 
 use crate::name::is_same_name;
@@ -31,6 +32,26 @@ impl<'a> Meant<'a> {
         ensures { result ≡ is_none self.now }
     {
         self.named.is_none()
+    }
+
+    /// Whether both are one column.
+    pub fn is_one_column(&self, other: &Meant<'_>) -> bool
+        ensures { result ≡ is_one_column self.now other.now }
+    {
+        match (&self.named, &other.named) {
+            (Some(left), Some(right)) => left.number == right.number,
+            _ => false,
+        }
+    }
+
+    /// Whether both are columns of one table.
+    pub fn is_of_one_table(&self, other: &Meant<'_>) -> bool
+        ensures { result ≡ is_of_one_table self.now other.now }
+    {
+        match (&self.named, &other.named) {
+            (Some(left), Some(right)) => is_same_name(left.table, right.table),
+            _ => false,
+        }
     }
 
     /// Its number; that of the first where there is no column.
