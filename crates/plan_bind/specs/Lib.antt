@@ -1,5 +1,6 @@
 pub mod After
 pub mod Lent
+pub mod On
 pub mod Rows
 pub mod Star
 pub mod Told
