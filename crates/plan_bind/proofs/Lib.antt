@@ -2,3 +2,5 @@ pub mod Conditions
 pub mod Lookups
 pub mod Numbered
 pub mod Only
+pub mod Positions
+pub mod Selects
