@@ -1,5 +1,6 @@
 pub mod Conditions
 pub mod Lookups
+pub mod Names
 pub mod Numbered
 pub mod Only
 pub mod Positions
