@@ -3,9 +3,8 @@ use Rattle.std.proofs.Common.{◌≡◌, ℕ, zero, suc, ◌+◌, ◌-◌, ◌<�
 use Rattle.std.specs.List.{slice_get, zip}
 use Rattle.std.proofs.lemmas.Option.{slice_get-map}
 use Rattle.std.proofs.lemmas.Slice.Zip.{length-zip}
-use Rattle.std.proofs.lemmas.List.FromFn.{length-enumerate_from}
 use Rattle.own_model.specs.declared.schema.Kind.{Kind}
-use Rattle.query_model.specs.Scope.{NameBytes, Named, scope_from}
+use Rattle.query_model.specs.Scope.{NameBytes, scope_from}
 
 -- of two lists side by side: where both have the number
 pub slice_get-zip : {A B : Type 0} (xs : List A) (ys : List B) (i : ℕ) (x : A) (y : B)

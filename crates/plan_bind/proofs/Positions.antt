@@ -1,5 +1,5 @@
 -- The first item that passes, by its number.
-use Rattle.std.proofs.Common.{◌≡◌, ℕ, suc, ◌+◌, ◌<◌, Bool, true, false, not, ◌||◌, cond, List, [], ◌∷◌, Option, Some, None, is_some, length, nat_lt, arith, refl, ◌∙◌}
+use Rattle.std.proofs.Common.{◌≡◌, ℕ, suc, ◌+◌, ◌<◌, Bool, true, false, not, ◌||◌, cond, List, [], ◌∷◌, Some, None, is_some, length, nat_lt, arith, refl, ◌∙◌}
 use Rattle.std.specs.List.{list_any, position, position_or_len}
 use Rattle.std.proofs.lemmas.Bool.Decides.{nat_tests}
 use Rattle.std.proofs.lemmas.List.Quantifiers.{position-Some}

@@ -26,8 +26,8 @@ fn output_position(items: &[Item], name: &Name) -> Option<usize>
         .position(|item| output_name(item) == name.bytes())
 }
 
-/// Whether a reference may stand in ORDER BY of a grouped select by its table.
-fn is_of_table(table: &Name, reference: &ColRef) -> bool
+/// Whether the table before the dot, where one stands there, is this one.
+fn is_under(table: &Name, reference: &ColRef) -> bool
     ensures { result ≡ option_map_or (bytes_eq table.now) reference.now.table true }
 {
     match &reference.table {
@@ -44,7 +44,7 @@ fn bind_output<'a>(select: &'a Select, reference: &'a ColRef, least: &mut Least<
     ensures noted { least.new ≡ after least.old (if orders_output select.now reference.now then [] else NoColumn reference.now.column ∷ []) }
 {
     let position = output_position(listed_items(&select.items), &reference.column);
-    if !(is_of_table(&select.from, reference) && position.is_some()) {
+    if !(is_under(&select.from, reference) && position.is_some()) {
         least.note(Fault::NoColumn(&reference.column));
     }
     match position {

@@ -1,4 +1,4 @@
-use Rattle.std.proofs.Common.{◌+◌, length, arith, length-append}
+use Rattle.std.proofs.Common.{arith, length-append}
 use Rattle.plan_bind.proofs.Numbered.{length-scope_from}
 use Rattle.plan_bind.proofs.scope.Scope.len.Goals as goal
 
