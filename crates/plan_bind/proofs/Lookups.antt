@@ -33,4 +33,5 @@ pub view_within : (schema : Schema) (i : ℕ) (x : ViewDef) → AreViewsWithin s
     → length x.names ≤ SELECT_ITEMS
 view_within schema i x limits within is = all_at _ schema.views i x limits.each within is
 
+-- a loop that returns the first item that passes, with its number
 pub ruleset lookups = (find_here, table_within, view_within)

@@ -20,6 +20,8 @@ pub repeated_here : (names : List NameBytes) (i : ℕ) (name : NameBytes) → i 
     ≡ (if list_any (λ other. bytes_eq other name) (take i names) then BadSchema 15 name ∷ [] else []) ++ repeated_after (take (i + 1) names) (drop (i + 1) names)
 repeated_here names i name within is = rw (drop_here names i name within is, take_more names i name within, ← is)
 
+-- names that are taken
 pub ruleset named = (is_named-map)
 
+-- names that repeat one before them
 pub ruleset repeated = (repeated_here)

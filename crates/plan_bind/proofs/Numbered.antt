@@ -32,6 +32,7 @@ slice_get-zip_right (a ∷ xs) (b ∷ ys) (suc i) none = slice_get-zip_right xs 
 pub length-zip_left : {A B : Type 0} (xs : List A) (ys : List B) → length (zip xs ys) ≤ length xs
 length-zip_left xs ys = rw (length-zip xs ys) (omega arith)
 
+-- columns of tables and of views by number, and how many there are
 pub ruleset columns = (length-zip, slice_get-map, slice_get-zip, slice_get-zip_left, slice_get-zip_right, length-zip_left)
 
 -- of one list behind another: a number of the first
@@ -68,4 +69,5 @@ slice_get-scope_from_past number table [] i past = refl
 slice_get-scope_from_past number table (first ∷ columns) zero past = absurd (cc)
 slice_get-scope_from_past number table (first ∷ columns) (suc i) past = slice_get-scope_from_past (number + 1) table columns i past
 
+-- columns that can be named by number, and how many there are
 pub ruleset scopes = (slice_get-append, slice_get-append_past, length-scope_from, slice_get-scope_from, slice_get-scope_from_past)

@@ -38,6 +38,8 @@ pub only_of_two : {A : Type 0} (seen : A → Named) (p : Named → Bool) (xs : L
 only_of_two seen p xs i None next so_far here one = absurd (cc)
 only_of_two seen p xs i (Some found) next so_far here one = rw (filter_parts p xs i, so_far, ← here)
 
+-- a loop over numbers that makes something of each item
 pub ruleset more = (map_more)
 
+-- a loop over numbers that keeps the one item that passes
 pub ruleset steps = (filter_more, only-option_to_list, only_of_two)

@@ -28,4 +28,5 @@ pub position_within : {A : Type 0} (p : A → Bool) (xs : List A) (i : ℕ) → 
 position_within p [] i is = absurd (cc)
 position_within p (x ∷ xs) i is = (position-Some p (x ∷ xs) i x is).0
 
+-- whether an item passes, and which is the first
 pub ruleset positions = (is_some-position, position_within)

@@ -35,4 +35,5 @@ pub scoped_from-rows_of : (schema : Schema) (select : Select) → scoped_from (r
 unfolding bound_select
 scoped_from-rows_of schema select = let P : Source1 → BoundSelect = λ source. record (scoped_from (rows_of schema select) (select_scope schema select) select) { source = source } in ap P (source_from-rows_of schema select)
 
+-- a select from what FROM names
 pub ruleset selects = (scoped_from-rows_of)

@@ -2,8 +2,8 @@ ghost use Rattle.std.specs.Prelude.{◌≡◌, map, IfOk, OnOk};
 ghost use Rattle.std.specs.List.{flat_map};
 ghost use Rattle.own_model.specs.declared.condition.Cond.TheVariants as cond;
 ghost use Rattle.own_model.specs.declared.bound.BoundCond.TheVariants as bound;
-ghost use Rattle.plan_bind.specs.After.{after};
 ghost use Rattle.query_model.specs.ConditionFaults.{bound_condition, bound_operand, bound_where, condition_faults, operand_faults, operand_kind, where_faults};
+ghost use Rattle.plan_bind.specs.After.{after};
 
 use crate::kinds::kind_of;
 use crate::least::Least;

@@ -1,17 +1,17 @@
 ghost use Rattle.std.specs.Prelude.{◌≡◌, ◌<◌, ◌≤◌, ◌^◌, ◌∷◌, ◌++◌, ◌||◌, [], is_none, length, option_map, IfSome, if◌then◌else◌};
 ghost use Rattle.std.specs.Option.{option_map_or};
 ghost use Rattle.own_model.specs.declared.limit.TheConstants.{SELECT_ITEMS, TABLE_COLUMNS};
-ghost use Rattle.plan_bind.specs.After.{after};
-ghost use Rattle.plan_bind.specs.Lent.{columns_of, table_of};
-ghost use Rattle.plan_bind.specs.Rows.{pair_rows, pair_scope, rows_of, single_source, viewed_columns, viewed_source};
 ghost use Rattle.own_model.specs.declared.refusal.Refusal.TheVariants.{NoTable};
-ghost use Rattle.plan_bind.specs.declared.from.Rows.TheVariants as rows;
+ghost use Rattle.schema_model.specs.WithinLimits.{IsWithinLimits};
 ghost use Rattle.query_model.specs.Scope as scope;
 ghost use Rattle.query_model.specs.Scope.{scope_from};
 ghost use Rattle.query_model.specs.SelectFaults.{from_faults, joined_twice, no_source, no_table, select_scope};
 ghost use Rattle.query_model.specs.SelectMeaning.{table_number};
 ghost use Rattle.query_model.specs.WithinLimits.{AreViewsWithin};
-ghost use Rattle.schema_model.specs.WithinLimits.{IsWithinLimits};
+ghost use Rattle.plan_bind.specs.After.{after};
+ghost use Rattle.plan_bind.specs.Lent.{columns_of, table_of};
+ghost use Rattle.plan_bind.specs.Rows.{pair_rows, pair_scope, rows_of, single_source, viewed_columns, viewed_source};
+ghost use Rattle.plan_bind.specs.declared.from.Rows.TheVariants as rows;
 
 use crate::columns::Columns;
 use crate::fault::Fault;

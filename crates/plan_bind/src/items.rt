@@ -3,14 +3,14 @@ ghost use Rattle.std.specs.List.{flat_map};
 ghost use Rattle.std.specs.Option.{option_map_or, option_to_list};
 ghost use Rattle.own_model.specs.declared.refusal.Refusal.TheVariants.{WrongKind};
 ghost use Rattle.own_model.specs.declared.select.What.TheVariants as what;
-ghost use Rattle.plan_bind.specs.After.{after};
-ghost use Rattle.plan_bind.specs.Lent.{named_of};
-ghost use Rattle.plan_bind.specs.Star.{column_item};
 ghost use Rattle.query_model.specs.ConditionFaults.{column_no};
 ghost use Rattle.query_model.specs.Kinds as kinds;
 ghost use Rattle.query_model.specs.Scope.{column_meant};
 ghost use Rattle.query_model.specs.SelectFaults.{is_one_column, item_faults, listed_items};
 ghost use Rattle.query_model.specs.SelectMeaning.{bound_items, bound_what};
+ghost use Rattle.plan_bind.specs.After.{after};
+ghost use Rattle.plan_bind.specs.Lent.{named_of};
+ghost use Rattle.plan_bind.specs.Star.{column_item};
 
 use crate::fault::Fault;
 use crate::kinds::is_text;

@@ -1,10 +1,10 @@
 ghost use Rattle.std.specs.Prelude.{◌≡◌, ◌∷◌, [], None, Some, nat_lt, if◌then◌else◌};
 ghost use Rattle.std.specs.Option.{option_map_or};
 ghost use Rattle.own_model.specs.declared.refusal.Refusal.TheVariants.{NoColumn};
-ghost use Rattle.plan_bind.specs.After.{after};
-ghost use Rattle.plan_bind.specs.On.{first_on, second_on, source_from};
 ghost use Rattle.query_model.specs.ConditionFaults.{unlike};
 ghost use Rattle.query_model.specs.SelectFaults.{is_of_one_table, join_faults};
+ghost use Rattle.plan_bind.specs.After.{after};
+ghost use Rattle.plan_bind.specs.On.{first_on, second_on, source_from};
 
 use crate::fault::Fault;
 use crate::from::Rows;

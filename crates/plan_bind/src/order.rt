@@ -1,11 +1,11 @@
 ghost use Rattle.std.specs.Prelude.{◌≡◌, ◌∷◌, [], None, Some, bytes_eq, true, position, unwrap_or, if◌then◌else◌};
 ghost use Rattle.std.specs.Option.{option_map_or};
 ghost use Rattle.own_model.specs.declared.refusal.Refusal.TheVariants.{NoColumn};
-ghost use Rattle.plan_bind.specs.After.{after};
 ghost use Rattle.query_model.specs.SelectFaults as spec;
 ghost use Rattle.query_model.specs.SelectFaults.{order_faults, orders_output};
 ghost use Rattle.query_model.specs.SelectMeaning.{bound_order};
 ghost use Rattle.query_model.specs.WithinLimits.{IsSelectWithin};
+ghost use Rattle.plan_bind.specs.After.{after};
 
 use crate::fault::Fault;
 use crate::grouping::listed_items;

@@ -1,10 +1,10 @@
 //! The output columns of a select.
 ghost use Rattle.std.specs.Prelude.{◌≡◌, ◌++◌, map, option_map, IfOk, OnOk};
 ghost use Rattle.std.specs.Option.{option_to_list};
-ghost use Rattle.plan_bind.specs.Lent.{named_of};
-ghost use Rattle.plan_bind.specs.Star.{column_name};
 ghost use Rattle.query_model.specs.SelectFaults as spec;
 ghost use Rattle.query_model.specs.SelectMeaning.{output_names};
+ghost use Rattle.plan_bind.specs.Lent.{named_of};
+ghost use Rattle.plan_bind.specs.Star.{column_name};
 
 use crate::scope::{Named, Scope};
 use own_base::{List, MakeCopy, Name};

@@ -1,7 +1,7 @@
 ghost use Rattle.std.specs.Prelude.{◌≡◌};
-ghost use Rattle.plan_bind.specs.After.{after};
 ghost use Rattle.query_model.specs.ConditionFaults.{unlike};
 ghost use Rattle.query_model.specs.Scope.{column_meant, no_column};
+ghost use Rattle.plan_bind.specs.After.{after};
 
 use crate::fault::Fault;
 use crate::kinds::are_compared;

@@ -1,6 +1,6 @@
 ghost use Rattle.std.specs.Prelude.{◌≡◌, ◌<◌, ◌+◌, ◌^◌, ◌++◌, length, option_map, slice_get};
-ghost use Rattle.plan_bind.specs.Lent.{columns_of, named_of, source_scope};
 ghost use Rattle.query_model.specs.Scope.{scope_from};
+ghost use Rattle.plan_bind.specs.Lent.{columns_of, named_of, source_scope};
 
 use crate::columns::Columns;
 use own_base::{ColNo, Name};

@@ -1,13 +1,13 @@
 ghost use Rattle.std.specs.Prelude.{◌≡◌, map, None, Some, IfOk, OnOk};
 ghost use Rattle.std.specs.Option.{option_map_or};
-ghost use Rattle.plan_bind.specs.After.{after};
-ghost use Rattle.plan_bind.specs.On.{scoped_from};
-ghost use Rattle.plan_bind.specs.Rows.{rows_of};
+ghost use Rattle.schema_model.specs.WithinLimits.{IsWithinLimits};
 ghost use Rattle.query_model.specs.ConditionFaults.{column_no};
 ghost use Rattle.query_model.specs.SelectFaults.{group_faults, scoped_faults, select_faults, select_scope};
 ghost use Rattle.query_model.specs.SelectMeaning as spec;
 ghost use Rattle.query_model.specs.WithinLimits.{AreViewsWithin, IsSelectWithin};
-ghost use Rattle.schema_model.specs.WithinLimits.{IsWithinLimits};
+ghost use Rattle.plan_bind.specs.After.{after};
+ghost use Rattle.plan_bind.specs.On.{scoped_from};
+ghost use Rattle.plan_bind.specs.Rows.{rows_of};
 
 use crate::condition::bind_where;
 use crate::from::{Rows, Sources, bind_from};

@@ -1,7 +1,7 @@
 ghost use Rattle.std.specs.Prelude.{◌≡◌, ◌≤◌, length, option_map, IfSome};
+ghost use Rattle.schema_model.specs.WithinLimits.{IsWithinLimits};
 ghost use Rattle.query_model.specs.Scope as spec;
 ghost use Rattle.query_model.specs.WithinLimits.{AreViewsWithin};
-ghost use Rattle.schema_model.specs.WithinLimits.{IsWithinLimits};
 ghost use Rattle.plan_bind.specs.Lent.{table_of, view_of};
 
 use crate::name::is_same_name;

@@ -3,14 +3,14 @@ ghost use Rattle.std.specs.List.{list_any};
 ghost use Rattle.own_model.specs.declared.limit.LimitName.TheVariants as limit;
 ghost use Rattle.own_model.specs.declared.limit.TheConstants.{VIEWS};
 ghost use Rattle.own_model.specs.declared.refusal.Refusal.TheVariants.{BadSchema, Limit, Memory, NameTaken};
-ghost use Rattle.plan_bind.specs.After.{after};
-ghost use Rattle.plan_bind.specs.OwnFaults.{own_faults};
+ghost use Rattle.schema_model.specs.Tables as tables;
+ghost use Rattle.schema_model.specs.WithinLimits.{IsWithinLimits};
 ghost use Rattle.query_model.specs.BoundView.{bound_view, repeated_after};
 ghost use Rattle.query_model.specs.SelectFaults.{no_table, select_faults, select_scope};
 ghost use Rattle.query_model.specs.SelectMeaning.{bound_select, output_kinds, output_names};
 ghost use Rattle.query_model.specs.WithinLimits.{AreViewsWithin, IsSelectWithin};
-ghost use Rattle.schema_model.specs.Tables as tables;
-ghost use Rattle.schema_model.specs.WithinLimits.{IsWithinLimits};
+ghost use Rattle.plan_bind.specs.After.{after};
+ghost use Rattle.plan_bind.specs.OwnFaults.{own_faults};
 
 use crate::fault::Fault;
 use crate::from::{Sources, bind_from, bind_table};
