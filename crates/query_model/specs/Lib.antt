@@ -11,5 +11,6 @@ pub mod Scope
 pub mod SelectFaults
 pub mod SelectMeaning
 pub mod Truth
+pub mod WithinLimits
 pub mod WriteFaults
 pub mod WriteMeaning
