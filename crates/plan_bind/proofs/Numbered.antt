@@ -5,6 +5,7 @@ use Rattle.std.proofs.lemmas.Option.{slice_get-map}
 use Rattle.std.proofs.lemmas.Slice.Zip.{length-zip}
 use Rattle.own_model.specs.declared.schema.Kind.{Kind}
 use Rattle.query_model.specs.Scope.{NameBytes, scope_from}
+use Rattle.query_model.proofs.ViewLimits.{length-scope_from}
 
 -- of two lists side by side: where both have the number
 pub slice_get-zip : {A B : Type 0} (xs : List A) (ys : List B) (i : ℕ) (x : A) (y : B)
@@ -47,11 +48,6 @@ slice_get-append_past [] ys i past = let e : i - 0 ≡ i = omega arith in rw e
 slice_get-append_past (x ∷ xs) ys zero past = absurd (omega arith)
 slice_get-append_past (x ∷ xs) ys (suc i) past =
     let e : suc i - length (x ∷ xs) ≡ i - length xs = omega arith in rw e (slice_get-append_past xs ys i (omega arith))
-
--- how many columns can be named
-pub length-scope_from : (number : ℕ) (table : NameBytes) (columns : List (NameBytes × Kind)) → length (scope_from number table columns) ≡ length columns
-length-scope_from number table [] = refl
-length-scope_from number table (column ∷ columns) = omega (arith, length-scope_from (number + 1) table columns)
 
 -- the column of a number: it stands in the row so far behind the first
 pub slice_get-scope_from : (number : ℕ) (table : NameBytes) (columns : List (NameBytes × Kind)) (i : ℕ) (column : NameBytes × Kind)

@@ -1,5 +1,5 @@
 use Rattle.std.proofs.Common.{arith, length-append}
-use Rattle.plan_bind.proofs.Numbered.{length-scope_from}
+use Rattle.query_model.proofs.ViewLimits.{length-scope_from}
 use Rattle.plan_bind.proofs.scope.Scope.len.Goals as goal
 
 -- both sources' columns
