@@ -1,0 +1,4 @@
+pub mod Conditions
+pub mod Lookups
+pub mod Numbered
+pub mod Only

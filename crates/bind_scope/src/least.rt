@@ -1,0 +1,57 @@
+ghost use Rattle.std.specs.Prelude.{◌≡◌, None, IfOk};
+ghost use Rattle.query_model.specs.Refused.{sooner};
+ghost use Rattle.bind_scope.specs.Told.{told};
+
+use crate::fault::Fault;
+use own_model::Refusal;
+use std::alloc::{AllocError, Global};
+use std::marker::Model;
+
+/// The fault that is told of those noted so far: the first of the lowest rank. Contracts see it as its refusal.
+#[derive(Debug, Drop)]
+pub struct Least<'a> {
+    fault: Option<Fault<'a>>,
+}
+
+impl<'a> Model for Least<'a> {
+    ghost use Rattle.std.specs.Prelude.{Option, option_map};
+    ghost use Rattle.own_model.specs.declared.refusal.Refusal.{Refusal as Why};
+    ghost use Rattle.bind_scope.specs.Told.{told};
+
+    ghost Value = { Option Why };
+
+    ghost view = { λ least. option_map told least.fault };
+}
+
+impl<'a> Least<'a> {
+    /// No fault so far.
+    pub fn new() -> Least<'a>
+        ensures { result ≡ None }
+    {
+        Least { fault: None }
+    }
+
+    /// Notes a fault: it takes the place of the one that is kept where its rank is lower.
+    pub fn note(&mut self, fault: Fault<'a>)
+        ensures { self.new ≡ sooner self.old (told fault.entry) }
+    {
+        match &self.fault {
+            None => self.fault = Some(fault),
+            Some(first) => {
+                if fault.rank() < first.rank() {
+                    self.fault = Some(fault);
+                }
+            }
+        }
+    }
+
+    /// The refusal that tells it, where there is one.
+    pub fn refusal(&self, alloc: Global) -> Result<Option<Refusal>, AllocError>
+        ensures { IfOk result (λ told. told ≡ self.now) }
+    {
+        match &self.fault {
+            None => Ok(None),
+            Some(fault) => Ok(Some(fault.refusal(alloc)?)),
+        }
+    }
+}

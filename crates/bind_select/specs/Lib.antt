@@ -1,0 +1,4 @@
+pub mod On
+pub mod OwnFaults
+pub mod Rows
+pub mod Star

@@ -1,7 +1,0 @@
-use Rattle.std.proofs.Common.{◌≡◌, map, take}
-use Rattle.plan_bind.specs.Star.{column_item}
-use Rattle.plan_bind.proofs.items.all_columns.Given as goal
-
--- the columns so far are items
-abbrev pub invariant-loop-number : goal.invariant-loop-number
-invariant-loop-number l = l.bound ≡ map column_item (take l.number l.scope)

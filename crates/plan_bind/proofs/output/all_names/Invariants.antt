@@ -1,7 +1,0 @@
-use Rattle.std.proofs.Common.{◌≡◌, map, take}
-use Rattle.plan_bind.specs.Star.{column_name}
-use Rattle.plan_bind.proofs.output.all_names.Given as goal
-
--- the columns so far have their names
-abbrev pub invariant-loop-number : goal.invariant-loop-number
-invariant-loop-number l = l.names ≡ map column_name (take l.number l.scope)

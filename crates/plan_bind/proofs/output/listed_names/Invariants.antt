@@ -1,7 +1,0 @@
-use Rattle.std.proofs.Common.{◌≡◌, map, take}
-use Rattle.query_model.specs.SelectFaults.{output_name}
-use Rattle.plan_bind.proofs.output.listed_names.Given as goal
-
--- the items so far have their names
-abbrev pub invariant-loop-item : goal.invariant-loop-item
-invariant-loop-item l = l.names ≡ map output_name (take l.item-index l.items)
