@@ -1,4 +1,6 @@
+pub mod FewItems
 pub mod FewParts
+pub mod FewValues
 pub mod ListLengths
 pub mod OwnRule
 pub mod Requests
