@@ -3,7 +3,7 @@ use Rattle.std.proofs.Common.{◌≡◌, ◌≤◌, ℕ, ◌+◌, List, [], ◌�
 use Rattle.std.specs.Prelude.{sum_by, codes}
 use Rattle.std.proofs.lemmas.List.Sums.{sum_by-cons}
 use Rattle.std.proofs.lemmas.Bool.Decides.{eqb_tells}
-use Rattle.own_model.specs.declared.limit.TheConstants.{NESTING_LEVELS}
+use Rattle.own_model.specs.declared.limit.TheConstants.{NESTING_LEVELS, STATEMENT_BYTES}
 use Rattle.own_model.specs.declared.statement.Statement.{Statement}
 use Rattle.own_model.specs.TextBytes.{text_bytes, tuple_bytes, put_bytes, asked_bytes}
 use Rattle.sql_lex.specs.declared.token.Token.{Token}
@@ -15,7 +15,7 @@ use Rattle.grammar_model.specs.Grammar as rules
 use Rattle.grammar_model.specs.Language as languages
 use Rattle.grammar_model.specs.Language.{Language, one, ◌>>=◌, ◌>>◌, ◌or◌, pure, optional, many_from, listed, bracketed}
 use Rattle.grammar_model.specs.Limits.{Limits, store_limits}
-use Rattle.grammar_model.specs.Readable.{request_of}
+use Rattle.grammar_model.specs.Readable.{IsWritten, request_of}
 use Rattle.grammar_model.specs.Terminal.{Terminal, Terminals, Written, Slot, terminal_of}
 use Rattle.grammar_model.specs.Terminals.{IsCutInto}
 use Rattle.grammar_model.specs.Values.{TextIs}
@@ -71,7 +71,7 @@ int-takes value terminals rest (inl (_, _, sign, digits)) =
 int-takes value terminals rest (inr digits) = let first = written-less digits.1 in omega arith
 
 -- a literal counts the bytes that it puts, and a tuple those of its literals
-literal-takes : (limits : Limits) → Takes text_bytes (rules.literal limits)
+pub literal-takes : (limits : Limits) → Takes text_bytes (rules.literal limits)
 unfolding rules.literal
 literal-takes limits value terminals rest (inl (found, middle, by, last)) =
     let less = written-less by.1 in
@@ -125,7 +125,7 @@ names-takes limits value terminals rest by =
     let names = bracketed-takes (sum_by none) _ (listed-takes none _ (name-takes limits)) value terminals rest by in
     omega arith
 
-columns-takes : (limits : Limits) → Takes none (optional (bracketed (rules.names limits)))
+pub columns-takes : (limits : Limits) → Takes none (optional (bracketed (rules.names limits)))
 columns-takes limits value terminals rest (inl (found, middle, by, last)) = rw (← last.1) (names-takes limits found terminals middle by)
 columns-takes limits value terminals rest (inr last) = rw last.1 (omega arith)
 
@@ -201,6 +201,14 @@ cut-within lexing (token ∷ tokens) (inl (next, cut)) =
 cut-within lexing (token ∷ tokens) (inr (lost, last)) =
     let onward = lost.fault.stands.onward in
     rw (last, lost.bytes) (omega (arith, lost.fault.within))
+
+-- the terminals of a statement that can stand in a history have no more bytes than a statement may have
+pub written-short : (found : Statement) (is : IsWritten STATEMENT_BYTES found) → written is.terminals ≤ STATEMENT_BYTES
+written-short found is =
+    let within = cut-within (record { text = is.text; at = 0 }) is.cut.0 is.cut.1 in
+    let same = ap written is.cut.2 in
+    let short = is.short in
+    omega arith
 
 -- a text's statement puts no more than the text has
 pub answer-within : (text : List ℕ) (answer : Answer) → IsAnswer text answer → asked_bytes (request_of answer) ≤ length text

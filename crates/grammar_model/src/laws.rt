@@ -1,8 +1,14 @@
 //! What follows from the definitions in `specs/`: the function does nothing, and what it ensures holds of every text, answer and statement.
-ghost use Rattle.std.specs.Prelude.{◌≤◌, ℕ, List, length};
+ghost use Rattle.std.specs.Prelude.{◌≡◌, ◌≤◌, ℕ, List, Option, length};
+ghost use Rattle.std.specs.List.{AllByRecursion};
+ghost use Rattle.own_base.specs.declared.value.Value.{Value};
 ghost use Rattle.own_model.specs.declared.create.CreateTable.{CreateTable};
-ghost use Rattle.own_model.specs.declared.limit.TheConstants.{STATEMENT_BYTES};
+ghost use Rattle.own_model.specs.declared.create.CreateView.{CreateView};
+ghost use Rattle.own_model.specs.declared.limit.TheConstants.{SELECT_ITEMS, STATEMENT_BYTES};
 ghost use Rattle.own_model.specs.declared.request.Request.TheVariants.{Run};
+ghost use Rattle.own_model.specs.declared.select.Item.{Item};
+ghost use Rattle.own_model.specs.declared.select.Items.TheVariants.{Listed};
+ghost use Rattle.own_model.specs.declared.select.Select.{Select};
 ghost use Rattle.own_model.specs.declared.statement.Statement.TheVariants as Statement;
 ghost use Rattle.own_model.specs.TextBytes.{asked_bytes};
 ghost use Rattle.grammar_model.specs.Answer.{Answer, IsAnswer};
@@ -21,4 +27,21 @@ pub fn answer_is_within_its_text()
 /// A CREATE TABLE that can stand in a history has no more parts than a statement may have bytes.
 pub fn readable_create_has_few_parts()
     ensures { (create : CreateTable) → IsReadable (Run (Statement.CreateTable create)) → length create.parts ≤ STATEMENT_BYTES }
+{}
+
+/// A SELECT that can stand in a history lists no more items than a select may have; a star lists none.
+pub fn readable_select_has_few_items()
+    ensures { (select : Select) (items : List Item) → IsReadable (Run (Statement.Select select)) → select.items ≡ Listed items → length items ≤ SELECT_ITEMS }
+{}
+
+/// The select of a CREATE VIEW that can stand in a history lists no more items than a select may have.
+pub fn readable_view_has_few_items()
+    ensures { (view : CreateView) (items : List Item) → IsReadable (Run (Statement.CreateView view)) → view.select.items ≡ Listed items
+        → length items ≤ SELECT_ITEMS }
+{}
+
+/// No tuple of an INSERT that can stand in a history has more values than a statement may have bytes.
+pub fn readable_insert_has_few_values()
+    ensures { (table : List ℕ) (columns : Option (List (List ℕ))) (rows : List (List Value)) → IsReadable (Run (Statement.Insert table columns rows))
+        → AllByRecursion (λ tuple. length tuple ≤ STATEMENT_BYTES) rows }
 {}
