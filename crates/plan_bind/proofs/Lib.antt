@@ -1,0 +1,2 @@
+pub mod NumberedColumns
+pub mod SetTwice
