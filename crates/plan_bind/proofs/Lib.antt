@@ -1,2 +1,3 @@
 pub mod NumberedColumns
+mod RisingKeys
 pub mod SetTwice
