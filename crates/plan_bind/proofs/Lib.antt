@@ -1,2 +1,8 @@
+pub mod ColumnLists
+pub mod Given
+pub mod LongLists
 pub mod NumberedColumns
+pub mod Pairs
+pub mod Ranks
 pub mod SetTwice
+pub mod Twice
