@@ -3,7 +3,6 @@ use Rattle.std.proofs.Common.{◌≡◌, ℕ, ◌+◌, ◌<◌, List, [], ◌∷
 use Rattle.std.specs.List.{enumerate_from, list_all, position_or_len}
 use Rattle.std.specs.Option.{option_map}
 use Rattle.std.proofs.lemmas.List.{length-map}
-use Rattle.std.proofs.lemmas.List.Elements.{filter-append}
 use Rattle.bind_scope.proofs.Lookups.{drop_here}
 use Rattle.plan_bind.specs.ColumnList.{columns_meant, is_of_number}
 use Rattle.plan_bind.specs.InsertTargets.{place_of}
@@ -40,6 +39,3 @@ pub place_of-columns_meant : (columns : List (Option NumberedColumn)) (number : 
     → place_of (columns_meant columns) number ≡ position (λ meant. is_of_number number (option_map column_of meant)) columns
 unfolding place_of
 place_of-columns_meant columns number = rw (position_or_len-map (is_of_number number) (option_map column_of) columns, length-columns_meant columns)
-
--- a loop that keeps those that pass
-pub ruleset unnamed = (filter-append)

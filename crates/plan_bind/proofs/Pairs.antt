@@ -12,5 +12,3 @@ zip-nil (x ∷ xs) = refl
 pub no_pairs : {B : Type 0} (columns : List (Option NumberedColumn)) (values : List B) → (columns ≡ []) ⊎ (values ≡ []) → zip (columns_meant columns) values ≡ []
 no_pairs columns values (inl none) = rw none
 no_pairs columns values (inr none) = rw none (zip-nil (columns_meant columns))
-
-pub ruleset pairs = (no_pairs)

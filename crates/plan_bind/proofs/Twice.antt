@@ -55,9 +55,6 @@ after_unknown table [] kept some = absurd (cc)
 after_unknown table (name ∷ names) kept some =
     unknown_here kept name (column_in table name) (list_all is_some (map (column_in table) names)) (flat_map (not_a_column table) names) some (after_unknown table names kept)
 
--- a loop that notes the first of them
-pub ruleset once = (twice_here, twice_once)
-
 -- where some name means no column, it is not looked whether one stands twice
 pub twice_unknown : (table : TableDef) (names : List NameBytes) (kept : Option Refusal) (columns : List (Option NumberedColumn))
     → columns_meant columns ≡ map (column_in table) names → list_all is_some columns ≡ false
@@ -65,5 +62,3 @@ pub twice_unknown : (table : TableDef) (names : List NameBytes) (kept : Option R
 twice_unknown table names kept columns found some = let each : list_all is_some (map (column_in table) names) ≡ false = rw (← found, list_all-columns_meant) some in
     fold-append sooner kept (flat_map (not_a_column table) names) (twice [] names)
     ∙ after_twice (after kept (flat_map (not_a_column table) names)) [] names (kept_sooner_than 3 5 (after kept (flat_map (not_a_column table) names)) (lit≤ tt) (after_unknown table names kept each))
-
-pub ruleset unknown = (twice_unknown)

@@ -37,8 +37,8 @@ fn bind_names<'a>(
     Ok(columns)
 }
 
-/// Notes a list that names a column twice. The first name that stands before too is enough, since all of them give the same fault.
-#[tactic(auto, using(crate::proofs::Twice::once))]
+/// Notes a list that names a column twice. The first name that stands before too is enough: the others give the same
+/// fault.
 fn note_twice(names: &[Name], least: &mut Least<'_>)
     ensures { least.new ≡ after least.old (twice [] names.now) }
 {
@@ -59,7 +59,6 @@ fn are_found(columns: &[Option<NumberedColumn<'_>>]) -> bool
 
 /// The columns that a column list names. Only where each name means a column is it looked whether one stands twice:
 /// otherwise a fault of a lower rank is noted already, and the names may be many.
-#[tactic(auto, using(crate::proofs::Twice::unknown))]
 pub(crate) fn bind_list<'a>(
     alloc: Global,
     table: &'a TableDef,

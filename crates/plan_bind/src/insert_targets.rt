@@ -100,7 +100,6 @@ fn add_unnamed<'a>(
 }
 
 /// Those columns that none of these names means.
-#[tactic(auto, using(crate::proofs::ColumnLists::unnamed))]
 fn unnamed_columns<'a>(
     alloc: Global,
     numbered: &[NumberedColumn<'a>],

@@ -61,7 +61,6 @@ fn note_value<'a>(
 }
 
 /// Notes what is wrong with the values, each by the column that it is for.
-#[tactic(auto, using(crate::proofs::Pairs::pairs))]
 fn note_values<'a>(targets: &Targets<'a>, tuple: &[Value], least: &mut Least<'a>)
     ensures { least.new ≡ after least.old (flat_map (λ pair. value_faults targets.now.table pair.0 pair.1) (zip (columns_for targets.now.table targets.now.names) tuple.now)) }
 {
