@@ -1,3 +1,4 @@
+pub mod BaseRows
 pub mod JoinedRows
 pub mod KeptByKey
 pub mod KeptByValue

@@ -1,15 +1,15 @@
 ghost use Rattle.std.specs.Prelude.{◌≡◌, true, IfOk};
 ghost use Rattle.query_model.specs.Query.{grouped, in_order, query_rows, reply_of};
-ghost use Rattle.query_eval.specs.Sources.{IsTableOf};
+ghost use Rattle.query_eval.specs.Sources.{IsBaseOf};
 ghost use Rattle.query_eval.specs.Stored.{AreStored};
 ghost use Rattle.query_eval.specs.Tables.{AreTables};
 
 use crate::groups::Groups;
 use crate::in_order::rows_in_order;
-use crate::kept::kept_in_table;
+use crate::kept_source::kept_in_source;
 use crate::lent_rows::LentRows;
 use own_base::{List, Row};
-use own_model::{BoundSelect, LimitName, REPLY_ROWS, Refusal, Reply, Source1, StoreView};
+use own_model::{BoundSelect, LimitName, REPLY_ROWS, Refusal, Reply, StoreView};
 use std::alloc::{AllocError, Global};
 
 /// The rows of a grouped select, from the rows that WHERE keeps.
@@ -43,23 +43,18 @@ fn grouped_reply(
     Ok(Reply::Rows(rows_in_order(rows, query.order)?))
 }
 
-/// The reply to a grouped select from a table of a store.
-#[tactic(auto, unfolding(query_model::specs::Query::query_rows, query_model::specs::Query::selected))]
+/// The reply to a grouped select, from a table of a store or from two that are joined.
+#[tactic(auto, using(crate::proofs::BaseRows::of_base), unfolding(query_model::specs::Query::query_rows, query_model::specs::Query::selected))]
 pub fn group<V: StoreView>(
     alloc: Global,
     view: &V,
     query: &BoundSelect,
 ) -> Result<Reply, AllocError>
     requires grouped { query.now.grouped ≡ true }
-    requires source { IsTableOf (V.schema_of view.now) query.now.source }
+    requires source { IsBaseOf (V.schema_of view.now) query.now.source }
     requires tables { AreTables (V.schema_of view.now) (V.rows view.now) }
     ensures { IfOk result (λ reply. reply ≡ reply_of (query_rows (V.schema_of view.now) (V.rows view.now) query.now)) }
 {
-    match &query.source {
-        Source1::Table(table) => {
-            let kept = kept_in_table(alloc, view, *table, query.cond.as_ref())?;
-            grouped_reply(alloc, &kept, query)
-        }
-        Source1::View(_) | Source1::Pair { .. } => unreachable!(),
-    }
+    let kept = kept_in_source(alloc, view, &query.source, query.cond.as_ref())?;
+    grouped_reply(alloc, &kept, query)
 }
