@@ -20,7 +20,7 @@ pub use item::item_at;
 pub use kinds::{are_compared, is_text, kind_of};
 pub use least::Least;
 pub use meant::Meant;
-pub use name::is_same_name;
+pub use name::{is_among, is_same_name};
 pub use reference::{bind_column, note_unlike};
 pub use scope::{Named, Scope, Source};
 pub use tables::{

@@ -16,7 +16,7 @@ use crate::from::{Sources, bind_from};
 use crate::output::bind_names;
 use crate::output_kinds::bind_kinds;
 use crate::select::bind_scoped;
-use bind_scope::{Fault, Least, bind_table, is_same_name};
+use bind_scope::{Fault, Least, bind_table, is_among, is_same_name};
 use own_base::{List, MakeCopy, Name};
 use own_model::{
     BoundSelect, CreateView, Kind, LimitName, Refusal, Schema, Select, TableDef, VIEWS, ViewDef,
@@ -45,13 +45,6 @@ fn note_taken<'a>(schema: &Schema, name: &'a Name, least: &mut Least<'a>)
     if is_of_table(schema.tables.items(), name) || is_of_view(schema.views.items(), name) {
         least.note(Fault::NameTaken(name));
     }
-}
-
-/// Whether one of these names is this one.
-fn is_among(names: &[Name], name: &Name) -> bool
-    ensures { result ≡ list_any (λ other. bytes_eq other name.now) names.now }
-{
-    names.iter().any(|other| is_same_name(other, name))
 }
 
 /// Notes a column of a view that repeats the name of one of these before it.

@@ -1,5 +1,5 @@
-ghost use Rattle.std.specs.Prelude.{◌≡◌, ◌≤◌, ◌++◌, [], bytes_eq, is_some, length, map, option_map, IfOk, OnOk};
-ghost use Rattle.std.specs.List.{flat_map, list_all, list_any};
+ghost use Rattle.std.specs.Prelude.{◌≡◌, ◌≤◌, ◌++◌, [], is_some, length, map, option_map, IfOk, OnOk};
+ghost use Rattle.std.specs.List.{flat_map, list_all};
 ghost use Rattle.own_model.specs.declared.limit.TheConstants.{TABLE_COLUMNS};
 ghost use Rattle.query_model.specs.WriteFaults.{column_in, not_a_column, twice};
 ghost use Rattle.bind_scope.specs.After.{after};
@@ -7,17 +7,10 @@ ghost use Rattle.plan_bind.specs.ColumnList.{columns_meant};
 ghost use Rattle.plan_bind.specs.NumberedColumns.{column_of};
 
 use crate::numbered_column::{NumberedColumn, bind_name};
-use bind_scope::{Fault, Least, is_same_name};
+use bind_scope::{Fault, Least, is_among};
 use own_base::{List, Name};
 use own_model::{TABLE_COLUMNS, TableDef};
 use std::alloc::{AllocError, Global};
-
-/// Whether one of these names is this one.
-pub(crate) fn is_among(names: &[Name], name: &Name) -> bool
-    ensures { result ≡ list_any (λ other. bytes_eq other name.now) names.now }
-{
-    names.iter().any(|other| is_same_name(other, name))
-}
 
 /// The columns that names mean.
 fn bind_names<'a>(

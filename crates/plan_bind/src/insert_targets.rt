@@ -7,9 +7,9 @@ ghost use Rattle.plan_bind.specs.ColumnList.{columns_meant, is_of_number, is_unn
 ghost use Rattle.plan_bind.specs.NumberedColumns.{column_of};
 ghost use Rattle.plan_bind.specs.InsertTargets.{IsCounted, place_of, places_of};
 
-use crate::column_list::{bind_list, is_among};
+use crate::column_list::bind_list;
 use crate::numbered_column::NumberedColumn;
-use bind_scope::Least;
+use bind_scope::{Least, is_among};
 use own_base::{ColNo, List, Name};
 use own_model::{TABLE_COLUMNS, TableDef};
 use std::alloc::{AllocError, Global};
