@@ -1,0 +1,4 @@
+pub mod Literals
+pub mod NoFaults
+pub mod Sources
+pub mod Within
