@@ -1,0 +1,4 @@
+pub mod Ordered
+pub mod RisingLemmas
+pub mod PlaceLemmas
+pub mod FoundLemmas

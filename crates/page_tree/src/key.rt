@@ -1,0 +1,41 @@
+ghost use Rattle.std.specs.Prelude.{◌≡◌, Option};
+ghost use Rattle.std.specs.Cmp.{IsTotalOrder};
+ghost use Rattle.std.specs.Option.{option_copied};
+ghost use Rattle.std.specs.declared.cmp.Ordering.{Ordering as Order};
+
+use std::cmp::Ordering;
+
+/// How the key of an item is found, and the order of keys.
+pub trait KeyOf<T>: Copy {
+    type Key;
+
+    // An item's key.
+    ghost key_of: { Self → T → Self.Key };
+
+    // The order of keys.
+    ghost key_cmp: { Self.Key → Self.Key → Order };
+
+    /// How the key of an item stands to a key.
+    fn compare(self, item: &T, key: &Self::Key) -> Ordering
+        ensures { result ≡ key_cmp (key_of self item.now) key.now };
+
+    // The order is total.
+    ghost total: { IsTotalOrder key_cmp };
+}
+
+/// A change of one key: an item is put there, or the key's item is taken away.
+pub trait ChangeOf<T, K> {
+    // The key.
+    ghost changed: { Self → K };
+
+    // The item that is put, None where the key's item is taken away.
+    ghost put: { Self → Option T };
+
+    /// Lends the key.
+    fn key(&self) -> &K
+        ensures { result.now ≡ changed self.now };
+
+    /// Lends the item that is put, None where the key's item is taken away.
+    fn item(&self) -> Option<&T>
+        ensures { option_copied result ≡ put self.now };
+}

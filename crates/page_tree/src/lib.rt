@@ -1,0 +1,7 @@
+//! An ordered sequence that lies in pages and shares them with what changes make of it.
+#![tactic(auto)]
+
+mod key;
+mod node;
+
+pub use key::{ChangeOf, KeyOf};
