@@ -2,3 +2,4 @@ pub mod Ordered
 pub mod RisingLemmas
 pub mod PlaceLemmas
 pub mod FoundLemmas
+pub mod ChangedLemmas
