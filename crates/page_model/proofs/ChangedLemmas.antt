@@ -16,11 +16,11 @@ use Rattle.page_model.proofs.Ordered.{above_from_below, below_from_above, below_
 use Rattle.page_model.proofs.RisingLemmas.{each_append, each_mapped, each_weaker, rising_append, rising_behind, rising_tail}
 
 -- a filter that all pass, and one that none passes
-filter_all : {X : Type 0} (p : X → Bool) (xs : List X) → Each (λ x. p x ≡ true) xs → filter p xs ≡ xs
+pub filter_all : {X : Type 0} (p : X → Bool) (xs : List X) → Each (λ x. p x ≡ true) xs → filter p xs ≡ xs
 filter_all p [] h = refl
 filter_all p (x ∷ xs) h = rw (h.0, filter_all p xs h.1) refl
 
-filter_none : {X : Type 0} (p : X → Bool) (xs : List X) → Each (λ x. p x ≡ false) xs → filter p xs ≡ []
+pub filter_none : {X : Type 0} (p : X → Bool) (xs : List X) → Each (λ x. p x ≡ false) xs → filter p xs ≡ []
 filter_none p [] h = refl
 filter_none p (x ∷ xs) h = rw h.0 (filter_none p xs h.1)
 

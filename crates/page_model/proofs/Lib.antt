@@ -3,3 +3,5 @@ pub mod RisingLemmas
 pub mod PlaceLemmas
 pub mod FoundLemmas
 pub mod ChangedLemmas
+pub mod KeptLemmas
+pub mod SplitLemmas

@@ -33,6 +33,15 @@ module _ {K : Type 0} {cmp : K → K → Ordering} (order : IsTotalOrder cmp) wh
   pub not_below_above : (x y z : K) → is_lt (cmp x z) ≡ false → cmp x y ≡ Less → is_lt (cmp y z) ≡ false
   not_below_above x y z not_below below = not_below_by x y z (cmp x z) refl not_below below
 
+  -- what is above what isn't below a key is above it
+  tied_above_by : (x y z : K) (o : Ordering) → cmp x z ≡ o → is_lt o ≡ false → cmp x y ≡ Less → cmp y z ≡ Greater
+  tied_above_by x y z Less is not_below below = cc
+  tied_above_by x y z Equal is not_below below = sym (alike_right order x z y is) ∙ above_from_below x y below
+  tied_above_by x y z Greater is not_below below = above_from_below z y (order.trans z x y (below_from_above x z is) below)
+
+  pub tied_above : (x y z : K) → is_lt (cmp x z) ≡ false → cmp x y ≡ Less → cmp y z ≡ Greater
+  tied_above x y z not_below below = tied_above_by x y z (cmp x z) refl not_below below
+
   -- a key isn't below itself
   pub not_below_itself : (x : K) → is_lt (cmp x x) ≡ false
   not_below_itself x = ap is_lt (tied_itself order x)
