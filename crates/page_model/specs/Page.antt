@@ -1,5 +1,5 @@
 -- Pages.
-use Rattle.std.specs.Prelude.{◌<◌, ◌≤◌, List, length}
+use Rattle.std.specs.Prelude.{◌≡◌, ◌<◌, ◌≤◌, List, ◌∷◌, length}
 use Rattle.std.specs.List.{AllByRecursion, flat_map}
 use Rattle.page_model.specs.declared.TheConstants.{PAGE_ITEMS}
 
@@ -14,3 +14,9 @@ ArePages pages = AllByRecursion IsPage pages
 -- the items of pages, in their order
 abbrev pub joined : {T : Type 0} → List (List T) → List T
 joined pages = flat_map (λ page. page) pages
+
+-- pages whose first item is this one
+pub record IsFirst {T : Type 0} (first : T) (pages : List (List T)) : Type 0 where
+  pub others : List T
+  pub behind : List (List T)
+  pub is : pages ≡ (first ∷ others) ∷ behind

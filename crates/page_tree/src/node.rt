@@ -1,3 +1,8 @@
+ghost use Rattle.std.specs.Prelude.{◌≡◌, length, slice_get};
+ghost use Rattle.std.specs.Option.{option_copied};
+ghost use Rattle.page_model.specs.Page.{IsFirst, joined};
+ghost use Rattle.page_tree.specs.Body.{pages_of};
+
 use std::alloc::Global;
 use std::marker::Model;
 use std::sync::Arc;
@@ -37,4 +42,85 @@ impl<T> Model for Node<T> {
     ghost use Rattle.page_tree.specs.Falls.{falls};
 
     ghost size_decreases = { λ node _. falls node.body };
+}
+
+impl<T> Node<T> {
+    /// How many items the pages have. Takes no memory.
+    pub(crate) fn items(&self) -> usize
+        ensures { result ≡ length (joined self.now.pages) }
+    {
+        self.items
+    }
+
+    /// How many pages there are. Takes no memory.
+    pub(crate) fn pages(&self) -> usize
+        ensures { result ≡ length self.now.pages }
+    {
+        self.pages
+    }
+
+    /// The first item. Takes no memory.
+    pub(crate) fn first(&self) -> &T
+        ensures { IsFirst result.now self.now.pages }
+    {
+        match &self.body {
+            Body::Leaf(page) => &page[0],
+            Body::Inner(kids) => kids[0].first(),
+        }
+    }
+
+    /// The page of a number, counted from 0. Takes no memory.
+    #[cycle(page)]
+    pub(crate) fn page(&self, number: usize) -> Option<&[T]>
+        ensures { option_copied result ≡ slice_get self.now.pages number }
+    {
+        match &self.body {
+            Body::Leaf(page) if number == 0 => Some(page.as_slice()),
+            Body::Leaf(_) => None,
+            Body::Inner(kids) => page_among(kids.as_slice(), number),
+        }
+    }
+
+    /// The item at a place, counted from 0. Takes no memory.
+    #[cycle(at)]
+    pub(crate) fn at(&self, place: usize) -> Option<&T>
+        ensures { option_copied result ≡ slice_get (joined self.now.pages) place }
+    {
+        match &self.body {
+            Body::Leaf(page) => page.get(place),
+            Body::Inner(kids) => at_among(kids.as_slice(), place),
+        }
+    }
+}
+
+/// The page of a number among the pages of some nodes.
+#[cycle(page)]
+fn page_among<T>(nodes: &[Arc<Node<T>, Global>], number: usize) -> Option<&[T]>
+    ensures { option_copied result ≡ slice_get (pages_of nodes.now) number }
+{
+    let mut left = number;
+    for node in nodes {
+        let count = node.pages();
+        if left < count {
+            return node.page(left);
+        }
+        left -= count;
+    }
+    None
+}
+
+/// The item at a place among the items of some nodes.
+#[cycle(at)]
+fn at_among<T>(nodes: &[Arc<Node<T>, Global>], place: usize) -> Option<&T>
+    ensures { option_copied result ≡ slice_get (joined (pages_of nodes.now)) place }
+{
+    let mut left = place;
+    for node in nodes {
+        let count = node.items();
+        if left < count {
+            return node.at(left);
+        }
+        left -= count;
+    }
+    None
 }
