@@ -3,5 +3,6 @@
 
 mod key;
 mod node;
+mod search;
 
 pub use key::{ChangeOf, KeyOf};

@@ -13,13 +13,13 @@ use std::sync::Arc;
 pub(crate) struct Node<T> {
     items: usize,
     pages: usize,
-    body: Body<T>,
+    pub(crate) body: Body<T>,
 }
 
 /// What a node holds.
 #[cycle(node)]
 #[derive(Drop)]
-enum Body<T> {
+pub(crate) enum Body<T> {
     Leaf(Vec<T>),
     Inner(Vec<Arc<Node<T>, Global>>),
 }

@@ -1,0 +1,72 @@
+ghost use Rattle.std.specs.Prelude.{◌≡◌, ◌<◌, length};
+ghost use Rattle.std.specs.Option.{option_copied};
+ghost use Rattle.page_model.specs.Found.{found};
+ghost use Rattle.page_model.specs.Page.{joined};
+ghost use Rattle.page_model.specs.Place.{IsPlaceOf};
+ghost use Rattle.page_model.specs.Rising.{IsRising};
+ghost use Rattle.page_tree.specs.Body.{pages_of};
+
+use crate::key::KeyOf;
+use crate::node::{Body, Node};
+use std::alloc::Global;
+use std::sync::Arc;
+
+/// How many of these items are below a key. Takes no memory.
+pub(crate) fn place_of<T, By: KeyOf<T>>(by: By, items: &[T], key: &By::Key) -> usize
+    requires { IsRising (By.key_of by) By.key_cmp items.now }
+    ensures { IsPlaceOf (By.key_of by) By.key_cmp key.now items.now result }
+{
+    items.partition_point(|item| by.compare(item, key).is_lt())
+}
+
+/// The item of a key among these items. Takes no memory.
+fn item_of<'a, T, By: KeyOf<T>>(by: By, items: &'a [T], key: &By::Key) -> Option<&'a T>
+    requires { IsRising (By.key_of by) By.key_cmp items.now }
+    ensures { option_copied result ≡ found (By.key_of by) By.key_cmp key.now items.now }
+{
+    let place = place_of(by, items, key);
+    let item = items.get(place)?;
+    if by.compare(item, key).is_eq() {
+        Some(item)
+    } else {
+        None
+    }
+}
+
+/// The item of a key among the items of a node. Takes no memory.
+#[cycle(get)]
+pub(crate) fn item_in<'a, T, By: KeyOf<T>>(
+    by: By,
+    node: &'a Node<T>,
+    key: &By::Key,
+) -> Option<&'a T>
+    requires { IsRising (By.key_of by) By.key_cmp (joined node.now.pages) }
+    ensures { option_copied result ≡ found (By.key_of by) By.key_cmp key.now (joined node.now.pages) }
+{
+    match &node.body {
+        Body::Leaf(page) => item_of(by, page.as_slice(), key),
+        Body::Inner(nodes) => item_among(by, nodes.as_slice(), key),
+    }
+}
+
+/// The item of a key among the items of some nodes, whose half is left out at each step.
+#[cycle(get)]
+fn item_among<'a, T, By: KeyOf<T>>(
+    by: By,
+    nodes: &'a [Arc<Node<T>, Global>],
+    key: &By::Key,
+) -> Option<&'a T>
+    requires some { 0 < length nodes.now }
+    requires rising { IsRising (By.key_of by) By.key_cmp (joined (pages_of nodes.now)) }
+    ensures { option_copied result ≡ found (By.key_of by) By.key_cmp key.now (joined (pages_of nodes.now)) }
+{
+    if nodes.len() == 1 {
+        return item_in(by, &nodes[0], key);
+    }
+    let (front, back) = nodes.split_at(nodes.len() / 2);
+    if by.compare(back[0].first(), key).is_gt() {
+        item_among(by, front, key)
+    } else {
+        item_among(by, back, key)
+    }
+}
