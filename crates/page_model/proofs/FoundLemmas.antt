@@ -7,9 +7,11 @@ use Rattle.std.specs.Ordering.{is_eq, is_gt, is_lt}
 use Rattle.std.specs.declared.cmp.Ordering.{Ordering}
 use Rattle.std.specs.declared.cmp.Ordering.TheVariants.{Less, Equal, Greater}
 use Rattle.page_model.specs.Found.{found}
+use Rattle.std.proofs.lemmas.Cmp.{tied_back}
+use Rattle.page_model.specs.Page.{IsFirst, joined}
 use Rattle.page_model.specs.Place.{IsPlaceOf}
 use Rattle.page_model.specs.Rising.{IsRising}
-use Rattle.page_model.proofs.Ordered.{above_from_below, below_from_above, below_other, greater_from, not_below_above}
+use Rattle.page_model.proofs.Ordered.{above_from_below, below_from_above, below_other, greater_from, greater_from_gt, not_below_above}
 use Rattle.page_model.proofs.RisingLemmas.{each_weaker, none_below, rising_back, rising_before, rising_behind, rising_tail}
 
 -- a search passes over what fails
@@ -78,3 +80,22 @@ module _ {T K : Type 0} (key_of : T → K) {cmp : K → K → Ordering} (order :
       let behind : Each (λ y. is_lt (cmp (key_of y) key) ≡ false) (x ∷ from.0) = subst (Each (λ y. is_lt (cmp (key_of y) key) ≡ false)) from.1 is.behind in
       let rises : IsRising key_of cmp (x ∷ from.0) = subst (IsRising key_of cmp) from.1 (drop_rising xs place rising) in
       at_place key xs place is.before ∙ (ap (found key_of cmp key) from.1 ∙ found_before key [] x from.0 rises (greater_from (cmp (key_of x) key) behind.0 other))
+
+  not_below_from : (x y : K) (o : Ordering) → cmp x y ≡ o → is_gt o ≡ false → is_lt (cmp y x) ≡ false
+  not_below_from x y Less is upto = ap is_lt (above_from_below order x y is)
+  not_below_from x y Equal is upto = ap is_lt (tied_back order x y is)
+  not_below_from x y Greater is upto = cc
+
+  -- a key is looked for in front of pages that begin above it, and else among them
+  pub found_in_front : (key : K) (all left : List T) (first : T) (pages : List (List T)) → all ≡ left ++ joined pages → IsFirst first pages → IsRising key_of cmp all → is_gt (cmp (key_of first) key) ≡ true
+      → found key_of cmp key all ≡ found key_of cmp key left
+  found_in_front key all left first pages is begins rising above =
+      let parts : all ≡ left ++ first ∷ (begins.others ++ joined begins.behind) = is ∙ ap (λ ps. left ++ joined ps) begins.is in
+      ap (found key_of cmp key) parts ∙ found_before key left first (begins.others ++ joined begins.behind) (subst (IsRising key_of cmp) parts rising) (greater_from_gt _ above)
+
+  pub found_in_back : (key : K) (all left : List T) (first : T) (pages : List (List T)) → all ≡ left ++ joined pages → IsFirst first pages → IsRising key_of cmp all → is_gt (cmp (key_of first) key) ≡ false
+      → found key_of cmp key all ≡ found key_of cmp key (joined pages)
+  found_in_back key all left first pages is begins rising upto =
+      let starts : joined pages ≡ first ∷ (begins.others ++ joined begins.behind) = ap joined begins.is in
+      let parts : all ≡ left ++ first ∷ (begins.others ++ joined begins.behind) = is ∙ ap (λ xs. left ++ xs) starts in
+      ap (found key_of cmp key) parts ∙ (found_behind key left first (begins.others ++ joined begins.behind) (subst (IsRising key_of cmp) parts rising) (not_below_from (key_of first) key _ refl upto) ∙ ap (found key_of cmp key) (sym starts))

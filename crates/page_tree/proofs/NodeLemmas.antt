@@ -1,11 +1,12 @@
 -- The pages of nodes, and places among them.
-use Rattle.std.proofs.Common.{◌≡◌, refl, sym, ◌∙◌, ap, subst, List, [], ◌∷◌, ◌++◌, ℕ, zero, suc, ◌+◌, ◌-◌, ◌<◌, ◌≤◌, length, drop, get_or, arith}
+use Rattle.std.proofs.Common.{◌≡◌, refl, sym, ◌∙◌, ap, subst, List, [], ◌∷◌, ◌++◌, ℕ, zero, suc, ◌+◌, ◌-◌, ◌<◌, ◌≤◌, length, drop, take, get_or, take-append-drop, arith}
 use Rattle.std.specs.Prelude.{slice_get}
 use Rattle.std.specs.declared.sync.Arc.{Arc}
 use Rattle.std.proofs.lemmas.Grind.{flat_map-append}
 use Rattle.std.proofs.lemmas.List.{drop_more}
+use Rattle.std.proofs.lemmas.List.Sums.{sum_by-append, sum_by-cons}
 use Rattle.page_model.specs.Page.{joined}
-use Rattle.page_tree.specs.Body.{pages_of}
+use Rattle.page_tree.specs.Body.{nodes_of, pages_of}
 use Rattle.page_tree.specs.Branch.{Branch}
 
 -- a place in the first of two lists, and one behind it
@@ -48,3 +49,17 @@ module _ {T Z : Type 0} where
       → slice_get (joined (pages_of (drop (index + 1) nodes))) (left - length (joined node.value.pages)) ≡ slice_get (joined (pages_of (drop index nodes))) left
   item_later nodes index left node within is later =
       sym (ap (λ items. slice_get items left) (items_from nodes index node within is) ∙ get_behind (joined node.value.pages) _ left (left - length (joined node.value.pages)) (omega arith))
+
+  -- the nodes before an index, and those from it on
+  pub pages_split : (index : ℕ) (nodes : List (Arc (Branch T) Z)) → pages_of nodes ≡ pages_of (take index nodes) ++ pages_of (drop index nodes)
+  pages_split index nodes = ap pages_of (sym (take-append-drop index nodes)) ∙ flat_map-append (λ (node : Arc (Branch T) Z). node.value.pages) (take index nodes) (drop index nodes)
+
+  pub items_split : (index : ℕ) (nodes : List (Arc (Branch T) Z)) → joined (pages_of nodes) ≡ joined (pages_of (take index nodes)) ++ joined (pages_of (drop index nodes))
+  items_split index nodes = ap joined (pages_split index nodes) ∙ flat_map-append (λ page. page) (pages_of (take index nodes)) (pages_of (drop index nodes))
+
+  pub nodes_split : (index : ℕ) (nodes : List (Arc (Branch T) Z)) → nodes_of nodes ≡ nodes_of (take index nodes) + nodes_of (drop index nodes)
+  nodes_split index nodes = ap nodes_of (sym (take-append-drop index nodes)) ∙ sum_by-append (λ (node : Arc (Branch T) Z). node.value.below + 1) (take index nodes) (drop index nodes)
+
+  pub nodes_some : (nodes : List (Arc (Branch T) Z)) → 0 < length nodes → 0 < nodes_of nodes
+  nodes_some [] some = absurd (omega arith)
+  nodes_some (node ∷ nodes) some = omega (arith, sum_by-cons (λ (each : Arc (Branch T) Z). each.value.below + 1) node nodes)

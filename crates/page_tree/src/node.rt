@@ -1,7 +1,7 @@
-ghost use Rattle.std.specs.Prelude.{◌≡◌, length, slice_get};
+ghost use Rattle.std.specs.Prelude.{◌≡◌, ◌<◌, ◌+◌, ◌++◌, length, slice_get};
 ghost use Rattle.std.specs.Option.{option_copied};
 ghost use Rattle.page_model.specs.Page.{IsFirst, joined};
-ghost use Rattle.page_tree.specs.Body.{pages_of};
+ghost use Rattle.page_tree.specs.Body.{nodes_of, pages_of};
 
 use std::alloc::Global;
 use std::marker::Model;
@@ -60,12 +60,13 @@ impl<T> Node<T> {
     }
 
     /// The first item. Takes no memory.
+    #[cycle(first)]
     pub(crate) fn first(&self) -> &T
         ensures { IsFirst result.now self.now.pages }
     {
         match &self.body {
             Body::Leaf(page) => &page[0],
-            Body::Inner(kids) => kids[0].first(),
+            Body::Inner(kids) => first_of(kids.as_slice()),
         }
     }
 
@@ -91,6 +92,30 @@ impl<T> Node<T> {
             Body::Inner(kids) => at_among(kids.as_slice(), place),
         }
     }
+}
+
+/// The first item of some nodes. Takes no memory.
+#[cycle(first)]
+pub(crate) fn first_of<T>(nodes: &[Arc<Node<T>, Global>]) -> &T
+    requires { 0 < length nodes.now }
+    ensures { IsFirst result.now (pages_of nodes.now) }
+{
+    nodes[0].first()
+}
+
+/// The first half of some nodes, and the other. Takes no memory.
+pub(crate) fn halves<T>(
+    nodes: &[Arc<Node<T>, Global>],
+) -> (&[Arc<Node<T>, Global>], &[Arc<Node<T>, Global>])
+    requires { 1 < length nodes.now }
+    ensures front { 0 < length result.0.now }
+    ensures back { 0 < length result.1.now }
+    ensures pages { pages_of nodes.now ≡ pages_of result.0.now ++ pages_of result.1.now }
+    ensures items { joined (pages_of nodes.now) ≡ joined (pages_of result.0.now) ++ joined (pages_of result.1.now) }
+    ensures fewer { nodes_of nodes.now ≡ nodes_of result.0.now + nodes_of result.1.now }
+    ensures some { (0 < nodes_of result.0.now) × (0 < nodes_of result.1.now) }
+{
+    nodes.split_at(nodes.len() / 2)
 }
 
 /// The page of a number among the pages of some nodes.

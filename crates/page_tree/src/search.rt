@@ -7,7 +7,7 @@ ghost use Rattle.page_model.specs.Rising.{IsRising};
 ghost use Rattle.page_tree.specs.Body.{pages_of};
 
 use crate::key::KeyOf;
-use crate::node::{Body, Node};
+use crate::node::{Body, Node, first_of, halves};
 use std::alloc::Global;
 use std::sync::Arc;
 
@@ -63,8 +63,8 @@ fn item_among<'a, T, By: KeyOf<T>>(
     if nodes.len() == 1 {
         return item_in(by, &nodes[0], key);
     }
-    let (front, back) = nodes.split_at(nodes.len() / 2);
-    if by.compare(back[0].first(), key).is_gt() {
+    let (front, back) = halves(nodes);
+    if by.compare(first_of(back), key).is_gt() {
         item_among(by, front, key)
     } else {
         item_among(by, back, key)

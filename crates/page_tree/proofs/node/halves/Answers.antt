@@ -1,0 +1,20 @@
+use Rattle.std.proofs.Common.{◌<◌, ◌/◌, ◌++◌, ◌+◌, length, arith}
+use Rattle.page_model.specs.Page.{joined}
+use Rattle.page_tree.specs.Body.{nodes_of, pages_of}
+use Rattle.page_tree.proofs.NodeLemmas.{items_split, nodes_some, nodes_split, pages_split}
+use Rattle.page_tree.proofs.node.halves.Goals as goal
+
+pub returns : goal.returns
+returns g c =
+    let index = length c.args.nodes.now / 2 in
+    let split = c.split_at.ensures in
+    let front : 0 < length c.split_at.result.0.now = omega arith in
+    let back : 0 < length c.split_at.result.1.now = omega arith in
+    record {
+      front = front;
+      back = back;
+      pages = rw (split.front, split.back) (pages_split index c.args.nodes.now);
+      items = rw (split.front, split.back) (items_split index c.args.nodes.now);
+      fewer = rw (split.front, split.back) (nodes_split index c.args.nodes.now);
+      some = (nodes_some c.split_at.result.0.now front, nodes_some c.split_at.result.1.now back);
+    }
