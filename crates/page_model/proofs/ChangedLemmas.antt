@@ -1,5 +1,5 @@
 -- What changes do to parts of a list.
-use Rattle.std.proofs.Common.{◌≡◌, refl, sym, ◌∙◌, ap, subst, List, [], ◌∷◌, ◌++◌, ℕ, zero, suc, map, length, take, drop, Option, Some, None, append_assoc, append-nil}
+use Rattle.std.proofs.Common.{◌≡◌, refl, sym, ◌∙◌, ap, subst, List, [], ◌∷◌, ◌++◌, ℕ, zero, suc, map, length, take, drop, Option, Some, None, append_assoc, append-nil, ◌+◌, ◌<◌, get_or, take-append-drop}
 use Rattle.std.specs.Prelude.{Bool, true, false, cond, IfSome}
 use Rattle.std.specs.Cmp.{IsTotalOrder}
 use Rattle.std.specs.List.{AllByRecursion as Each, filter}
@@ -8,12 +8,13 @@ use Rattle.std.specs.Option.{option_to_list}
 use Rattle.std.specs.Ordering.{is_eq, is_gt, is_lt}
 use Rattle.std.specs.declared.cmp.Ordering.{Ordering}
 use Rattle.std.specs.declared.cmp.Ordering.TheVariants.{Less, Equal, Greater}
+use Rattle.std.proofs.lemmas.List.{drop_more}
 use Rattle.std.proofs.lemmas.List.Elements.{filter-append}
 use Rattle.page_model.specs.Changed.{above_key, AreKeyed, below_key, with_change, with_changes}
 use Rattle.page_model.specs.Place.{IsPlaceOf}
 use Rattle.page_model.specs.Rising.{IsRising}
 use Rattle.page_model.proofs.Ordered.{above_from_below, below_from_above, below_other, greater_from_gt, less_from}
-use Rattle.page_model.proofs.RisingLemmas.{each_append, each_mapped, each_weaker, rising_append, rising_behind, rising_tail}
+use Rattle.page_model.proofs.RisingLemmas.{each_append, each_back, each_mapped, rising_back, each_weaker, rising_append, rising_behind, rising_tail}
 
 -- a filter that all pass, and one that none passes
 pub filter_all : {X : Type 0} (p : X → Bool) (xs : List X) → Each (λ x. p x ≡ true) xs → filter p xs ≡ xs
@@ -138,6 +139,27 @@ module _ {T K C : Type 0} (key_of : T → K) {cmp : K → K → Ordering} (order
           (each_option _ (put change) (some_weaker _ _ (put change) (λ x same. subst (λ k. cmp k (changed other) ≡ Less) (sym same) less) keyed))) changes later in
       rw (← append_assoc (below_key key_of cmp (changed change) xs) (option_to_list (put change)) (above_key key_of cmp (changed change) xs))
       (with_changes-front changes _ _ front)
+
+  -- the same at a place of a list of changes whose keys rise
+  pub changes_next : (changes : List C) (index : ℕ) (change : C) (xs : List T) → index < length changes → change ≡ get_or changes index change → IsRising changed cmp changes → AreKeyed key_of changed put changes
+      → with_changes key_of cmp changed put (drop index changes) xs
+      ≡ (below_key key_of cmp (changed change) xs ++ option_to_list (put change)) ++ with_changes key_of cmp changed put (drop (index + 1) changes) (above_key key_of cmp (changed change) xs)
+  changes_next changes index change xs within is rising keyed =
+      let here : drop index changes ≡ change ∷ drop (index + 1) changes = drop_more changes index change within ∙ ap (λ c. c ∷ drop (index + 1) changes) (sym is) in
+      let rises = subst (IsRising changed cmp) here (rising_back changed cmp (take index changes) (drop index changes) (subst (IsRising changed cmp) (sym (take-append-drop index changes)) rising)) in
+      let keys = subst (AreKeyed key_of changed put) here (each_back _ (take index changes) (drop index changes) (subst (AreKeyed key_of changed put) (sym (take-append-drop index changes)) keyed)) in
+      ap (λ cs. with_changes key_of cmp changed put cs xs) here
+      ∙ changes_step change (drop (index + 1) changes) xs (rising_behind changed cmp change (drop (index + 1) changes) rises) keys.0
+
+  -- what a merge has made and what is left to it, one change on
+  pub merged_next : (changes : List C) (index : ℕ) (change : C) (made next left rest all : List T) → index < length changes → change ≡ get_or changes index change → IsRising changed cmp changes → AreKeyed key_of changed put changes
+      → next ≡ made ++ (below_key key_of cmp (changed change) left ++ option_to_list (put change)) → rest ≡ above_key key_of cmp (changed change) left
+      → made ++ with_changes key_of cmp changed put (drop index changes) left ≡ all
+      → next ++ with_changes key_of cmp changed put (drop (index + 1) changes) rest ≡ all
+  merged_next changes index change made next left rest all within is rising keyed added above invariant =
+      rw (added, above)
+      (append_assoc made (below_key key_of cmp (changed change) left ++ option_to_list (put change)) (with_changes key_of cmp changed put (drop (index + 1) changes) (above_key key_of cmp (changed change) left))
+      ∙ (ap (λ xs. made ++ xs) (sym (changes_next changes index change left within is rising keyed)) ∙ invariant))
 
   rising_cond : (b : Bool) (x : T) (xs : List T) → IsRising key_of cmp (x ∷ xs) → IsRising key_of cmp (cond b (x ∷ xs) xs)
   rising_cond true x xs rising = rising

@@ -2,6 +2,7 @@
 #![tactic(auto)]
 
 mod key;
+mod merge;
 mod node;
 mod search;
 

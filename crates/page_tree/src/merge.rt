@@ -1,0 +1,95 @@
+ghost use Rattle.std.specs.Prelude.{◌≡◌, ◌≤◌, ◌++◌, IfOk, OnOk, drop, length};
+ghost use Rattle.std.specs.Option.{option_copied, option_to_list};
+ghost use Rattle.page_model.specs.Changed.{above_key, below_key, with_changes, AreKeyed};
+ghost use Rattle.page_model.specs.Place.{IsPlaceOf};
+ghost use Rattle.page_model.specs.Rising.{IsRising};
+
+use crate::key::{ChangeOf, KeyOf};
+use crate::search::place_of;
+use own_base::MakeCopy;
+use std::alloc::{AllocError, Global};
+
+/// Puts copies of items last, in their order.
+fn push_copies<T: MakeCopy + Drop>(
+    alloc: Global,
+    items: &[T],
+    made: &mut Vec<T>,
+) -> Result<(), AllocError>
+    ensures { OnOk result (made.new.items ≡ made.old.items ++ items.now) }
+{
+    for item in items {
+        made.push(item.copy(alloc)?)?;
+    }
+    Ok(())
+}
+
+/// Puts a copy of an item last, where there is one.
+fn push_copy<T: MakeCopy + Drop>(
+    alloc: Global,
+    item: Option<&T>,
+    made: &mut Vec<T>,
+) -> Result<(), AllocError>
+    ensures { OnOk result (made.new.items ≡ made.old.items ++ option_to_list (option_copied item.entry)) }
+{
+    if let Some(item) = item {
+        made.push(item.copy(alloc)?)?;
+    }
+    Ok(())
+}
+
+/// Where the items above a key begin: at the key's place, or behind the item there. Takes no memory.
+fn above_from<T, By: KeyOf<T>>(by: By, items: &[T], key: &By::Key, place: usize) -> usize
+    requires rising { IsRising (By.key_of by) By.key_cmp items.now }
+    requires place { IsPlaceOf (By.key_of by) By.key_cmp key.now items.now place }
+    ensures within { result ≤ length items.now }
+    ensures above { above_key (By.key_of by) By.key_cmp key.now items.now ≡ drop result items.now }
+{
+    if place == items.len() {
+        return place;
+    }
+    if by.compare(&items[place], key).is_eq() {
+        place + 1
+    } else {
+        place
+    }
+}
+
+/// Puts copies of the items below a change's key last, and of the item that it puts. Answers the items above the key.
+fn merge_change<'a, T: MakeCopy + Drop, By: KeyOf<T>, C: ChangeOf<T, By::Key>>(
+    alloc: Global,
+    by: By,
+    items: &'a [T],
+    change: &C,
+    made: &mut Vec<T>,
+) -> Result<&'a [T], AllocError>
+    requires { IsRising (By.key_of by) By.key_cmp items.now }
+    ensures added { OnOk result (made.new.items ≡ made.old.items ++ (below_key (By.key_of by) By.key_cmp (C.changed change.now) items.now ++ option_to_list (C.put change.now))) }
+    ensures left { IfOk result (λ left. left.now ≡ above_key (By.key_of by) By.key_cmp (C.changed change.now) items.now) }
+{
+    let place = place_of(by, items, change.key());
+    push_copies(alloc, &items[..place], made)?;
+    push_copy(alloc, change.item(), made)?;
+    Ok(&items[above_from(by, items, change.key(), place)..])
+}
+
+/// The items after changes.
+pub(crate) fn merged<T: MakeCopy + Drop, By: KeyOf<T>, C: ChangeOf<T, By::Key>>(
+    alloc: Global,
+    by: By,
+    items: &[T],
+    changes: &[C],
+) -> Result<Vec<T>, AllocError>
+    requires rising { IsRising (By.key_of by) By.key_cmp items.now }
+    requires changes { IsRising C.changed By.key_cmp changes.now }
+    requires keyed { AreKeyed (By.key_of by) C.changed C.put changes.now }
+    ensures { IfOk result (λ made. made.items ≡ with_changes (By.key_of by) By.key_cmp C.changed C.put changes.now items.now) }
+{
+    let mut made = Vec::new(alloc);
+    made.reserve_exact(items.len().saturating_add(changes.len()))?;
+    let mut left = items;
+    for change in changes {
+        left = merge_change(alloc, by, left, change, &mut made)?;
+    }
+    push_copies(alloc, left, &mut made)?;
+    Ok(made)
+}
