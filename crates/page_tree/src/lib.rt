@@ -1,6 +1,7 @@
 //! An ordered sequence that lies in pages and shares them with what changes make of it.
 #![tactic(auto)]
 
+mod build;
 mod key;
 mod merge;
 mod node;

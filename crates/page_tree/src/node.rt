@@ -1,4 +1,4 @@
-ghost use Rattle.std.specs.Prelude.{◌≡◌, ◌<◌, ◌+◌, ◌++◌, length, slice_get};
+ghost use Rattle.std.specs.Prelude.{◌≡◌, ◌<◌, ◌+◌, ◌/◌, ◌++◌, length, slice_get};
 ghost use Rattle.std.specs.Option.{option_copied};
 ghost use Rattle.page_model.specs.Page.{IsFirst, joined};
 ghost use Rattle.page_tree.specs.Body.{nodes_of, pages_of};
@@ -11,8 +11,8 @@ use std::sync::Arc;
 #[cycle(node)]
 #[derive(Drop)]
 pub(crate) struct Node<T> {
-    items: usize,
-    pages: usize,
+    pub(crate) items: usize,
+    pub(crate) pages: usize,
     pub(crate) body: Body<T>,
 }
 
@@ -110,6 +110,8 @@ pub(crate) fn halves<T>(
     requires { 1 < length nodes.now }
     ensures front { 0 < length result.0.now }
     ensures back { 0 < length result.1.now }
+    ensures first { length result.0.now ≡ length nodes.now / 2 }
+    ensures second { length result.0.now + length result.1.now ≡ length nodes.now }
     ensures pages { pages_of nodes.now ≡ pages_of result.0.now ++ pages_of result.1.now }
     ensures items { joined (pages_of nodes.now) ≡ joined (pages_of result.0.now) ++ joined (pages_of result.1.now) }
     ensures fewer { nodes_of nodes.now ≡ nodes_of result.0.now + nodes_of result.1.now }

@@ -13,6 +13,8 @@ returns g c =
     record {
       front = front;
       back = back;
+      first = split.front_len;
+      second = omega arith;
       pages = rw (split.front, split.back) (pages_split index c.args.nodes.now);
       items = rw (split.front, split.back) (items_split index c.args.nodes.now);
       fewer = rw (split.front, split.back) (nodes_split index c.args.nodes.now);

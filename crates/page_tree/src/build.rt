@@ -1,0 +1,132 @@
+ghost use Rattle.std.specs.Prelude.{◌≡◌, ◌<◌, ◌≤◌, ◌*◌, ◌+◌, ◌++◌, [], ◌∷◌, IfOk, OnOk, length};
+ghost use Rattle.page_model.specs.ChangedPages.{AddsPages};
+ghost use Rattle.page_model.specs.Page.{joined};
+ghost use Rattle.page_tree.specs.Body.{pages_of};
+
+use crate::node::{Body, Node, halves};
+use page_model::PAGE_ITEMS;
+use std::alloc::{AllocError, Global};
+use std::sync::Arc;
+
+/// The most nodes right below a node.
+const INNER_NODES: usize = 16;
+
+/// A node of one page.
+fn leaf<T: Drop>(alloc: Global, page: Vec<T>) -> Result<Arc<Node<T>, Global>, AllocError>
+    requires { 0 < length page.items }
+    ensures { IfOk result (λ node. node.value.pages ≡ page.items ∷ []) }
+{
+    let node = Node {
+        items: page.len(),
+        pages: 1,
+        body: Body::Leaf(page),
+    };
+    Ok(Arc::new(alloc, node)?)
+}
+
+/// How many items some nodes have, and how many pages. Takes no memory; `AllocError` comes where there are more than
+/// can be counted.
+fn counts<T>(nodes: &[Arc<Node<T>, Global>]) -> Result<(usize, usize), AllocError>
+    ensures items { IfOk result (λ counts. counts.0 ≡ length (joined (pages_of nodes.now))) }
+    ensures pages { IfOk result (λ counts. counts.1 ≡ length (pages_of nodes.now)) }
+{
+    let mut items: usize = 0;
+    let mut pages: usize = 0;
+    for node in nodes {
+        items = items.checked_add(node.items()).ok_or(AllocError)?;
+        pages = pages.checked_add(node.pages()).ok_or(AllocError)?;
+    }
+    Ok((items, pages))
+}
+
+/// A node above these, with their pages in their order.
+fn inner<T: Drop>(
+    alloc: Global,
+    nodes: Vec<Arc<Node<T>, Global>>,
+) -> Result<Arc<Node<T>, Global>, AllocError>
+    requires { 0 < length nodes.items }
+    ensures { IfOk result (λ node. node.value.pages ≡ pages_of nodes.items) }
+{
+    let (items, pages) = counts(nodes.as_slice())?;
+    let node = Node {
+        items,
+        pages,
+        body: Body::Inner(nodes),
+    };
+    Ok(Arc::new(alloc, node)?)
+}
+
+/// Puts nodes last, each shared with where it stands.
+pub(crate) fn push_nodes<T: Drop>(
+    nodes: &[Arc<Node<T>, Global>],
+    made: &mut Vec<Arc<Node<T>, Global>>,
+) -> Result<(), AllocError>
+    ensures pages { OnOk result (pages_of made.new.items ≡ pages_of made.old.items ++ pages_of nodes.now) }
+    ensures count { OnOk result (length made.new.items ≡ length made.old.items + length nodes.now) }
+{
+    for node in nodes {
+        made.push(Arc::try_clone(node)?)?;
+    }
+    Ok(())
+}
+
+/// Puts items last as pages: none, one, or two where they are too many for one.
+pub(crate) fn push_pages<T: Drop>(
+    alloc: Global,
+    items: Vec<T>,
+    made: &mut Vec<Arc<Node<T>, Global>>,
+) -> Result<(), AllocError>
+    requires { length items.items ≤ 2 * PAGE_ITEMS }
+    ensures { OnOk result (AddsPages items.items (pages_of made.old.items) (pages_of made.new.items)) }
+{
+    let mut items = items;
+    if items.len() > PAGE_ITEMS {
+        let others = items.split_off(items.len() / 2)?;
+        made.push(leaf(alloc, items)?)?;
+        made.push(leaf(alloc, others)?)?;
+    } else if !items.is_empty() {
+        made.push(leaf(alloc, items)?)?;
+    }
+    Ok(())
+}
+
+/// Puts nodes above these last, each above no more than fit.
+fn push_groups<T: Drop>(
+    alloc: Global,
+    nodes: &[Arc<Node<T>, Global>],
+    made: &mut Vec<Arc<Node<T>, Global>>,
+) -> Result<(), AllocError>
+    requires { 0 < length nodes.now }
+    ensures pages { OnOk result (pages_of made.new.items ≡ pages_of made.old.items ++ pages_of nodes.now) }
+    ensures fewer { OnOk result (1 < length nodes.now → length made.new.items < length made.old.items + length nodes.now) }
+{
+    if nodes.len() <= INNER_NODES {
+        let mut shared = Vec::new(alloc);
+        shared.reserve_exact(nodes.len())?;
+        push_nodes(nodes, &mut shared)?;
+        made.push(inner(alloc, shared)?)?;
+        return Ok(());
+    }
+    let (front, back) = halves(nodes);
+    push_groups(alloc, front, made)?;
+    push_groups(alloc, back, made)
+}
+
+/// Puts a node above these last, or some where they are too many for one.
+pub(crate) fn push_above<T: Drop>(
+    alloc: Global,
+    nodes: Vec<Arc<Node<T>, Global>>,
+    made: &mut Vec<Arc<Node<T>, Global>>,
+) -> Result<(), AllocError>
+    ensures pages { OnOk result (pages_of made.new.items ≡ pages_of made.old.items ++ pages_of nodes.items) }
+    ensures fewer { OnOk result (1 < length nodes.items → length made.new.items < length made.old.items + length nodes.items) }
+{
+    if nodes.is_empty() {
+        return Ok(());
+    }
+    if nodes.len() > INNER_NODES {
+        return push_groups(alloc, nodes.as_slice(), made);
+    }
+    made.push(inner(alloc, nodes)?)?;
+    Ok(())
+}
