@@ -1,5 +1,5 @@
 -- What changes do to parts of a list.
-use Rattle.std.proofs.Common.{◌≡◌, refl, sym, ◌∙◌, ap, subst, List, [], ◌∷◌, ◌++◌, ℕ, zero, suc, map, length, take, drop, Option, Some, None, append_assoc, append-nil, ◌+◌, ◌<◌, get_or, take-append-drop}
+use Rattle.std.proofs.Common.{◌≡◌, refl, sym, ◌∙◌, ap, subst, List, [], ◌∷◌, ◌++◌, ℕ, zero, suc, map, length, take, drop, Option, Some, None, append_assoc, append-nil, ◌+◌, ◌<◌, ◌≤◌, arith, length-append, get_or, take-append-drop}
 use Rattle.std.specs.Prelude.{Bool, true, false, cond, IfSome}
 use Rattle.std.specs.Cmp.{IsTotalOrder}
 use Rattle.std.specs.List.{AllByRecursion as Each, filter}
@@ -108,6 +108,34 @@ module _ {T K C : Type 0} (key_of : T → K) {cmp : K → K → Ordering} (order
   each_both : {X : Type 0} (P Q R : X → Type 0) → ((x : X) → P x → Q x → R x) → (xs : List X) → Each P xs → Each Q xs → Each R xs
   each_both P Q R f [] h i = tt
   each_both P Q R f (x ∷ xs) h i = (f x h.0 i.0, each_both P Q R f xs h.1 i.1)
+
+  -- each change adds no more than an item
+  length_put : (o : Option T) → length (option_to_list o) ≤ 1
+  length_put None = omega arith
+  length_put (Some x) = omega arith
+
+  length_sides_from : (key : K) (x : T) (xs : List T) (o : Ordering) → length (below_key key_of cmp key xs) + length (above_key key_of cmp key xs) ≤ length xs
+      → length (cond (is_lt o) (x ∷ below_key key_of cmp key xs) (below_key key_of cmp key xs)) + length (cond (is_gt o) (x ∷ above_key key_of cmp key xs) (above_key key_of cmp key xs)) ≤ length xs + 1
+  length_sides_from key x xs Less h = omega arith
+  length_sides_from key x xs Equal h = omega arith
+  length_sides_from key x xs Greater h = omega arith
+
+  length_sides : (key : K) (xs : List T) → length (below_key key_of cmp key xs) + length (above_key key_of cmp key xs) ≤ length xs
+  length_sides key [] = omega arith
+  length_sides key (x ∷ xs) = let more = length_sides_from key x xs (cmp (key_of x) key) (length_sides key xs) in omega arith
+
+  length_with_change : (key : K) (item : Option T) (xs : List T) → length (with_change key_of cmp key item xs) ≤ length xs + 1
+  unfolding with_change
+  length_with_change key item xs =
+      omega (arith, length-append (below_key key_of cmp key xs) (option_to_list item ++ above_key key_of cmp key xs), length-append (option_to_list item) (above_key key_of cmp key xs), length_put item, length_sides key xs)
+
+  pub length_with_changes : (changes : List C) (xs : List T) → length (with_changes key_of cmp changed put changes xs) ≤ length xs + length changes
+  unfolding with_changes
+  length_with_changes [] xs = omega arith
+  length_with_changes (change ∷ changes) xs =
+      let one = length_with_change (changed change) (put change) xs in
+      let others = length_with_changes changes (with_change key_of cmp (changed change) (put change) xs) in
+      omega arith
 
   -- items and changes below a key, and others that aren't, keep apart
   pub changes_apart : (key : K) (left right : List T) (below above : List C)

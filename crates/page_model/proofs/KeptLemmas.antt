@@ -157,3 +157,37 @@ module _ {T K C : Type 0} (key_of : T → K) {cmp : K → K → Ordering} (order
   pub adds_first : (changes : List C) (before after : List (List T)) → AddsPages (with_changes key_of cmp changed put changes []) before after → AddsChanged key_of cmp changed put [] changes before after
   adds_first changes before after adds =
       record { new = adds.new; behind = adds.behind; pages = adds.pages; items = adds.items; kept = λ number other there _. let none : slice_get {X = List T} [] number ≡ None = refl in cc }
+
+  -- the same of changes that are some
+  pub adds_leaf : (page : List T) (changes : List C) (before after : List (List T)) → 0 < length changes
+      → AddsPages (with_changes key_of cmp changed put changes page) before after → AddsChanged key_of cmp changed put (page ∷ []) changes before after
+  adds_leaf page [] before after some adds = absurd (omega arith)
+  adds_leaf page (change ∷ changes) before after some adds = adds_page page change changes before after adds
+
+  -- what comes behind nothing comes behind others
+  pub adds_moved : (old : List (List T)) (changes : List C) (before middle after : List (List T)) → after ≡ before ++ middle
+      → AddsChanged key_of cmp changed put old changes [] middle → AddsChanged key_of cmp changed put old changes before after
+  adds_moved old changes before middle after is adds =
+      record { new = adds.new; behind = is ∙ ap (λ pages. before ++ pages) adds.behind; pages = adds.pages; items = adds.items; kept = adds.kept }
+
+  -- pages of the items below a change's key, and of the others, each with its changes
+  pub adds_parts : (items front back : List T) (changes below others : List C) (first : C) (rest : List C) (before middle after : List (List T))
+      → items ≡ front ++ back → changes ≡ below ++ others → others ≡ first ∷ rest → IsRising changed cmp changes → AreKeyed key_of changed put changes
+      → Each (λ x. cmp (key_of x) (changed first) ≡ Less) front → Each (λ x. is_lt (cmp (key_of x) (changed first)) ≡ false) back
+      → AddsPages (with_changes key_of cmp changed put below front) before middle → AddsPages (with_changes key_of cmp changed put others back) middle after
+      → AddsPages (with_changes key_of cmp changed put changes items) before after
+  adds_parts items front back changes below others first rest before middle after parts split starts rising keyed left right in_front behind =
+      let rises = subst (IsRising changed cmp) (split ∙ ap (λ cs. below ++ cs) starts) rising in
+      let below_is = rising_before changed cmp below first rest rises in
+      let others_are = subst (Each (λ change. is_lt (cmp (changed change) (changed first)) ≡ false)) (sym starts) (none_below changed cmp order first rest (rising_back changed cmp below (first ∷ rest) rises)) in
+      let keys = each_front _ below others (subst (AreKeyed key_of changed put) split keyed) in
+      record {
+        new = in_front.new ++ behind.new;
+        behind = behind.behind ∙ (ap (λ ps. ps ++ behind.new) in_front.behind ∙ append_assoc before in_front.new behind.new);
+        pages = each_append IsPage in_front.new behind.new in_front.pages behind.pages;
+        items = flat_map-append (λ page. page) in_front.new behind.new
+            ∙ (ap (λ xs. xs ++ joined behind.new) in_front.items
+            ∙ (ap (λ xs. with_changes key_of cmp changed put below front ++ xs) behind.items
+            ∙ (sym (changes_apart key_of order changed put (changed first) front back below others left right below_is others_are keys)
+            ∙ (ap (λ cs. with_changes key_of cmp changed put cs (front ++ back)) (sym split) ∙ ap (with_changes key_of cmp changed put changes) (sym parts)))));
+      }

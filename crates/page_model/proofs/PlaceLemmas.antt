@@ -4,15 +4,16 @@ use Rattle.std.specs.Prelude.{Bool, true, false}
 use Rattle.std.specs.Cmp.{IsTotalOrder}
 use Rattle.std.specs.List.{AllByRecursion as Each}
 use Rattle.std.specs.List.Sorted.{IsPartitionedBy, IsPartitionPoint, IsStrictlySortedBy}
-use Rattle.std.specs.Ordering.{is_lt}
+use Rattle.std.specs.Ordering.{is_gt, is_lt}
 use Rattle.std.specs.declared.cmp.Ordering.{Ordering}
 use Rattle.std.specs.declared.cmp.Ordering.TheVariants.{Less, Equal, Greater}
 use Rattle.std.proofs.lemmas.Bool.{cases_eq}
+use Rattle.std.proofs.lemmas.Cmp.{tied_back}
 use Rattle.std.proofs.lemmas.List.{get_or-take, get_or-drop, length-take-le, length-drop}
 use Rattle.std.proofs.lemmas.List.Elements.{All-from_recursion, recursion_from_All}
 use Rattle.page_model.specs.Place.{IsPlaceOf}
 use Rattle.page_model.specs.Rising.{IsRising}
-use Rattle.page_model.proofs.Ordered.{less_from}
+use Rattle.page_model.proofs.Ordered.{above_from_below, below_from_above, less_from}
 use Rattle.page_model.proofs.RisingLemmas.{each_weaker, rising_behind, rising_tail}
 
 -- a part of a list that passes, by places and by recursion
@@ -50,3 +51,22 @@ module _ {T K : Type 0} (key_of : T → K) {cmp : K → K → Ordering} (order :
         before = each_weaker _ _ (λ x. less_from _) (take place xs) (passing_front (λ x. is_lt (cmp (key_of x) key) ≡ true) xs place within point.0);
         behind = passing_back (λ x. is_lt (cmp (key_of x) key) ≡ false) xs place point.1;
       }
+
+  -- the same where the key stands first
+  turned : (x y : K) (o : Ordering) → cmp y x ≡ o → is_gt (cmp x y) ≡ is_lt o
+  turned x y Less is = ap is_gt (above_from_below order y x is)
+  turned x y Equal is = ap is_gt (tied_back order y x is)
+  turned x y Greater is = ap is_gt (below_from_above order y x is)
+
+  turns : (key : K) (x : T) → is_gt (cmp key (key_of x)) ≡ is_lt (cmp (key_of x) key)
+  turns key x = turned key (key_of x) (cmp (key_of x) key) refl
+
+  pub partitioned_turned : (key : K) (xs : List T) → IsRising key_of cmp xs → IsPartitionedBy (λ x. is_gt (cmp key (key_of x))) xs
+  partitioned_turned key xs rising i j d upto within passes = turns key (get_or xs i d) ∙ partitioned key xs rising i j d upto within (sym (turns key (get_or xs j d)) ∙ passes)
+
+  pub place_from_partition_turned : (key : K) (xs : List T) (place : ℕ) → place ≤ length xs
+      → IsPartitionPoint (λ x. is_gt (cmp key (key_of x)) ≡ true) (λ x. is_gt (cmp key (key_of x)) ≡ false) xs place
+      → IsPlaceOf key_of cmp key xs place
+  place_from_partition_turned key xs place within point =
+      place_from_partition key xs place within
+      ((λ k d low high. sym (turns key (get_or xs k d)) ∙ point.0 k d low high), (λ k d low high. sym (turns key (get_or xs k d)) ∙ point.1 k d low high))

@@ -1,9 +1,9 @@
 -- The pages of nodes, and places among them.
-use Rattle.std.proofs.Common.{◌≡◌, refl, sym, ◌∙◌, ap, subst, List, [], ◌∷◌, ◌++◌, ℕ, zero, suc, ◌+◌, ◌-◌, ◌<◌, ◌≤◌, length, drop, take, get_or, take-append-drop, append-nil, length-append, arith}
+use Rattle.std.proofs.Common.{◌≡◌, refl, sym, ◌∙◌, ap, subst, List, [], ◌∷◌, ◌++◌, ℕ, zero, suc, ◌+◌, ◌-◌, ◌<◌, ◌≤◌, length, drop, take, get_or, take-append-drop, arith}
 use Rattle.std.specs.Prelude.{slice_get}
 use Rattle.std.specs.declared.sync.Arc.{Arc}
 use Rattle.std.proofs.lemmas.Grind.{flat_map-append}
-use Rattle.std.proofs.lemmas.List.{drop_more, take_more}
+use Rattle.std.proofs.lemmas.List.{drop_more}
 use Rattle.std.proofs.lemmas.List.Sums.{sum_by-append, sum_by-cons}
 use Rattle.page_model.specs.Page.{joined}
 use Rattle.page_tree.specs.Body.{nodes_of, pages_of}
@@ -63,21 +63,3 @@ module _ {T Z : Type 0} where
   pub nodes_some : (nodes : List (Arc (Branch T) Z)) → 0 < length nodes → 0 < nodes_of nodes
   nodes_some [] some = absurd (omega arith)
   nodes_some (node ∷ nodes) some = omega (arith, sum_by-cons (λ (each : Arc (Branch T) Z). each.value.below + 1) node nodes)
-
-  -- the pages of one node more
-  pub pages_push : (nodes : List (Arc (Branch T) Z)) (node : Arc (Branch T) Z) → pages_of (nodes ++ node ∷ []) ≡ pages_of nodes ++ node.value.pages
-  pages_push nodes node = flat_map-append (λ (each : Arc (Branch T) Z). each.value.pages) nodes (node ∷ []) ∙ ap (λ pages. pages_of nodes ++ pages) (append-nil node.value.pages)
-
-  pub pages_more : (nodes : List (Arc (Branch T) Z)) (index : ℕ) (node : Arc (Branch T) Z) → index < length nodes → node ≡ get_or nodes index node
-      → pages_of (take (index + 1) nodes) ≡ pages_of (take index nodes) ++ node.value.pages
-  pages_more nodes index node within is =
-      ap pages_of (take_more nodes index node within)
-      ∙ (pages_push (take index nodes) (get_or nodes index node)
-      ∙ ap (λ (each : Arc (Branch T) Z). pages_of (take index nodes) ++ each.value.pages) (sym is))
-
-  pub items_more : (nodes : List (Arc (Branch T) Z)) (index : ℕ) (node : Arc (Branch T) Z) → index < length nodes → node ≡ get_or nodes index node
-      → length (joined (pages_of (take (index + 1) nodes))) ≡ length (joined (pages_of (take index nodes))) + length (joined node.value.pages)
-  items_more nodes index node within is =
-      ap (λ pages. length (joined pages)) (pages_more nodes index node within is)
-      ∙ (ap length (flat_map-append (λ page. page) (pages_of (take index nodes)) node.value.pages)
-      ∙ length-append (joined (pages_of (take index nodes))) (joined node.value.pages))

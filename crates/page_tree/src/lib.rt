@@ -2,6 +2,7 @@
 #![tactic(auto)]
 
 mod build;
+mod change;
 mod key;
 mod merge;
 mod node;
