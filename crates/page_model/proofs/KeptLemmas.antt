@@ -191,3 +191,9 @@ module _ {T K C : Type 0} (key_of : T → K) {cmp : K → K → Ordering} (order
             ∙ (sym (changes_apart key_of order changed put (changed first) front back below others left right below_is others_are keys)
             ∙ (ap (λ cs. with_changes key_of cmp changed put cs (front ++ back)) (sym split) ∙ ap (with_changes key_of cmp changed put changes) (sym parts)))));
       }
+
+  -- behind nothing stand the new pages alone
+  pub adds_all : (old : List (List T)) (changes : List C) (after : List (List T)) → AddsChanged key_of cmp changed put old changes [] after
+      → ArePages after × (joined after ≡ with_changes key_of cmp changed put changes (joined old)) × KeepsPages key_of cmp changed old changes after
+  adds_all old changes after adds =
+      (subst ArePages (sym adds.behind) adds.pages, ap joined adds.behind ∙ adds.items, subst (KeepsPages key_of cmp changed old changes) (sym adds.behind) adds.kept)

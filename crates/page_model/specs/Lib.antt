@@ -7,3 +7,4 @@ pub mod PageOf
 pub mod Paged
 pub mod Place
 pub mod Rising
+pub mod Run

@@ -6,6 +6,8 @@ mod change;
 mod key;
 mod merge;
 mod node;
+mod pages;
 mod search;
 
 pub use key::{ChangeOf, KeyOf};
+pub use pages::Pages;
