@@ -26,7 +26,7 @@ module _ {T Z : Type 0} where
       → pages_of (drop index nodes) ≡ node.value.pages ++ pages_of (drop (index + 1) nodes)
   pages_from nodes index node within is = ap pages_of (drop_more nodes index node within) ∙ ap (λ (first : Arc (Branch T) Z). first.value.pages ++ pages_of (drop (index + 1) nodes)) (sym is)
 
-  items_from : (nodes : List (Arc (Branch T) Z)) (index : ℕ) (node : Arc (Branch T) Z) → index < length nodes → node ≡ get_or nodes index node
+  pub items_from : (nodes : List (Arc (Branch T) Z)) (index : ℕ) (node : Arc (Branch T) Z) → index < length nodes → node ≡ get_or nodes index node
       → joined (pages_of (drop index nodes)) ≡ joined node.value.pages ++ joined (pages_of (drop (index + 1) nodes))
   items_from nodes index node within is = ap joined (pages_from nodes index node within is) ∙ flat_map-append (λ page. page) node.value.pages (pages_of (drop (index + 1) nodes))
 

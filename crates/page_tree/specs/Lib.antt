@@ -1,3 +1,4 @@
 pub mod Body
 pub mod Branch
 pub mod Falls
+pub mod ItemsLeft

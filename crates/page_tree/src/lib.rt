@@ -3,11 +3,13 @@
 
 mod build;
 mod change;
+mod items;
 mod key;
 mod merge;
 mod node;
 mod pages;
 mod search;
 
+pub use items::Items;
 pub use key::{ChangeOf, KeyOf};
 pub use pages::Pages;

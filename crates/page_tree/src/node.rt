@@ -1,6 +1,7 @@
 ghost use Rattle.std.specs.Prelude.{◌≡◌, ◌<◌, ◌+◌, ◌/◌, ◌++◌, length, slice_get};
 ghost use Rattle.std.specs.Option.{option_copied};
 ghost use Rattle.page_model.specs.Page.{IsFirst, joined};
+ghost use Rattle.page_model.specs.Run.{IsRunFrom};
 ghost use Rattle.page_tree.specs.Body.{nodes_of, pages_of};
 
 use std::alloc::Global;
@@ -92,6 +93,18 @@ impl<T> Node<T> {
             Body::Inner(kids) => at_among(kids.as_slice(), place),
         }
     }
+
+    /// The rest of the page that has the item at a place. Takes no memory.
+    #[cycle(run)]
+    pub(crate) fn run_from(&self, place: usize) -> &[T]
+        ensures { IsRunFrom (joined self.now.pages) place result.now }
+    {
+        match &self.body {
+            Body::Leaf(page) if place < page.len() => &page[place..],
+            Body::Leaf(_) => &[],
+            Body::Inner(kids) => run_among(kids.as_slice(), place),
+        }
+    }
 }
 
 /// The first item of some nodes. Takes no memory.
@@ -150,4 +163,20 @@ fn at_among<T>(nodes: &[Arc<Node<T>, Global>], place: usize) -> Option<&T>
         left -= count;
     }
     None
+}
+
+/// The rest of the page that has the item at a place among the items of some nodes.
+#[cycle(run)]
+fn run_among<T>(nodes: &[Arc<Node<T>, Global>], place: usize) -> &[T]
+    ensures { IsRunFrom (joined (pages_of nodes.now)) place result.now }
+{
+    let mut left = place;
+    for node in nodes {
+        let count = node.items();
+        if left < count {
+            return node.run_from(left);
+        }
+        left -= count;
+    }
+    &[]
 }

@@ -1,16 +1,18 @@
-ghost use Rattle.std.specs.Prelude.{◌≡◌, [], IfOk, length, slice_get};
+ghost use Rattle.std.specs.Prelude.{◌≡◌, [], IfOk, IfSome, length, slice_get};
 ghost use Rattle.std.specs.Option.{option_copied};
 ghost use Rattle.page_model.specs.Changed.{with_changes, AreKeyed};
 ghost use Rattle.page_model.specs.ChangedPages.{AddsChanged};
 ghost use Rattle.page_model.specs.Found.{found};
 ghost use Rattle.page_model.specs.Kept.{KeepsPages};
-ghost use Rattle.page_model.specs.Page.{ArePages};
+ghost use Rattle.page_model.specs.Page.{ArePages, IsPage};
 ghost use Rattle.page_model.specs.Paged.{items};
 ghost use Rattle.page_model.specs.Rising.{IsRising};
+ghost use Rattle.page_model.specs.Run.{IsRunFrom};
 ghost use Rattle.page_tree.specs.Body.{pages_of, root_pages};
 
 use crate::build::push_above;
 use crate::change::{change_node, fill};
+use crate::items::Items;
 use crate::key::{ChangeOf, KeyOf};
 use crate::node::Node;
 use crate::search::item_in;
@@ -94,12 +96,31 @@ impl<T, By: KeyOf<T>> Pages<T, By> {
 
     /// The page of a number, counted from 0. Takes no memory.
     pub fn page(&self, number: usize) -> Option<&[T]>
-        ensures { option_copied result ≡ slice_get self.now.pages number }
+        ensures page { IfSome result (λ page. IsPage page.now) }
+        ensures lookup { option_copied result ≡ slice_get self.now.pages number }
     {
         match &self.root {
             None => None,
             Some(root) => root.page(number),
         }
+    }
+
+    /// Lends a run of items that begins at a place, counted from 0: the rest of the page that has the item there. It is
+    /// empty past the end. Called again behind each run, it goes over all items. Takes no memory.
+    pub fn run_from(&self, place: usize) -> &[T]
+        ensures { IsRunFrom (items self.now) place result.now }
+    {
+        match &self.root {
+            None => &[],
+            Some(root) => root.run_from(place),
+        }
+    }
+
+    /// The items, in their order, one by one. Takes no memory.
+    pub fn iter(&self) -> Items<'_, T, By>
+        ensures { result ≡ items self.now }
+    {
+        Items::new(self)
     }
 }
 
@@ -142,6 +163,18 @@ impl<T: MakeCopy + Drop, By: KeyOf<T>> Pages<T, By> {
     {
         let made = self.changed(alloc, changes)?;
         let root = rooted(alloc, made)?;
+        Ok(Pages { by: self.by, root })
+    }
+}
+
+impl<T, By: KeyOf<T>> MakeCopy for Pages<T, By> {
+    /// The same sequence, which shares all pages. Takes no memory; `AllocError` comes only where the count of those that
+    /// share is full.
+    fn copy(&self, _alloc: Global) -> Result<Pages<T, By>, AllocError> {
+        let root = match &self.root {
+            None => None,
+            Some(root) => Some(Arc::try_clone(root)?),
+        };
         Ok(Pages { by: self.by, root })
     }
 }
