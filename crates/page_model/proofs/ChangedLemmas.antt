@@ -1,17 +1,16 @@
 -- What changes do to parts of a list.
-use Rattle.std.proofs.Common.{◌≡◌, refl, sym, ◌∙◌, ap, subst, List, [], ◌∷◌, ◌++◌, ℕ, zero, suc, map, length, take, drop, Option, Some, None, append_assoc, append-nil, ◌+◌, ◌<◌, ◌≤◌, arith, length-append, get_or, take-append-drop}
+use Rattle.std.proofs.Common.{◌≡◌, refl, sym, ◌∙◌, ap, subst, List, [], ◌∷◌, ◌++◌, ℕ, length, take, drop, Option, Some, None, append_assoc, append-nil, ◌+◌, ◌<◌, ◌≤◌, arith, length-append, get_or, take-append-drop}
 use Rattle.std.specs.Prelude.{Bool, true, false, cond, IfSome}
 use Rattle.std.specs.Cmp.{IsTotalOrder}
 use Rattle.std.specs.List.{AllByRecursion as Each, filter}
 use Rattle.std.specs.List.Sorted.{IsStrictlySortedBy}
 use Rattle.std.specs.Option.{option_to_list}
-use Rattle.std.specs.Ordering.{is_eq, is_gt, is_lt}
+use Rattle.std.specs.Ordering.{is_gt, is_lt}
 use Rattle.std.specs.declared.cmp.Ordering.{Ordering}
 use Rattle.std.specs.declared.cmp.Ordering.TheVariants.{Less, Equal, Greater}
 use Rattle.std.proofs.lemmas.List.{drop_more}
 use Rattle.std.proofs.lemmas.List.Elements.{filter-append}
 use Rattle.page_model.specs.Changed.{above_key, AreKeyed, below_key, with_change, with_changes}
-use Rattle.page_model.specs.Place.{IsPlaceOf}
 use Rattle.page_model.specs.Rising.{IsRising}
 use Rattle.page_model.proofs.Ordered.{above_from_below, below_from_above, below_other, greater_from_gt, less_from}
 use Rattle.page_model.proofs.RisingLemmas.{each_append, each_back, each_mapped, rising_back, each_weaker, rising_append, rising_behind, rising_tail}
@@ -52,10 +51,12 @@ module _ {T K C : Type 0} (key_of : T → K) {cmp : K → K → Ordering} (order
       → with_change key_of cmp key item (front ++ xs) ≡ front ++ with_change key_of cmp key item xs
   unfolding with_change
   with_change-front key item front xs below =
-      rw (filter-append (λ x. is_lt (cmp (key_of x) key)) front xs,
-          filter-append (λ x. is_gt (cmp (key_of x) key)) front xs,
-          filter_all (λ x. is_lt (cmp (key_of x) key)) front (each_weaker _ _ (λ x. ap is_lt) front below),
-          filter_none (λ x. is_gt (cmp (key_of x) key)) front (each_weaker _ _ (λ x. ap is_gt) front below))
+      rw (
+        filter-append (λ x. is_lt (cmp (key_of x) key)) front xs,
+        filter-append (λ x. is_gt (cmp (key_of x) key)) front xs,
+        filter_all (λ x. is_lt (cmp (key_of x) key)) front (each_weaker _ _ (λ x. ap is_lt) front below),
+        filter_none (λ x. is_gt (cmp (key_of x) key)) front (each_weaker _ _ (λ x. ap is_gt) front below),
+      )
       (append_assoc front _ _)
 
   -- and what is above it, behind
@@ -63,10 +64,12 @@ module _ {T K C : Type 0} (key_of : T → K) {cmp : K → K → Ordering} (order
       → with_change key_of cmp key item (xs ++ back) ≡ with_change key_of cmp key item xs ++ back
   unfolding with_change
   with_change-back key item xs back above =
-      rw (filter-append (λ x. is_lt (cmp (key_of x) key)) xs back,
-          filter-append (λ x. is_gt (cmp (key_of x) key)) xs back,
-          filter_none (λ x. is_lt (cmp (key_of x) key)) back (each_weaker _ _ (λ x. ap is_lt) back above),
-          filter_all (λ x. is_gt (cmp (key_of x) key)) back (each_weaker _ _ (λ x. ap is_gt) back above))
+      rw (
+        filter-append (λ x. is_lt (cmp (key_of x) key)) xs back,
+        filter-append (λ x. is_gt (cmp (key_of x) key)) xs back,
+        filter_none (λ x. is_lt (cmp (key_of x) key)) back (each_weaker _ _ (λ x. ap is_lt) back above),
+        filter_all (λ x. is_gt (cmp (key_of x) key)) back (each_weaker _ _ (λ x. ap is_gt) back above),
+      )
       (simp (append_assoc, append-nil))
 
   -- the same of several changes
@@ -146,11 +149,11 @@ module _ {T K C : Type 0} (key_of : T → K) {cmp : K → K → Ordering} (order
       ≡ with_changes key_of cmp changed put below left ++ with_changes key_of cmp changed put above right
   changes_apart key left right below above left_is right_is below_is above_is keyed =
       let behind = each_weaker _ _ (λ change is. each_weaker _ _ (λ y not_below.
-          above_from_below order (changed change) (key_of y) (below_other order (changed change) (key_of y) key is not_below)) right right_is) below below_is in
+      above_from_below order (changed change) (key_of y) (below_other order (changed change) (key_of y) key is not_below)) right right_is) below below_is in
       let front = each_weaker _ _ (λ change not_below. each_with_changes (λ x. cmp (key_of x) (changed change) ≡ Less) below left
-          (each_weaker _ _ (λ x is. below_other order (key_of x) (changed change) key is not_below) left left_is)
-          (each_both _ _ _ (λ earlier has is. some_weaker _ _ (put earlier)
-              (λ x same. subst (λ k. cmp k (changed change) ≡ Less) (sym same) (below_other order (changed earlier) (changed change) key is not_below)) has) below keyed below_is)) above above_is in
+      (each_weaker _ _ (λ x is. below_other order (key_of x) (changed change) key is not_below) left left_is)
+      (each_both _ _ _ (λ earlier has is. some_weaker _ _ (put earlier)
+      (λ x same. subst (λ k. cmp k (changed change) ≡ Less) (sym same) (below_other order (changed earlier) (changed change) key is not_below)) has) below keyed below_is)) above above_is in
       with_changes-append below above (left ++ right)
       ∙ (ap (with_changes key_of cmp changed put above) (with_changes-back below left right behind)
       ∙ with_changes-front above (with_changes key_of cmp changed put below left) right front)
@@ -163,8 +166,8 @@ module _ {T K C : Type 0} (key_of : T → K) {cmp : K → K → Ordering} (order
   unfolding with_changes with_change
   changes_step change changes xs later keyed =
       let front = each_weaker _ _ (λ other less. each_append (λ x. cmp (key_of x) (changed other) ≡ Less) _ _
-          (each_weaker _ _ (λ x passes. order.trans _ _ _ (less_from _ passes) less) _ (each_passes (λ x. is_lt (cmp (key_of x) (changed change))) xs))
-          (each_option _ (put change) (some_weaker _ _ (put change) (λ x same. subst (λ k. cmp k (changed other) ≡ Less) (sym same) less) keyed))) changes later in
+      (each_weaker _ _ (λ x passes. order.trans _ _ _ (less_from _ passes) less) _ (each_passes (λ x. is_lt (cmp (key_of x) (changed change))) xs))
+      (each_option _ (put change) (some_weaker _ _ (put change) (λ x same. subst (λ k. cmp k (changed other) ≡ Less) (sym same) less) keyed))) changes later in
       rw (← append_assoc (below_key key_of cmp (changed change) xs) (option_to_list (put change)) (above_key key_of cmp (changed change) xs))
       (with_changes-front changes _ _ front)
 
@@ -212,10 +215,10 @@ module _ {T K C : Type 0} (key_of : T → K) {cmp : K → K → Ordering} (order
       let here : Each (λ x. key_of x ≡ key) (option_to_list item) = each_option _ item keyed in
       rising_append key_of cmp _ _ (rising_filter _ xs rising)
       (rising_append key_of cmp _ _ (rising_option item) (rising_filter _ xs rising)
-          (each_weaker _ _ (λ x same. subst (λ k. Each (λ y. cmp k (key_of y) ≡ Less) (above_key key_of cmp key xs)) (sym same) above) (option_to_list item) here))
+      (each_weaker _ _ (λ x same. subst (λ k. Each (λ y. cmp k (key_of y) ≡ Less) (above_key key_of cmp key xs)) (sym same) above) (option_to_list item) here))
       (each_weaker _ _ (λ x less. each_append _ _ _
-          (each_weaker _ _ (λ y same. subst (λ k. cmp (key_of x) k ≡ Less) (sym same) less) (option_to_list item) here)
-          (each_weaker _ _ (λ y more. order.trans _ _ _ less more) (above_key key_of cmp key xs) above)) (below_key key_of cmp key xs) below)
+      (each_weaker _ _ (λ y same. subst (λ k. cmp (key_of x) k ≡ Less) (sym same) less) (option_to_list item) here)
+      (each_weaker _ _ (λ y more. order.trans _ _ _ less more) (above_key key_of cmp key xs) above)) (below_key key_of cmp key xs) below)
 
   -- after changes the keys rise as before
   pub rising_with_changes : (changes : List C) (xs : List T) → AreKeyed key_of changed put changes → IsRising key_of cmp xs → IsRising key_of cmp (with_changes key_of cmp changed put changes xs)

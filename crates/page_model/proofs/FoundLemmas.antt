@@ -1,5 +1,5 @@
 -- The item of a key among items whose keys rise.
-use Rattle.std.proofs.Common.{◌≡◌, refl, sym, ◌∙◌, ap, subst, List, [], ◌∷◌, ◌++◌, ℕ, zero, suc, map, length, take, drop, Option, Some, None, arith}
+use Rattle.std.proofs.Common.{◌≡◌, refl, sym, ◌∙◌, ap, subst, List, [], ◌∷◌, ◌++◌, ℕ, zero, suc, take, drop, Some, None}
 use Rattle.std.specs.Prelude.{Bool, true, false, find, slice_get}
 use Rattle.std.specs.Cmp.{IsTotalOrder}
 use Rattle.std.specs.List.{AllByRecursion as Each}
@@ -11,8 +11,8 @@ use Rattle.std.proofs.lemmas.Cmp.{tied_back}
 use Rattle.page_model.specs.Page.{IsFirst, joined}
 use Rattle.page_model.specs.Place.{IsPlaceOf}
 use Rattle.page_model.specs.Rising.{IsRising}
-use Rattle.page_model.proofs.Ordered.{above_from_below, below_from_above, below_other, greater_from, greater_from_gt, not_below_above}
-use Rattle.page_model.proofs.RisingLemmas.{each_weaker, none_below, rising_back, rising_before, rising_behind, rising_tail}
+use Rattle.page_model.proofs.Ordered.{above_from_below, below_from_above, below_other, greater_from, greater_from_gt}
+use Rattle.page_model.proofs.RisingLemmas.{each_weaker, rising_back, rising_before, rising_behind, rising_tail}
 
 -- a search passes over what fails
 find_in_front : {X : Type 0} (p : X → Bool) (xs ys : List X) → Each (λ y. p y ≡ false) ys → find p (xs ++ ys) ≡ find p xs

@@ -1,6 +1,6 @@
 -- Pages that stay, and pages after changes.
-use Rattle.std.proofs.Common.{◌≡◌, refl, sym, ◌∙◌, ap, subst, inl, inr, List, [], ◌∷◌, ◌++◌, ℕ, zero, suc, ◌+◌, ◌<◌, map, length, Option, Some, None, append_assoc, append-nil, arith}
-use Rattle.std.specs.Prelude.{◌≢◌, ◌⊎◌, ◌||◌, Bool, true, false, cond, not, slice_get}
+use Rattle.std.proofs.Common.{◌≡◌, refl, sym, ◌∙◌, ap, subst, inl, inr, List, [], ◌∷◌, ◌++◌, ℕ, zero, suc, ◌+◌, ◌<◌, length, Option, Some, None, append_assoc, append-nil, arith}
+use Rattle.std.specs.Prelude.{◌≢◌, ◌⊎◌, ◌||◌, Bool, true, false, not, slice_get}
 use Rattle.std.specs.Cmp.{IsTotalOrder}
 use Rattle.std.specs.List.{AllByRecursion as Each, Contains, list_any}
 use Rattle.std.specs.Ordering.{is_gt, is_lt}
@@ -8,7 +8,6 @@ use Rattle.std.specs.declared.cmp.Ordering.{Ordering}
 use Rattle.std.specs.declared.cmp.Ordering.TheVariants.{Less, Equal, Greater}
 use Rattle.std.proofs.lemmas.Grind.{flat_map-append}
 use Rattle.std.proofs.lemmas.List.Elements.{Contains-append_left, Contains-append_right}
-use Rattle.std.proofs.lemmas.Option.{slice_get_cases}
 use Rattle.page_model.specs.Changed.{AreKeyed, with_changes}
 use Rattle.page_model.specs.ChangedPages.{AddsChanged, AddsPages}
 use Rattle.page_model.specs.Kept.{KeepsPages}
@@ -16,7 +15,7 @@ use Rattle.page_model.specs.Page.{ArePages, IsPage, joined}
 use Rattle.page_model.specs.PageOf.{page_of, starts_by}
 use Rattle.page_model.specs.Rising.{IsRising}
 use Rattle.page_model.proofs.ChangedLemmas.{changes_apart}
-use Rattle.page_model.proofs.Ordered.{above_from_below, below_from_above, below_other, greater_from_gt, less_from}
+use Rattle.page_model.proofs.Ordered.{above_from_below, below_from_above, below_other}
 use Rattle.page_model.proofs.RisingLemmas.{each_append, each_back, each_front, each_weaker, none_below, rising_before, rising_back}
 
 -- a page of two lists of pages is one of the first, or one of the other
@@ -115,7 +114,7 @@ module _ {T K C : Type 0} (key_of : T → K) {cmp : K → K → Ordering} (order
       let rises = subst (IsRising key_of cmp) parts rising in
       let left = rising_before key_of cmp (joined front) first (more ++ joined others) rises in
       let right = subst (Each (λ x. is_lt (cmp (key_of x) (key_of first)) ≡ false)) (sym starts)
-          (none_below key_of cmp order first (more ++ joined others) (rising_back key_of cmp (joined front) (first ∷ (more ++ joined others)) rises)) in
+      (none_below key_of cmp order first (more ++ joined others) (rising_back key_of cmp (joined front) (first ∷ (more ++ joined others)) rises)) in
       record {
         new = in_front.new ++ behind.new;
         behind = behind.behind ∙ (ap (λ ps. ps ++ behind.new) in_front.behind ∙ append_assoc before in_front.new behind.new);
@@ -128,7 +127,7 @@ module _ {T K C : Type 0} (key_of : T → K) {cmp : K → K → Ordering} (order
         kept = keeps_apart front back in_front.new behind.new below above
             (each_weaker _ _ (λ change less. none_starts (changed change) (key_of first) back less right) below below_is)
             (each_weaker _ _ (λ change upto. subst (λ ps. list_any (starts_by key_of cmp (changed change)) ps ≡ true) (sym is)
-                (ap (λ b. b || list_any (starts_by key_of cmp (changed change)) others) (first_starts (changed change) first more upto))) above above_is)
+            (ap (λ b. b || list_any (starts_by key_of cmp (changed change)) others) (first_starts (changed change) first more upto))) above above_is)
             in_front.kept behind.kept;
       }
 
@@ -146,7 +145,9 @@ module _ {T K C : Type 0} (key_of : T → K) {cmp : K → K → Ordering} (order
       → AddsPages (with_changes key_of cmp changed put (change ∷ changes) page) before after → AddsChanged key_of cmp changed put (page ∷ []) (change ∷ changes) before after
   adds_page page change changes before after adds =
       record {
-        new = adds.new; behind = adds.behind; pages = adds.pages;
+        new = adds.new;
+        behind = adds.behind;
+        pages = adds.pages;
         items = adds.items ∙ ap (with_changes key_of cmp changed put (change ∷ changes)) (sym (append-nil page));
         kept = λ number other there untouched. elim number as (λ n. slice_get (page ∷ []) n ≡ Some other → page_of key_of cmp (changed change) (page ∷ []) ≢ n → Contains adds.new other) [
           | zero ↦ λ _ away. absurd (away (one_page (changed change) page))

@@ -1,8 +1,8 @@
 -- Items around a key's place.
-use Rattle.std.proofs.Common.{◌≡◌, refl, sym, ◌∙◌, ap, subst, List, [], ◌∷◌, ◌++◌, ℕ, zero, suc, ◌+◌, length, take, drop, Option, Some, None}
-use Rattle.std.specs.Prelude.{Bool, true, false, slice_get}
+use Rattle.std.proofs.Common.{◌≡◌, refl, sym, ap, subst, List, [], ◌∷◌, ℕ, zero, suc, take, drop, Some, None}
+use Rattle.std.specs.Prelude.{true, false, slice_get}
 use Rattle.std.specs.Cmp.{IsTotalOrder}
-use Rattle.std.specs.List.{AllByRecursion as Each, filter}
+use Rattle.std.specs.List.{AllByRecursion as Each}
 use Rattle.std.specs.Ordering.{is_eq, is_gt, is_lt}
 use Rattle.std.specs.declared.cmp.Ordering.{Ordering}
 use Rattle.std.specs.declared.cmp.Ordering.TheVariants.{Less, Equal, Greater}
@@ -10,7 +10,7 @@ use Rattle.page_model.specs.Changed.{above_key, below_key}
 use Rattle.page_model.specs.Place.{IsPlaceOf}
 use Rattle.page_model.specs.Rising.{IsRising}
 use Rattle.page_model.proofs.ChangedLemmas.{filter_all, filter_none}
-use Rattle.page_model.proofs.Ordered.{above_from_below, below_from_above, equal_from, greater_from, tied_above}
+use Rattle.page_model.proofs.Ordered.{equal_from, greater_from, tied_above}
 use Rattle.page_model.proofs.RisingLemmas.{each_weaker, rising_behind, rising_tail}
 
 module _ {T K : Type 0} (key_of : T → K) {cmp : K → K → Ordering} (order : IsTotalOrder cmp) where

@@ -1,4 +1,4 @@
-use Rattle.std.proofs.Common.{◌≡◌, ◌≤◌, ◌∙◌, [], ◌∷◌, ◌++◌, ap, sym, subst, length, take, drop, arith}
+use Rattle.std.proofs.Common.{◌≡◌, ◌∙◌, [], ◌∷◌, ◌++◌, ap, sym, subst, arith}
 use Rattle.std.proofs.lemmas.Bool.Decides.{nat_tests}
 use Rattle.std.proofs.lemmas.List.{nil_from_length}
 use Rattle.std.proofs.lemmas.Result.{on_ok_weaker}
@@ -20,10 +20,10 @@ change_node-returns-in-Leaf g t c =
     let cmp = g.By.KeyOf.key_cmp in
     let page = c.as_slice.result.now in
     let held : c.args.node.now.pages ≡ page ∷ [] =
-        sym (ap (λ (branch : Branch g.row.T.Denot). branch.pages) c.node.view_is) ∙ (ap (λ (body : Body g.row.T.Denot). (branch_of body).pages) c.in-Leaf.is ∙ ap (λ items. items ∷ []) (sym c.as_slice.ensures.value)) in
+    sym (ap (λ (branch : Branch g.row.T.Denot). branch.pages) c.node.view_is) ∙ (ap (λ (body : Body g.row.T.Denot). (branch_of body).pages) c.in-Leaf.is ∙ ap (λ items. items ∷ []) (sym c.as_slice.ensures.value)) in
     on_ok_weaker c.fill.result
     (λ adds. subst (λ old. AddsChanged key_of cmp g.C.ChangeOf.changed g.C.ChangeOf.put old c.args.changes.now (pages_of c.args.made.now.items) (pages_of c.fill.new.made.items)) (sym held)
-        (adds_leaf key_of g.met.By.KeyOf.total g.C.ChangeOf.changed g.C.ChangeOf.put page c.args.changes.now _ _ c.requires.some adds))
+    (adds_leaf key_of g.met.By.KeyOf.total g.C.ChangeOf.changed g.C.ChangeOf.put page c.args.changes.now _ _ c.requires.some adds))
     c.fill.ensures
 
 -- Nodes with changes.
@@ -33,13 +33,13 @@ change_node-returns-in_ok-change_nodes-in-Inner g t c =
     let cmp = g.By.KeyOf.key_cmp in
     let nodes = c.as_slice-in-Inner.result.now in
     let held : c.args.node.now.pages ≡ pages_of nodes =
-        sym (ap (λ (branch : Branch g.row.T.Denot). branch.pages) c.node.view_is) ∙ (ap (λ (body : Body g.row.T.Denot). (branch_of body).pages) c.in-Inner.is ∙ ap pages_of (sym c.as_slice-in-Inner.ensures.value)) in
+    sym (ap (λ (branch : Branch g.row.T.Denot). branch.pages) c.node.view_is) ∙ (ap (λ (body : Body g.row.T.Denot). (branch_of body).pages) c.in-Inner.is ∙ ap pages_of (sym c.as_slice-in-Inner.ensures.value)) in
     let adds = c.in_ok-change_nodes-in-Inner.ensures in
     let none : pages_of c.new-above.result.items ≡ [] = ap pages_of c.new-above.ensures.items in
     let behind_none = subst (λ before. AddsChanged key_of cmp g.C.ChangeOf.changed g.C.ChangeOf.put (pages_of nodes) c.args.changes.now before (pages_of c.change_nodes.new.made.items)) none adds in
     on_ok_weaker c.push_above.result
     (λ is. subst (λ old. AddsChanged key_of cmp g.C.ChangeOf.changed g.C.ChangeOf.put old c.args.changes.now (pages_of c.args.made.now.items) (pages_of c.push_above.new.made.items)) (sym held)
-        (adds_moved key_of g.met.By.KeyOf.total g.C.ChangeOf.changed g.C.ChangeOf.put (pages_of nodes) c.args.changes.now (pages_of c.args.made.now.items) (pages_of c.change_nodes.new.made.items) (pages_of c.push_above.new.made.items) is behind_none))
+    (adds_moved key_of g.met.By.KeyOf.total g.C.ChangeOf.changed g.C.ChangeOf.put (pages_of nodes) c.args.changes.now (pages_of c.args.made.now.items) (pages_of c.change_nodes.new.made.items) (pages_of c.push_above.new.made.items) is behind_none))
     c.push_above.ensures.pages
 
 -- Without a change.
@@ -50,7 +50,7 @@ change_nodes-returns-then-is_empty g t c =
     let none : c.args.changes.now ≡ [] = nil_from_length c.args.changes.now (grind (arith, nat_tests)) in
     on_ok_weaker c.push_nodes.result
     (λ is. subst (λ changes. AddsChanged key_of cmp g.C.ChangeOf.changed g.C.ChangeOf.put (pages_of c.args.nodes.now) changes (pages_of c.args.made.now.items) (pages_of c.push_nodes.new.made.items)) (sym none)
-        (adds_same key_of g.met.By.KeyOf.total g.C.ChangeOf.changed g.C.ChangeOf.put (pages_of c.args.nodes.now) (pages_of c.args.made.now.items) (pages_of c.push_nodes.new.made.items) c.requires.pages is))
+    (adds_same key_of g.met.By.KeyOf.total g.C.ChangeOf.changed g.C.ChangeOf.put (pages_of c.args.nodes.now) (pages_of c.args.made.now.items) (pages_of c.push_nodes.new.made.items) c.requires.pages is))
     c.push_nodes.ensures.pages
 
 -- A half has fewer nodes, and its keys and changes rise as all do.
@@ -63,10 +63,31 @@ change_nodes-change_nodes-requires g t c κs within =
     let pages = subst ArePages nodes.pages c.requires.pages in
     let rising = subst (IsRising key_of cmp) nodes.items c.requires.rising in
     let rises = subst (IsRising g.C.ChangeOf.changed cmp) changes.all c.requires.changes in
-    let keyed = subst (AreKeyed key_of g.C.ChangeOf.changed g.C.ChangeOf.put) changes.all c.requires.keyed in
-    (omega (arith, nodes.some.1, nodes.fewer), (within.0, (within.1.0, (within.1.1.0, (within.1.1.1,
-    (nodes.front, (each_front _ (pages_of c.halves.result.0.now) (pages_of c.halves.result.1.now) pages, (rising_front key_of cmp (joined (pages_of c.halves.result.0.now)) (joined (pages_of c.halves.result.1.now)) rising,
-    (rising_front g.C.ChangeOf.changed cmp c.split_at.result.0.now c.split_at.result.1.now rises, each_front _ c.split_at.result.0.now c.split_at.result.1.now keyed)))))))))
+    let keyed = subst (AreKeyed key_of g.C.ChangeOf.changed g.C.ChangeOf.put) changes.all c.requires.keyed in (
+      omega (arith, nodes.some.1, nodes.fewer),
+      (
+        within.0,
+        (
+          within.1.0,
+          (
+            within.1.1.0,
+            (
+              within.1.1.1,
+              (
+                nodes.front,
+                (
+                  each_front _ (pages_of c.halves.result.0.now) (pages_of c.halves.result.1.now) pages,
+                  (
+                    rising_front key_of cmp (joined (pages_of c.halves.result.0.now)) (joined (pages_of c.halves.result.1.now)) rising,
+                    (rising_front g.C.ChangeOf.changed cmp c.split_at.result.0.now c.split_at.result.1.now rises, each_front _ c.split_at.result.0.now c.split_at.result.1.now keyed),
+                  ),
+                ),
+              ),
+            ),
+          ),
+        ),
+      ),
+    )
 
 pub change_nodes-change_nodes-requires-2 : goal.change_nodes-change_nodes-requires-2
 change_nodes-change_nodes-requires-2 g t c κs within =
@@ -77,10 +98,31 @@ change_nodes-change_nodes-requires-2 g t c κs within =
     let pages = subst ArePages nodes.pages c.requires.pages in
     let rising = subst (IsRising key_of cmp) nodes.items c.requires.rising in
     let rises = subst (IsRising g.C.ChangeOf.changed cmp) changes.all c.requires.changes in
-    let keyed = subst (AreKeyed key_of g.C.ChangeOf.changed g.C.ChangeOf.put) changes.all c.requires.keyed in
-    (omega (arith, nodes.some.0, nodes.fewer), (within.0, (within.1.0, (within.1.1.0, (within.1.1.1,
-    (nodes.back, (each_back _ (pages_of c.halves.result.0.now) (pages_of c.halves.result.1.now) pages, (rising_back key_of cmp (joined (pages_of c.halves.result.0.now)) (joined (pages_of c.halves.result.1.now)) rising,
-    (rising_back g.C.ChangeOf.changed cmp c.split_at.result.0.now c.split_at.result.1.now rises, each_back _ c.split_at.result.0.now c.split_at.result.1.now keyed)))))))))
+    let keyed = subst (AreKeyed key_of g.C.ChangeOf.changed g.C.ChangeOf.put) changes.all c.requires.keyed in (
+      omega (arith, nodes.some.0, nodes.fewer),
+      (
+        within.0,
+        (
+          within.1.0,
+          (
+            within.1.1.0,
+            (
+              within.1.1.1,
+              (
+                nodes.back,
+                (
+                  each_back _ (pages_of c.halves.result.0.now) (pages_of c.halves.result.1.now) pages,
+                  (
+                    rising_back key_of cmp (joined (pages_of c.halves.result.0.now)) (joined (pages_of c.halves.result.1.now)) rising,
+                    (rising_back g.C.ChangeOf.changed cmp c.split_at.result.0.now c.split_at.result.1.now rises, each_back _ c.split_at.result.0.now c.split_at.result.1.now keyed),
+                  ),
+                ),
+              ),
+            ),
+          ),
+        ),
+      ),
+    )
 
 -- The halves keep apart.
 pub change_nodes-returns : goal.change_nodes-returns
@@ -94,9 +136,9 @@ change_nodes-returns g t c =
     let first = c.in_ok-change_nodes.ensures in
     on_ok_weaker c.change_nodes-2.result
     (λ adds.
-        subst (λ changes. AddsChanged key_of cmp g.C.ChangeOf.changed g.C.ChangeOf.put (pages_of c.args.nodes.now) changes (pages_of c.args.made.now.items) (pages_of c.change_nodes-2.new.made.items)) (sym c.split_at.ensures.all)
-        (subst (λ old. AddsChanged key_of cmp g.C.ChangeOf.changed g.C.ChangeOf.put old (c.split_at.result.0.now ++ c.split_at.result.1.now) (pages_of c.args.made.now.items) (pages_of c.change_nodes-2.new.made.items)) (sym c.halves.ensures.pages)
-        (adds_both key_of g.met.By.KeyOf.total g.C.ChangeOf.changed g.C.ChangeOf.put front back c.first_of.result.now c.first_of.ensures.others c.first_of.ensures.behind
-            c.split_at.result.0.now c.split_at.result.1.now (pages_of c.args.made.now.items) (pages_of c.change_nodes.new.made.items) (pages_of c.change_nodes-2.new.made.items)
-            c.first_of.ensures.is rising keyed c.split_at.ensures.below c.split_at.ensures.others first adds)))
+    subst (λ changes. AddsChanged key_of cmp g.C.ChangeOf.changed g.C.ChangeOf.put (pages_of c.args.nodes.now) changes (pages_of c.args.made.now.items) (pages_of c.change_nodes-2.new.made.items)) (sym c.split_at.ensures.all)
+    (subst (λ old. AddsChanged key_of cmp g.C.ChangeOf.changed g.C.ChangeOf.put old (c.split_at.result.0.now ++ c.split_at.result.1.now) (pages_of c.args.made.now.items) (pages_of c.change_nodes-2.new.made.items)) (sym c.halves.ensures.pages)
+    (adds_both key_of g.met.By.KeyOf.total g.C.ChangeOf.changed g.C.ChangeOf.put front back c.first_of.result.now c.first_of.ensures.others c.first_of.ensures.behind
+    c.split_at.result.0.now c.split_at.result.1.now (pages_of c.args.made.now.items) (pages_of c.change_nodes.new.made.items) (pages_of c.change_nodes-2.new.made.items)
+    c.first_of.ensures.is rising keyed c.split_at.ensures.below c.split_at.ensures.others first adds)))
     c.change_nodes-2.ensures

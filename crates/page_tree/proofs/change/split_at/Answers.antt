@@ -1,4 +1,4 @@
-use Rattle.std.proofs.Common.{◌≡◌, take, drop, sym, subst, rules}
+use Rattle.std.proofs.Common.{◌≡◌, sym, subst, rules}
 use Rattle.std.specs.Prelude.{false}
 use Rattle.std.specs.List.{AllByRecursion as Each}
 use Rattle.std.specs.Ordering.{is_gt, is_lt}
@@ -15,7 +15,7 @@ place g c =
     let order = g.met.By.KeyOf.total in
     let key = g.By.KeyOf.key_of c.args.by c.args.item.now in
     let point = IsPartitionPoint-from_clause (λ change. is_gt (g.By.KeyOf.key_cmp key (g.C.ChangeOf.changed change))) c.args.changes.now c.partition_point.result c.partition_point.ensures.partitioned
-        (partitioned_turned g.C.ChangeOf.changed order key c.args.changes.now c.requires) (λ a r q k. search rules) in
+    (partitioned_turned g.C.ChangeOf.changed order key c.args.changes.now c.requires) (λ a r q k. search rules) in
     place_from_partition_turned g.C.ChangeOf.changed order key c.args.changes.now c.partition_point.result c.partition_point.ensures.bound point
 
 pub returns-clause-below : goal.returns-clause-below

@@ -11,7 +11,7 @@ returns-clause-added g c =
     let front = take c.place_of-place.result c.args.items.now in
     let put = option_to_list (g.C.ChangeOf.put c.args.change.now) in
     let below : below_key key_of g.By.KeyOf.key_cmp (g.C.ChangeOf.changed c.args.change.now) c.args.items.now ≡ front =
-        subst (λ key. below_key key_of g.By.KeyOf.key_cmp key c.args.items.now ≡ front) c.key.ensures (below_is key_of g.met.By.KeyOf.total c.key.result.now c.args.items.now c.place_of-place.result c.place_of-place.ensures) in
+    subst (λ key. below_key key_of g.By.KeyOf.key_cmp key c.args.items.now ≡ front) c.key.ensures (below_is key_of g.met.By.KeyOf.total c.key.result.now c.args.items.now c.place_of-place.result c.place_of-place.ensures) in
     let copied = c.in_ok-push_copies.ensures in
     let last = c.in_ok-push_copy.ensures in
     last ∙ (ap (λ o. c.push_copies.new.made.items ++ option_to_list o) c.item.ensures

@@ -1,5 +1,4 @@
-use Rattle.std.proofs.Common.{◌≡◌, ◌++◌, ◌+◌, append_assoc, append-nil, arith, drop, sym, ap, subst, ◌∙◌}
-use Rattle.std.specs.Ordering.{is_gt}
+use Rattle.std.proofs.Common.{◌++◌, arith, sym, ap, subst, ◌∙◌}
 use Rattle.std.proofs.lemmas.List.{drop_all}
 use Rattle.page_model.specs.Changed.{with_changes}
 use Rattle.page_model.specs.Rising.{IsRising}

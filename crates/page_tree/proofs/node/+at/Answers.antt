@@ -1,4 +1,4 @@
-use Rattle.std.proofs.Common.{◌≡◌, ◌<◌, ◌≤◌, ◌-◌, ◌∙◌, ap, sym, length, arith}
+use Rattle.std.proofs.Common.{◌≡◌, length, arith}
 use Rattle.page_model.specs.Page.{joined}
 use Rattle.page_tree.proofs.NodeLemmas.{item_here, item_later}
 use Rattle.page_tree.proofs.node.+at.Goals as goal

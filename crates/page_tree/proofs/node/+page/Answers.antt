@@ -1,4 +1,4 @@
-use Rattle.std.proofs.Common.{◌≡◌, ◌<◌, ◌≤◌, ◌-◌, ◌∙◌, ap, sym, length, arith}
+use Rattle.std.proofs.Common.{◌≡◌, length, arith}
 use Rattle.page_tree.proofs.NodeLemmas.{page_here, page_later}
 use Rattle.page_tree.proofs.node.+page.Goals as goal
 

@@ -1,5 +1,4 @@
-use Rattle.std.proofs.Common.{◌≡◌, ◌≤◌, [], ◌∙◌, ap, sym, length, drop, arith, subst}
-use Rattle.std.proofs.lemmas.List.{drop_all}
+use Rattle.std.proofs.Common.{◌≡◌, length, arith, subst}
 use Rattle.page_model.specs.Page.{joined}
 use Rattle.page_model.specs.Run.{IsRunFrom}
 use Rattle.page_tree.specs.Body.{pages_of}

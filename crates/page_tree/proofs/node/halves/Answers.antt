@@ -1,6 +1,4 @@
-use Rattle.std.proofs.Common.{◌<◌, ◌/◌, ◌++◌, ◌+◌, length, arith}
-use Rattle.page_model.specs.Page.{joined}
-use Rattle.page_tree.specs.Body.{nodes_of, pages_of}
+use Rattle.std.proofs.Common.{◌<◌, ◌/◌, length, arith}
 use Rattle.page_tree.proofs.NodeLemmas.{items_split, nodes_some, nodes_split, pages_split}
 use Rattle.page_tree.proofs.node.halves.Goals as goal
 

@@ -1,4 +1,4 @@
-use Rattle.std.proofs.Common.{◌≡◌, ◌∙◌, sym, ap, arith, rules, subst}
+use Rattle.std.proofs.Common.{◌≡◌, ◌∙◌, sym, arith, subst}
 use Rattle.std.specs.Prelude.{true, false}
 use Rattle.std.specs.Ordering.{is_gt}
 use Rattle.page_model.specs.Page.{joined}
@@ -26,10 +26,10 @@ pub item_among-returns-then-is_gt : goal.item_among-returns-then-is_gt
 item_among-returns-then-is_gt g t c =
     let above : is_gt (g.By.KeyOf.key_cmp (g.By.KeyOf.key_of c.args.by c.first_of.result.now) c.args.key.now) ≡ true = cc in
     c.item_among.ensures ∙ sym (found_in_front (g.By.KeyOf.key_of c.args.by) g.met.By.KeyOf.total c.args.key.now (joined (pages_of c.args.nodes.now)) (joined (pages_of c.halves.result.0.now)) c.first_of.result.now (pages_of c.halves.result.1.now)
-        c.halves.ensures.items c.first_of.ensures c.requires.rising above)
+    c.halves.ensures.items c.first_of.ensures c.requires.rising above)
 
 pub item_among-returns-else-is_gt : goal.item_among-returns-else-is_gt
 item_among-returns-else-is_gt g t c =
     let upto : is_gt (g.By.KeyOf.key_cmp (g.By.KeyOf.key_of c.args.by c.first_of.result.now) c.args.key.now) ≡ false = cc in
     c.item_among-else-is_gt.ensures ∙ sym (found_in_back (g.By.KeyOf.key_of c.args.by) g.met.By.KeyOf.total c.args.key.now (joined (pages_of c.args.nodes.now)) (joined (pages_of c.halves.result.0.now)) c.first_of.result.now (pages_of c.halves.result.1.now)
-        c.halves.ensures.items c.first_of.ensures c.requires.rising upto)
+    c.halves.ensures.items c.first_of.ensures c.requires.rising upto)

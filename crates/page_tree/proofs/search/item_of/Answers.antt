@@ -1,5 +1,5 @@
-use Rattle.std.proofs.Common.{◌≡◌, refl, sym, None, Some, length}
-use Rattle.std.specs.Prelude.{slice_get, true, false}
+use Rattle.std.proofs.Common.{◌≡◌, refl, sym, length}
+use Rattle.std.specs.Prelude.{true, false}
 use Rattle.std.specs.Ordering.{is_eq}
 use Rattle.std.proofs.lemmas.Option.{slice_get_past, slice_get_read}
 use Rattle.page_model.proofs.FoundLemmas.{found_here, found_none, found_other}

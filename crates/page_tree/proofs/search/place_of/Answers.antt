@@ -11,5 +11,5 @@ returns g c =
     let order = g.met.By.KeyOf.total in
     let cmp = g.By.KeyOf.key_cmp in
     let point = IsPartitionPoint-from_clause (λ x. is_lt (cmp (key_of x) c.args.key.now)) c.args.items.now c.partition_point.result c.partition_point.ensures.partitioned
-        (partitioned key_of order c.args.key.now c.args.items.now c.requires) (λ a r q k. search rules) in
+    (partitioned key_of order c.args.key.now c.args.items.now c.requires) (λ a r q k. search rules) in
     place_from_partition key_of order c.args.key.now c.args.items.now c.partition_point.result c.partition_point.ensures.bound point

@@ -1,5 +1,4 @@
 use Rattle.std.proofs.Common.{◌≡◌, [], ◌++◌, ◌∷◌, sym, ap, subst, ◌∙◌, arith, append-nil}
-use Rattle.std.specs.declared.sync.Arc.{Arc}
 use Rattle.std.proofs.lemmas.Bool.Decides.{nat_tests}
 use Rattle.std.proofs.lemmas.List.{nil_from_length}
 use Rattle.page_model.specs.ChangedPages.{AddsChanged}
@@ -20,6 +19,6 @@ returns-then-is_empty g c =
     let clone : c.in_ok-try_clone.field-0.value ≡ c.in-Some.root.value = c.in_ok-try_clone.ensures in
     let one : c.push.new.self.items ≡ c.in_ok-try_clone.field-0 ∷ [] = pushed.items ∙ ap (λ nodes. nodes ++ c.in_ok-try_clone.field-0 ∷ []) c.new-made.ensures.items in
     let made : pages_of c.push.new.self.items ≡ c.args.self.now.pages =
-        ap pages_of one ∙ (append-nil c.in_ok-try_clone.field-0.value.pages ∙ (ap (λ (branch : Branch g.row.T.Denot). branch.pages) clone ∙ held)) in
+    ap pages_of one ∙ (append-nil c.in_ok-try_clone.field-0.value.pages ∙ (ap (λ (branch : Branch g.row.T.Denot). branch.pages) clone ∙ held)) in
     subst (λ changes. AddsChanged (g.By.KeyOf.key_of c.args.self.now.by) g.By.KeyOf.key_cmp g.C.ChangeOf.changed g.C.ChangeOf.put c.args.self.now.pages changes [] (pages_of c.push.new.self.items)) (sym none)
-        (adds_same (g.By.KeyOf.key_of c.args.self.now.by) g.met.By.KeyOf.total g.C.ChangeOf.changed g.C.ChangeOf.put c.args.self.now.pages [] (pages_of c.push.new.self.items) (subst ArePages pages c.self.invariant.0) made)
+    (adds_same (g.By.KeyOf.key_of c.args.self.now.by) g.met.By.KeyOf.total g.C.ChangeOf.changed g.C.ChangeOf.put c.args.self.now.pages [] (pages_of c.push.new.self.items) (subst ArePages pages c.self.invariant.0) made)

@@ -1,4 +1,4 @@
-use Rattle.std.proofs.Common.{◌≡◌, sym, ap, subst, ◌∙◌}
+use Rattle.std.proofs.Common.{◌≡◌, sym, ap, subst}
 use Rattle.page_model.specs.Page.{ArePages, joined}
 use Rattle.page_model.specs.Paged.{Paged}
 use Rattle.page_model.specs.Rising.{IsRising}
@@ -18,6 +18,7 @@ invariant_of-result g c =
     let adds = c.in_ok-made.ensures in
     let is = c.in_ok-root.ensures in
     let all = adds_all key_of g.met.By.KeyOf.total g.C.ChangeOf.changed g.C.ChangeOf.put c.args.self.now.pages c.args.changes.now (pages_of c.in_ok-made.made.items) adds in
-    let after = subst (IsRising key_of cmp) (sym all.1) (rising_with_changes key_of g.met.By.KeyOf.total g.C.ChangeOf.changed g.C.ChangeOf.put c.args.changes.now (joined c.args.self.now.pages) c.requires.keyed before) in
-    (subst ArePages (sym is) all.0,
-     subst (λ how. IsRising (g.By.KeyOf.key_of how) cmp (joined (root_pages c.in_ok-root.root))) (sym by) (subst (λ new. IsRising key_of cmp (joined new)) (sym is) after))
+    let after = subst (IsRising key_of cmp) (sym all.1) (rising_with_changes key_of g.met.By.KeyOf.total g.C.ChangeOf.changed g.C.ChangeOf.put c.args.changes.now (joined c.args.self.now.pages) c.requires.keyed before) in (
+      subst ArePages (sym is) all.0,
+      subst (λ how. IsRising (g.By.KeyOf.key_of how) cmp (joined (root_pages c.in_ok-root.root))) (sym by) (subst (λ new. IsRising key_of cmp (joined new)) (sym is) after),
+    )
