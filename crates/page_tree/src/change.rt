@@ -75,6 +75,7 @@ pub(crate) fn change_node<T: MakeCopy + Drop, By: KeyOf<T>, C: ChangeOf<T, By::K
         Body::Leaf(page) => fill(alloc, by, page.as_slice(), changes, made),
         Body::Inner(nodes) => {
             let mut above = Vec::new(alloc);
+            above.reserve_exact(nodes.len().saturating_add(1))?;
             change_nodes(alloc, by, nodes.as_slice(), changes, &mut above)?;
             push_above(alloc, above, made)
         }

@@ -35,7 +35,7 @@ change_node-returns-in_ok-change_nodes-in-Inner g t c =
     let held : c.args.node.now.pages ≡ pages_of nodes =
     sym (ap (λ (branch : Branch g.row.T.Denot). branch.pages) c.node.view_is) ∙ (ap (λ (body : Body g.row.T.Denot). (branch_of body).pages) c.in-Inner.is ∙ ap pages_of (sym c.as_slice-in-Inner.ensures.value)) in
     let adds = c.in_ok-change_nodes-in-Inner.ensures in
-    let none : pages_of c.new-above.result.items ≡ [] = ap pages_of c.new-above.ensures.items in
+    let none : pages_of c.reserve_exact.new.self.items ≡ [] = ap pages_of (c.reserve_exact.ensures.items ∙ c.new-above.ensures.items) in
     let behind_none = subst (λ before. AddsChanged key_of cmp g.C.ChangeOf.changed g.C.ChangeOf.put (pages_of nodes) c.args.changes.now before (pages_of c.change_nodes.new.made.items)) none adds in
     on_ok_weaker c.push_above.result
     (λ is. subst (λ old. AddsChanged key_of cmp g.C.ChangeOf.changed g.C.ChangeOf.put old c.args.changes.now (pages_of c.args.made.now.items) (pages_of c.push_above.new.made.items)) (sym held)
