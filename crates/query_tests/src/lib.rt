@@ -9,8 +9,7 @@ mod conditions;
 mod created;
 #[cfg(test)]
 mod expressions;
-#[cfg(test)]
-mod key_ref;
+pub mod key_ref;
 #[cfg(test)]
 mod meanings;
 #[cfg(test)]
@@ -19,9 +18,6 @@ mod queries;
 mod refusals;
 #[cfg(test)]
 mod selects;
-#[cfg(test)]
-mod small;
-#[cfg(test)]
-mod tables;
-#[cfg(test)]
-mod within;
+pub mod small;
+pub mod tables;
+pub mod within;
