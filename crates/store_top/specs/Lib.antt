@@ -1,5 +1,6 @@
 pub mod Engine
 pub mod Gap
+pub mod Kept
 pub mod KeyRef
 pub mod Put
 pub mod State

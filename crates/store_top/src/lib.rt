@@ -8,6 +8,7 @@ mod engine;
 mod key_ref;
 mod rows;
 mod running;
+mod selecting;
 mod served;
 mod state;
 mod statements;
