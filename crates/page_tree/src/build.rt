@@ -82,6 +82,7 @@ pub(crate) fn push_pages<T: Drop>(
     let mut items = items;
     if items.len() > PAGE_ITEMS {
         let others = items.split_off(items.len() / 2)?;
+        items.shrink_to_fit();
         made.push(leaf(alloc, items)?)?;
         made.push(leaf(alloc, others)?)?;
     } else if !items.is_empty() {
