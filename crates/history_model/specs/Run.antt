@@ -9,9 +9,8 @@ use Rattle.own_model.specs.declared.create.CreateTable.{CreateTable as TableCrea
 use Rattle.own_model.specs.declared.refusal.Refusal.{Refusal}
 use Rattle.own_model.specs.declared.refusal.Refusal.TheVariants.{Syntax, NoTable, Duplicate}
 use Rattle.own_model.specs.declared.reply.Reply.{Reply}
-use Rattle.own_model.specs.declared.reply.Reply.TheVariants.{Done, Counted, Graph, Refused}
+use Rattle.own_model.specs.declared.reply.Reply.TheVariants.{Done, Counted, Rows, Graph, Refused}
 use Rattle.own_model.specs.declared.schema.TableDef.{TableDef}
-use Rattle.own_model.specs.declared.select.Select.{Select as Query}
 use Rattle.own_model.specs.declared.statement.Statement.{Statement}
 use Rattle.own_model.specs.declared.statement.Statement.TheVariants.{CreateTable, Explain, Insert, Select}
 use Rattle.history_model.specs.Create.{create}
@@ -19,10 +18,6 @@ use Rattle.own_model.specs.Db.{Db, Row, Table, key_of, table_of}
 use Rattle.own_model.specs.Stored.{has_key, holds_rows}
 use Rattle.schema_model.specs.Explained.{explained}
 use Rattle.schema_model.specs.Refusal.{refusal_of}
-use Rattle.query_model.specs.Query.{query_rows, reply_of}
-use Rattle.query_model.specs.Refused.{lowest}
-use Rattle.query_model.specs.SelectFaults.{select_faults}
-use Rattle.query_model.specs.SelectMeaning.{bound_select}
 
 abbrev pub is_less : Ordering → Bool
 is_less Less = true
@@ -60,13 +55,13 @@ insert_into db name tuple (Some table) = put db name table.number (with_tuple ta
 unfoldable pub insert : Db → List ℕ → Row → Outcome
 insert db name tuple = insert_into db name tuple (table_of db name)
 
-abbrev pub rows_unless : Db → Query → Option Refusal → Reply
-rows_unless db query None = reply_of (query_rows db.schema db.rows (bound_select db.schema query))
-rows_unless db query (Some why) = Refused why
+abbrev pub rows_or_refusal : List ℕ → Option Table → Reply
+rows_or_refusal name None = Refused (NoTable name)
+rows_or_refusal name (Some table) = Rows table.rows
 
--- SELECT: its rows, where they aren't too many, or the first fault of its names.
-unfoldable pub select : Db → Query → Reply
-select db query = rows_unless db query (lowest (select_faults db.schema query))
+-- SELECT * FROM a table: its rows by key
+unfoldable pub select : Db → List ℕ → Reply
+select db name = rows_or_refusal name (table_of db name)
 
 abbrev pub create_unless : Db → TableCreate → Option Refusal → Outcome
 create_unless db table (Some why) = record { db = db; reply = Refused why }
@@ -83,5 +78,5 @@ unfoldable pub run : Db → Statement → Outcome
 run db (CreateTable table) = create_table db table
 run db Explain = record { db = db; reply = Graph (explained db.schema) }
 run db (Insert table None (tuple ∷ [])) = insert db table tuple
-run db (Select query) = record { db = db; reply = select db query }
+run db (Select query) = record { db = db; reply = select db query.from }
 run db _ = record { db = db; reply = Refused (Syntax 0) }

@@ -1,8 +1,6 @@
-pub mod BoundSelects
 pub mod CreatedTables
 pub mod FewColumns
 pub mod FittingValues
-pub mod KeptViews
 pub mod LastEntry
 pub mod NamedRows
 pub mod Placed
@@ -11,6 +9,4 @@ pub mod Results
 pub mod Runs
 pub mod Serving
 pub mod StateRows
-pub mod StoredRows
 pub mod StoredTables
-pub mod StoredTuples

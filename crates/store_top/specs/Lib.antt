@@ -1,6 +1,5 @@
 pub mod Engine
 pub mod Gap
-pub mod Kept
 pub mod KeyRef
 pub mod Put
 pub mod State

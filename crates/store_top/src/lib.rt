@@ -8,7 +8,6 @@ mod engine;
 mod key_ref;
 mod rows;
 mod running;
-mod selecting;
 mod served;
 mod state;
 mod statements;

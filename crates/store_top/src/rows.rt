@@ -4,17 +4,27 @@ ghost use Rattle.std.specs.declared.cmp.Ordering.TheVariants.{Equal};
 ghost use Rattle.own_base.specs.Key.{key_cmp};
 ghost use Rattle.own_base.specs.declared.value.Value.TheVariants.{Null};
 ghost use Rattle.own_model.specs.Db.{as_key, key_of, IsRising};
-ghost use Rattle.query_eval.specs.Stored.{AreStored, IsStoredRow};
 ghost use Rattle.history_model.specs.Run.{with_tuple};
 ghost use Rattle.store_top.specs.Gap.{IsGap};
 ghost use Rattle.store_top.specs.KeyRef.{key_seen};
 ghost use Rattle.store_top.specs.Put.{after_put};
 
 use crate::key_ref::{KeyRef, compare, key_at, owned};
-use own_base::{MakeCopy, Name, Row};
+use own_base::{List, MakeCopy, Name, Row};
 use own_model::{Refusal, Reply, TableDef};
 use std::alloc::{AllocError, Global};
 use std::cmp::Ordering;
+
+/// A copy of the rows.
+pub(crate) fn copied(alloc: Global, rows: &[Row]) -> Result<List<Row>, AllocError>
+    ensures { IfOk result (λ copied. copied ≡ rows.now) }
+{
+    let mut copied = List::new(alloc);
+    for row in rows {
+        copied.add(row.copy(alloc)?)?;
+    }
+    Ok(copied)
+}
 
 /// How the key of a row stands to a key.
 fn compare_at(row: &Row, column: usize, key: KeyRef) -> Ordering
@@ -46,7 +56,6 @@ pub(crate) fn put(
     ensures ok { IfOk result (λ reply. after_put name.now rows.old.items (with_tuple table.now rows.old.items row) ≡ (rows.new.items, reply)) }
     ensures err { OnErr result (rows.new.items ≡ rows.old.items) }
     ensures rising { IsRising table.now rows.new.items }
-    ensures stored { AreStored rows.old.items → IsStoredRow row → AreStored rows.new.items }
 {
     let key = key_at(row.values(), table.key.0 as usize);
     match search(table, rows, key) {

@@ -19,7 +19,7 @@ pub(crate) struct State {
 }
 
 impl Model for State {
-    ghost use Rattle.own_model.specs.Db.{Db};
+    ghost use Rattle.own_model.specs.Db.{Db, IsOrdered};
     ghost use Rattle.own_model.specs.contracts.bound.BoundCond as cond;
     ghost use Rattle.std.specs.Coded.{codes};
 
@@ -28,11 +28,10 @@ impl Model for State {
     ghost coded = { Prim.hlevel (codes, cond.the_row.coded) };
 
     ghost use Rattle.store_top.specs.State.{db_of};
-    ghost use Rattle.store_top.specs.Kept.{IsKept};
 
     ghost view = { db_of };
 
-    ghost invariant = { λ state. IsKept (db_of state) };
+    ghost invariant = { λ state. IsOrdered (db_of state) };
 }
 
 /// The table of this number.

@@ -3,13 +3,12 @@ ghost use Rattle.own_model.specs.declared.limit.TheConstants.{STATEMENT_BYTES};
 ghost use Rattle.own_model.specs.declared.reply.Reply.TheVariants.{Graph};
 ghost use Rattle.grammar_model.specs.Readable.{IsReadable, IsWritten};
 ghost use Rattle.history_model.specs.History.{answer_to, left_by};
-ghost use Rattle.history_model.specs.MayBeUnmade.{MayBeUnmade, MayFail};
-ghost use Rattle.history_model.specs.Run.{insert, run};
+ghost use Rattle.history_model.specs.MayBeUnmade.{IsNoReading, MayBeUnmade};
+ghost use Rattle.history_model.specs.Run.{insert, run, select};
 ghost use Rattle.schema_model.specs.Explained.{explained};
-ghost use Rattle.query_eval.specs.Stored.{IsStoredRow};
 ghost use Rattle.transcript_model.specs.Printed.{MayTell};
 
-use crate::rows::put;
+use crate::rows::{copied, put};
 use crate::state::{State, table_at};
 use own_base::{MakeCopy, Name, Row};
 use own_model::{Refusal, Reply, Request, Statement};
@@ -19,7 +18,6 @@ impl State {
     /// INSERT of one tuple.
     #[tactic(auto, unfolding(history_model::specs::Run::insert))]
     fn insert(&mut self, alloc: Global, name: &Name, tuple: Row) -> Result<Reply, AllocError>
-        requires { IsStoredRow tuple }
         ensures ok { IfOk result (λ reply. insert self.old name.now tuple ≡ record { db = self.new; reply = reply }) }
         ensures err { OnErr result (self.new ≡ self.old) }
     {
@@ -28,6 +26,21 @@ impl State {
                 let table = table_at(&self.catalog, number);
                 put(alloc, table, &mut self.rows[number.0 as usize], name, tuple)
             }
+            None => Ok(Reply::Refused(Refusal::NoTable(name.copy(alloc)?))),
+        }
+    }
+
+    /// SELECT * FROM the table. Where memory is refused for the rows, `Memory` is told in their place.
+    #[tactic(auto, unfolding(history_model::specs::Run::select))]
+    fn select(&self, alloc: Global, name: &Name) -> Result<Reply, AllocError>
+        ensures told { IfOk result (λ reply. MayTell reply (select self.now name.now)) }
+        ensures spared { OnErr result (IsNoReading (select self.now name.now)) }
+    {
+        match self.catalog.table(name) {
+            Some(number) => match copied(alloc, self.rows_of(number)) {
+                Ok(rows) => Ok(Reply::Rows(rows)),
+                Err(AllocError) => Ok(Reply::Refused(Refusal::Memory)),
+            },
             None => Ok(Reply::Refused(Refusal::NoTable(name.copy(alloc)?))),
         }
     }
@@ -52,7 +65,7 @@ impl State {
         ensures left { OnOk result (self.new ≡ (run self.old statement.now).db) }
         ensures told { IfOk result (λ reply. MayTell reply (run self.old statement.now).reply) }
         ensures err { OnErr result (self.new ≡ self.old) }
-        ensures spared { OnErr result (MayFail statement.now) }
+        ensures spared { OnErr result (IsNoReading (run self.old statement.now).reply) }
     {
         match statement {
             Statement::CreateTable(create) => self.create(alloc, create, statement),
@@ -65,7 +78,7 @@ impl State {
                 [tuple] => self.insert(alloc, table, Row::from_values(tuple.copy(alloc)?)),
                 _ => Ok(Reply::Refused(Refusal::Syntax(0))),
             },
-            Statement::Select(query) => self.select(alloc, query, statement),
+            Statement::Select(query) => self.select(alloc, &query.from),
             _ => Ok(Reply::Refused(Refusal::Syntax(0))),
         }
     }
@@ -78,7 +91,7 @@ impl State {
         ensures told { IfOk result (λ reply. MayTell reply (answer_to self.old request.now)) }
         ensures left { OnOk result (self.new ≡ left_by self.old request.now) }
         ensures err { OnErr result (self.new ≡ self.old) }
-        ensures spared { OnErr result (MayBeUnmade request.now) }
+        ensures spared { OnErr result (MayBeUnmade self.old request.now) }
     {
         match request {
             Request::Run(statement) => self.run(alloc, statement),

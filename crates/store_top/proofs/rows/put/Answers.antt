@@ -5,7 +5,6 @@ use Rattle.own_model.specs.Db.{as_key, key_of}
 use Rattle.history_model.proofs.RisingKeys.{rising-with_tuple}
 use Rattle.store_top.specs.KeyRef.{key_seen}
 use Rattle.store_top.proofs.Placed.{with_tuple-found, with_tuple-gap}
-use Rattle.store_top.proofs.StoredRows.{stored-with_tuple}
 use Rattle.store_top.proofs.rows.put.Goals as goal
 
 pub returns-in_ok-table-in-Ok-clause-ok : goal.returns-in_ok-table-in-Ok-clause-ok
@@ -35,13 +34,3 @@ returns-in_ok-insert-in-Err-clause-rising c =
     let gap = rw (own, c.deref.ensures.value) at c.in-Err.ensures.absent in
     rw c.in_ok-insert-in-Err.ensures.items
     (rising-with_tuple table c.args.row c.args.rows.now.items _ c.requires (with_tuple-gap table c.args.rows.now.items c.args.row c.in-Err.place gap))
-
-pub returns-in_ok-insert-in-Err-clause-stored : goal.returns-in_ok-insert-in-Err-clause-stored
-unfolding key_of
-returns-in_ok-insert-in-Err-clause-stored c = λ stored this.
-    let table = c.args.table.now in
-    let own : key_seen c.key_at-key.result ≡ key_of table c.args.row =
-    c.key_at-key.ensures ∙ ap (λ values. as_key (slice_index_or values table.key.0 Null)) c.values.ensures in
-    let gap = rw (own, c.deref.ensures.value) at c.in-Err.ensures.absent in
-    rw c.in_ok-insert-in-Err.ensures.items
-    (stored-with_tuple table c.args.row c.args.rows.now.items _ stored this (with_tuple-gap table c.args.rows.now.items c.args.row c.in-Err.place gap))

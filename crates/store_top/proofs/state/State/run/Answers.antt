@@ -1,14 +1,20 @@
-use Rattle.std.proofs.Common.{◌∙◌, ◌<◌, length, arith, subst, sym}
-use Rattle.query_eval.specs.Stored.{IsStoredRow}
-use Rattle.store_top.proofs.StoredTuples.{stored_first}
+use Rattle.history_model.proofs.UnmadeLemmas.{no_reading-insert}
+use Rattle.store_top.proofs.CreatedTables.{no_reading-create}
+use Rattle.store_top.proofs.Results.{on_err}
 use Rattle.store_top.proofs.state.State.run.Goals as goal
 
--- the values of a tuple are literals
-pub insert-requires : goal.insert-requires
-insert-requires c =
+-- a CREATE TABLE shows nothing
+pub returns-in-CreateTable-clause-spared : goal.returns-in-CreateTable-clause-spared
+returns-in-CreateTable-clause-spared c =
+    on_err c.create.result (no_reading-create c.args.self.now c.args.statement.now c.in-CreateTable.create c.in-CreateTable.is)
+
+-- nor does an INSERT
+pub returns-in_err-copy-in-len1-clause-spared : goal.returns-in_err-copy-in-len1-clause-spared
+returns-in_err-copy-in-len1-clause-spared c =
     let arm = c.in-Insert-default-None-default in
-    let own = rw c.items.ensures at c.tuple-item.is in
-    let one = rw c.items.ensures at c.in-len1.len_at_least in
-    let some : 0 < length arm.rows = omega arith in
-    subst IsStoredRow (sym (c.from_values.ensures ∙ c.in_ok-copy-in-len1.ensures))
-    (stored_first c.args.statement.now arm.table arm.columns arm.rows c.tuple-item.result arm.is c.requires some own)
+    on_err c.from_residual.result (no_reading-insert c.args.self.now c.args.statement.now arm.table arm.columns arm.rows arm.is)
+
+pub returns-in_ok-copy-in-len1-clause-spared : goal.returns-in_ok-copy-in-len1-clause-spared
+returns-in_ok-copy-in-len1-clause-spared c =
+    let arm = c.in-Insert-default-None-default in
+    on_err c.insert.result (no_reading-insert c.args.self.now c.args.statement.now arm.table arm.columns arm.rows arm.is)

@@ -9,7 +9,7 @@ search-requires c =
     let db : Db = c.args.self.now in
     let number = c.args.name.now.table.0 in
     let table = c.table_at-table.result.now in
-    let ordered : IsOrdered db = rw c.self.view_is at c.self.invariant.ordered in
+    let ordered : IsOrdered db = rw c.self.view_is at c.self.invariant in
     let own : slice_index_or db.schema.tables number table ≡ table =
     sym (c.table_at-table.ensures table ∙ ap (λ db. slice_index_or db.schema.tables number table) c.self.view_is) in
     rw c.rows_of-rows.ensures (rising-named db c.args.name.now table ordered c.requires own)
@@ -20,7 +20,7 @@ returns-in-Ok c =
     let number = c.args.name.now.table.0 in
     let table = c.table_at-table.result.now in
     let row = c.index-rows-place.result in
-    let ordered : IsOrdered db = rw c.self.view_is at c.self.invariant.ordered in
+    let ordered : IsOrdered db = rw c.self.view_is at c.self.invariant in
     let own : slice_index_or db.schema.tables number table ≡ table =
     sym (c.table_at-table.ensures table ∙ ap (λ db. slice_index_or db.schema.tables number table) c.self.view_is) in
     let found = rw (c.lent.ensures, c.rows_of-rows.ensures) at c.in-Ok.ensures.found in
@@ -32,7 +32,7 @@ returns-in-Err c =
     let db : Db = c.args.self.now in
     let number = c.args.name.now.table.0 in
     let table = c.table_at-table.result.now in
-    let ordered : IsOrdered db = rw c.self.view_is at c.self.invariant.ordered in
+    let ordered : IsOrdered db = rw c.self.view_is at c.self.invariant in
     let own : slice_index_or db.schema.tables number table ≡ table =
     sym (c.table_at-table.ensures table ∙ ap (λ db. slice_index_or db.schema.tables number table) c.self.view_is) in
     let gap = rw (c.lent.ensures, c.rows_of-rows.ensures) at c.in-Err.ensures.absent in
