@@ -41,6 +41,13 @@ none_found p (y ∷ xs) is = by (none_found p xs) (p y) refl is
     by more true passes none = let never : Some y ≡ None = none in cc
     by more false fails none = (fails, more none)
 
+-- a key alone rises
+pub few_rise : {K : Type 0} (cmp : K → K → Ordering) (keys : List K) → length keys ≤ 1 → IsStrictlySortedBy cmp keys
+unfolding IsStrictlySortedBy
+few_rise cmp [] few = tt
+few_rise cmp (key ∷ []) few = (tt, tt)
+few_rise cmp (key ∷ next ∷ keys) few = absurd (omega arith)
+
 -- keys that rise differ
 pub rising_differ : {K : Type 0} (cmp : K → K → Ordering) (keys : List K) → IsStrictlySortedBy cmp keys → IsDistinct (λ a b. is_eq (cmp a b)) keys
 unfolding IsStrictlySortedBy IsDistinct

@@ -106,6 +106,7 @@ impl TablePart {
     /// The rows with changes, which may come in any order. Only the key of a change and the row `after` it are looked
     /// at: not the table of its name, nor the row `before`. This part stays as it is. `AllocError` comes where memory is
     /// refused, or there are more rows than can be counted.
+    #[tactic(auto, using(crate::proofs::InOrder::few_rise))]
     pub fn with_changes(&self, alloc: Global, changes: &[Change]) -> Result<TablePart, AllocError>
         requires differ { KeysDiffer changes.now }
         requires keyed { AreKeyed (key_in self.now.key) changed_key row_after changes.now }
@@ -127,7 +128,8 @@ impl MakeCopy for TablePart {
     /// The same rows, in pages that both share. Takes no memory; `AllocError` comes only where the count of those that
     /// share is full.
     fn copy(&self, alloc: Global) -> Result<TablePart, AllocError> {
-        let pages = self.pages.copy(alloc)?;
-        Ok(TablePart { pages })
+        Ok(TablePart {
+            pages: self.pages.copy(alloc)?,
+        })
     }
 }

@@ -1,5 +1,4 @@
 use Rattle.std.proofs.Common.{◌≡◌, ◌∙◌, ◌≤◌, ◌<◌, List, [], ◌∷◌, length, get_or, sym, ap, subst, map, arith}
-use Rattle.std.specs.List.Sorted.{IsStrictlySortedBy}
 use Rattle.std.proofs.lemmas.Result.{IfOk-weaker}
 use Rattle.own_base.specs.Key.{key_cmp}
 use Rattle.own_base.specs.declared.change.Change.{Change}
@@ -18,10 +17,6 @@ only : (changes : List Change) (change : Change) → 1 ≤ length changes → le
 only [] change some few is = absurd (omega arith)
 only (first ∷ []) change some few is = ap (λ one. one ∷ []) is
 only (first ∷ second ∷ rest) change some few is = absurd (omega arith)
-
-pub changed-requires-clause-rising : goal.changed-requires-clause-rising
-unfolding IsStrictlySortedBy
-changed-requires-clause-rising c = (tt, tt)
 
 pub returns-in-len1-clause-kept : goal.returns-in-len1-clause-kept
 returns-in-len1-clause-kept c =
