@@ -6,7 +6,7 @@ use std::cmp::Ordering;
 
 /// The column of a row that is its primary key.
 #[derive(Clone, Copy, Debug)]
-pub struct KeyColumn(pub ColNo);
+pub(crate) struct KeyColumn(pub ColNo);
 
 impl KeyOf<Row> for KeyColumn {
     type Key = Key;

@@ -11,7 +11,7 @@ use std::alloc::{AllocError, Global};
 
 /// A change of a row that is lent, as a change of its key.
 #[derive(Clone, Copy, Debug)]
-pub struct KeyedChange<'a>(pub &'a Change);
+pub(crate) struct KeyedChange<'a>(pub &'a Change);
 
 impl<'a> ChangeOf<Row, Key> for KeyedChange<'a> {
     ghost changed = { λ keyed. keyed.0.now.name.key };
@@ -28,12 +28,15 @@ impl<'a> ChangeOf<Row, Key> for KeyedChange<'a> {
 }
 
 /// The changes by rising key.
-pub fn by_key<'a>(alloc: Global, changes: &'a [Change]) -> Result<Vec<KeyedChange<'a>>, AllocError>
+pub(crate) fn by_key<'a>(
+    alloc: Global,
+    changes: &'a [Change],
+) -> Result<Vec<KeyedChange<'a>>, AllocError>
     requires { KeysDiffer changes.now }
     ensures rising { IfOk result (λ keyed. IsRising (λ one. changed_key (lent one)) key_cmp keyed.items) }
     ensures same { IfOk result (λ keyed. IsPermutation changes.now (map lent keyed.items)) }
 {
-    let mut keyed = Vec::new(alloc);
+    let mut keyed = Vec::with_capacity(alloc, changes.len())?;
     for change in changes {
         keyed.push(KeyedChange(change))?;
     }

@@ -92,14 +92,14 @@ impl TablePart {
     }
 
     /// The rows with changes, which stand by rising key.
-    fn changed(&self, alloc: Global, keyed: &[KeyedChange]) -> Result<TablePart, AllocError>
-        requires rising { IsRising (λ one. changed_key (lent one)) key_cmp keyed.now }
-        requires keyed { AreKeyed (key_in self.now.key) changed_key row_after (map lent keyed.now) }
+    fn changed(&self, alloc: Global, sorted: &[KeyedChange]) -> Result<TablePart, AllocError>
+        requires rising { IsRising (λ one. changed_key (lent one)) key_cmp sorted.now }
+        requires keyed { AreKeyed (key_in self.now.key) changed_key row_after (map lent sorted.now) }
         ensures key { IfOk result (λ after. after.key ≡ self.now.key) }
-        ensures rows { IfOk result (λ after. rows_of after ≡ with_changes (key_in self.now.key) key_cmp changed_key row_after (map lent keyed.now) (rows_of self.now)) }
-        ensures kept { IfOk result (λ after. KeepsPages (key_in self.now.key) key_cmp changed_key self.now.pages (map lent keyed.now) after.pages) }
+        ensures rows { IfOk result (λ after. rows_of after ≡ with_changes (key_in self.now.key) key_cmp changed_key row_after (map lent sorted.now) (rows_of self.now)) }
+        ensures kept { IfOk result (λ after. KeepsPages (key_in self.now.key) key_cmp changed_key self.now.pages (map lent sorted.now) after.pages) }
     {
-        let pages = self.pages.with_changes(alloc, keyed)?;
+        let pages = self.pages.with_changes(alloc, sorted)?;
         Ok(TablePart { pages })
     }
 
@@ -119,8 +119,8 @@ impl TablePart {
         }
         // By the clauses of `len` the keys of this part rise.
         let _rows = self.len();
-        let keyed = by_key(alloc, changes)?;
-        self.changed(alloc, keyed.as_slice())
+        let sorted = by_key(alloc, changes)?;
+        self.changed(alloc, sorted.as_slice())
     }
 }
 

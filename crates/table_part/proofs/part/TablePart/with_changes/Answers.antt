@@ -30,14 +30,14 @@ returns-in-len1-clause-kept c =
 pub changed-requires-2-clause-keyed : goal.changed-requires-2-clause-keyed
 changed-requires-2-clause-keyed c =
     subst (λ keyed. AreKeyed (key_in c.args.self.now.key) changed_key row_after (map lent keyed)) (sym c.as_slice.ensures.value)
-    (each_permuted _ c.args.changes.now (map lent c.in_ok-keyed.keyed.items) c.in_ok-keyed.ensures.same c.requires.keyed)
+    (each_permuted _ c.args.changes.now (map lent c.in_ok-sorted.sorted.items) c.in_ok-sorted.ensures.same c.requires.keyed)
 
 pub returns-clause-rows : goal.returns-clause-rows
 returns-clause-rows c =
-    let sorted = map lent c.in_ok-keyed.keyed.items in
+    let sorted = map lent c.in_ok-sorted.sorted.items in
     let rows = rows_of c.args.self.now in
     let same = same_items (key_in c.args.self.now.key) key_order changed_key row_after c.args.changes.now sorted rows c.requires.differ
-    (rising-seen (key_in c.args.self.now.key) key_cmp changed_key row_after lent c.in_ok-keyed.keyed.items c.in_ok-keyed.ensures.rising) c.in_ok-keyed.ensures.same c.requires.keyed c.len-rows.ensures.rising in
+    (rising-seen (key_in c.args.self.now.key) key_cmp changed_key row_after lent c.in_ok-sorted.sorted.items c.in_ok-sorted.ensures.rising) c.in_ok-sorted.ensures.same c.requires.keyed c.len-rows.ensures.rising in
     IfOk-weaker c.changed-2.result
     (λ (after : Part). rows_of after ≡ with_changes (key_in c.args.self.now.key) key_cmp changed_key row_after (map lent c.as_slice.result.now) rows)
     (λ (after : Part). rows_of after ≡ with_changes (key_in c.args.self.now.key) key_cmp changed_key row_after c.args.changes.now rows)
@@ -48,6 +48,6 @@ pub returns-clause-kept : goal.returns-clause-kept
 returns-clause-kept c =
     let keeps : List Change → Part → Type 0 = λ changes after. KeepsPages (key_in c.args.self.now.key) key_cmp changed_key c.args.self.now.pages changes after.pages in
     IfOk-weaker c.changed-2.result (keeps (map lent c.as_slice.result.now)) (keeps c.args.changes.now)
-    (λ after kept. same_kept (key_in c.args.self.now.key) key_cmp changed_key c.args.self.now.pages after.pages c.args.changes.now (map lent c.in_ok-keyed.keyed.items) c.in_ok-keyed.ensures.same
+    (λ after kept. same_kept (key_in c.args.self.now.key) key_cmp changed_key c.args.self.now.pages after.pages c.args.changes.now (map lent c.in_ok-sorted.sorted.items) c.in_ok-sorted.ensures.same
     (subst (λ keyed. keeps (map lent keyed) after) c.as_slice.ensures.value kept))
     c.changed-2.ensures.kept
