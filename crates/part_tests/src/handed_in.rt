@@ -1,6 +1,6 @@
-//! Changes that are handed in, after a look at whether they may be.
+//! Whether changes may be handed in.
 
-ghost use Rattle.std.specs.Prelude.{◌≡◌, false, MatchBool, IfOk, IfSome, ⊤};
+ghost use Rattle.std.specs.Prelude.{◌≡◌, false, MatchBool, IfSome, ⊤};
 ghost use Rattle.std.specs.List.{AllByRecursion};
 ghost use Rattle.std.specs.Ordering.{is_eq};
 ghost use Rattle.own_base.specs.Key.{key_cmp};
@@ -9,11 +9,7 @@ ghost use Rattle.table_part.specs.Changes.{changed_key, row_after, KeysDiffer};
 ghost use Rattle.table_part.specs.KeyIn.{key_in};
 
 use crate::made::KEY;
-use own_base::{Change, ColNo, Key, Row, Value};
-use std::alloc::Global;
-use std::process::Abort;
-use std::test::Fail;
-use table_part::TablePart;
+use own_base::{Change, Key, Row, Value};
 
 /// Whether a change's key differs from those of all these.
 fn is_apart(change: &Change, others: &[Change]) -> bool
@@ -68,29 +64,4 @@ pub fn are_keyed(changes: &[Change]) -> bool
         Some((first, rest)) => is_keyed(first) && are_keyed(rest),
         None => true,
     }
-}
-
-/// The part with changes, which have to be such as may be handed in.
-pub fn changed(
-    rt: &impl Abort,
-    alloc: Global,
-    part: &TablePart,
-    changes: &[Change],
-) -> Result<TablePart, Fail>
-    requires { part.now.key ≡ KEY }
-    ensures { IfOk result (λ after. after.key ≡ KEY) }
-{
-    assert!(rt; keys_differ(changes));
-    assert!(rt; are_keyed(changes));
-    let after = part.with_changes(alloc, changes)?;
-    Ok(after)
-}
-
-/// The part with these changes alone.
-pub fn part_with(rt: &impl Abort, alloc: Global, changes: &[Change]) -> Result<TablePart, Fail>
-    ensures { IfOk result (λ part. part.key ≡ KEY) }
-{
-    let empty = TablePart::new(KEY);
-    let part = changed(rt, alloc, &empty, changes)?;
-    Ok(part)
 }

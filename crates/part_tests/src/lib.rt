@@ -8,4 +8,6 @@ mod orders;
 #[cfg(test)]
 mod pages;
 #[cfg(test)]
+mod parts;
+#[cfg(test)]
 mod texts;

@@ -1,5 +1,5 @@
-use crate::handed_in::{changed, part_with};
 use crate::made::{numbered, numbers_of, rows_put};
+use crate::parts::{changed, part_with};
 use own_base::Key;
 use std::process::Abort;
 use std::test::Fail;

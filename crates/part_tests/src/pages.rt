@@ -1,5 +1,5 @@
-use crate::handed_in::{changed, part_with};
 use crate::made::{change_of, numbers_of};
+use crate::parts::{changed, part_with};
 use own_base::{Change, Key, MakeCopy, Row};
 use std::alloc::{AllocError, Global};
 use std::test::Fail;

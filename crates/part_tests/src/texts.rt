@@ -1,5 +1,5 @@
-use crate::handed_in::{changed, part_with};
 use crate::made::{change_of, texts_put, value_of};
+use crate::parts::{changed, part_with};
 use own_base::{Key, Text};
 use std::alloc::{AllocError, Global};
 use std::test::Fail;
