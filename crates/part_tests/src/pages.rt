@@ -1,0 +1,128 @@
+use crate::made::{change_of, numbers_of};
+use crate::parts::{changed, part_with};
+use own_base::{Change, Key, MakeCopy, Row};
+use std::alloc::{AllocError, Global};
+use std::test::Fail;
+use table_part::TablePart;
+
+/// The changes of the keys from 1 up to this one: rows with ten times the key as their value, or none.
+fn up_to(alloc: Global, last: i64, put: bool) -> Result<Vec<Change>, AllocError> {
+    let mut changes = Vec::new(alloc);
+    for key in 1..=last {
+        let value = if put {
+            Some(key.wrapping_mul(10))
+        } else {
+            None
+        };
+        changes.push(change_of(alloc, Key::Int(key), value)?)?;
+    }
+    Ok(changes)
+}
+
+/// The key of a row that is a number.
+fn key_of(row: &Row) -> Option<i64> {
+    numbers_of(row).map(|(key, _)| key)
+}
+
+/// Whether a part has the rows of the keys from 1 up to this one.
+fn has_up_to(part: &TablePart, last: i64) -> bool {
+    part.rows()
+        .filter_map(numbers_of)
+        .eq((1..=last).map(|key| (key, key.wrapping_mul(10))))
+}
+
+/// The rows of the last page, of fewer than a hundred pages.
+fn last_page(part: &TablePart) -> &[Row] {
+    (0..100)
+        .rev()
+        .find_map(|number| part.page(number))
+        .unwrap_or(&[])
+}
+
+#[test]
+fn a_row_too_many_for_a_page_makes_a_second(rt: HostRuntime) -> Result<(), Fail> {
+    let alloc = rt.alloc();
+    let part = part_with(&rt, alloc, &up_to(alloc, 64, true)?)?;
+    let made = changed(
+        &rt,
+        alloc,
+        &part,
+        &[change_of(alloc, Key::Int(65), Some(650))?],
+    )?;
+    assert_eq!(rt; made.at(64).and_then(key_of), Some(65));
+    assert!(rt; made.page(1).is_some());
+    assert!(rt; has_up_to(&made, 65));
+    assert!(rt; part.at(64).is_none());
+    assert_eq!(rt; part.page(0).map(|page| page.len()), Some(64));
+    assert!(rt; part.page(1).is_none());
+    assert!(rt; has_up_to(&part, 64));
+    Ok(())
+}
+
+#[test]
+fn no_row_leaves_no_page(rt: HostRuntime) -> Result<(), Fail> {
+    let alloc = rt.alloc();
+    let part = part_with(&rt, alloc, &up_to(alloc, 65, true)?)?;
+    let made = changed(&rt, alloc, &part, &up_to(alloc, 65, false)?)?;
+    assert_eq!(rt; made.len(), 0);
+    assert!(rt; made.rows().next().is_none());
+    assert!(rt; made.page(0).is_none());
+    assert!(rt; made.rows_from(0).is_empty());
+    assert!(rt; has_up_to(&part, 65));
+    Ok(())
+}
+
+#[test]
+fn a_page_without_a_changed_key_stays(rt: HostRuntime) -> Result<(), Fail> {
+    let alloc = rt.alloc();
+    let part = part_with(&rt, alloc, &up_to(alloc, 65, true)?)?;
+    let made = changed(&rt, alloc, &part, &[change_of(alloc, Key::Int(1), None)?])?;
+    assert_eq!(rt; made.len(), 64);
+    let (before, after) = (last_page(&part), last_page(&made));
+    assert!(rt; !before.is_empty());
+    assert!(rt;
+        after
+            .iter()
+            .map(numbers_of)
+            .eq(before.iter().map(numbers_of))
+    );
+    assert!(rt; has_up_to(&part, 65));
+    Ok(())
+}
+
+#[test]
+fn the_ends_of_a_part(rt: HostRuntime) -> Result<(), Fail> {
+    let alloc = rt.alloc();
+    let part = part_with(&rt, alloc, &up_to(alloc, 65, true)?)?;
+    for (key, there) in [(0, None), (1, Some(1)), (65, Some(65)), (66, None)] {
+        assert_eq!(rt; part.get(&Key::Int(key)).and_then(key_of), there, "{key}");
+    }
+    for (place, key) in [(0, Some(1)), (64, Some(65)), (65, None), (u64::MAX, None)] {
+        assert_eq!(rt; part.at(place).and_then(key_of), key, "{place}");
+        assert_eq!(rt;
+            part.rows_from(place).first().and_then(key_of),
+            key,
+            "{place}"
+        );
+    }
+    assert_eq!(rt; part.rows_from(64).len(), 1);
+    assert_eq!(rt;
+        part.page(0).and_then(|page| page.first()).and_then(key_of),
+        Some(1)
+    );
+    assert!(rt; part.page(u64::MAX).is_none());
+    Ok(())
+}
+
+#[test]
+fn a_copy_is_a_part_of_its_own(rt: HostRuntime) -> Result<(), Fail> {
+    let alloc = rt.alloc();
+    let part = part_with(&rt, alloc, &up_to(alloc, 3, true)?)?;
+    let copy = part.copy(alloc)?;
+    assert!(rt; has_up_to(&copy, 3));
+    let made = changed(&rt, alloc, &copy, &up_to(alloc, 2, false)?)?;
+    assert_eq!(rt; made.rows().next().and_then(key_of), Some(3));
+    assert!(rt; has_up_to(&copy, 3));
+    assert!(rt; has_up_to(&part, 3));
+    Ok(())
+}

@@ -1,0 +1,4 @@
+pub mod Changes
+pub mod KeyIn
+pub mod Lent
+pub mod Part

@@ -1,0 +1,10 @@
+//! The rows of one table by their key, in pages that parts share.
+#![tactic(auto)]
+
+mod key_column;
+mod keyed_change;
+mod part;
+mod rows;
+
+pub use part::TablePart;
+pub use rows::Rows;
