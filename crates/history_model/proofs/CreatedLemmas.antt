@@ -1,5 +1,5 @@
 -- The schema of a database is the one that its creates give.
-use Rattle.std.proofs.Common.{◌≡◌, ℕ, List, [], ◌∷◌, ◌++◌, fold, Bool, true, false, refl, ap, sym, ◌∙◌}
+use Rattle.std.proofs.Common.{◌≡◌, ℕ, List, [], ◌∷◌, ◌++◌, length, fold, Bool, true, false, refl, ap, sym, ◌∙◌}
 use Rattle.std.specs.Prelude.{Option, Some, None, Result, Ok, Err, ◌&&◌, find, if◌then◌else◌}
 use Rattle.std.specs.Option.{option_or}
 use Rattle.std.proofs.lemmas.List.{map-append}
@@ -10,9 +10,9 @@ use Rattle.own_model.specs.declared.refusal.Refusal.{Refusal}
 use Rattle.own_model.specs.declared.request.Request.{Request}
 use Rattle.own_model.specs.declared.request.Request.TheVariants.{Run, Syntax, Limit, End}
 use Rattle.own_model.specs.declared.schema.Schema.{Schema}
+use Rattle.own_model.specs.declared.schema.TableDef.{TableDef}
 use Rattle.own_model.specs.declared.statement.Statement.{Statement}
-use Rattle.own_model.specs.declared.statement.Statement.TheVariants as statement
-use Rattle.own_model.specs.Db.{Db, Row, Table, empty, table_of}
+use Rattle.own_model.specs.Db.{Db, Row, empty}
 use Rattle.own_model.specs.Stored.{holds_rows}
 use Rattle.schema_model.specs.Kinds.{is_owns}
 use Rattle.schema_model.specs.OwnerSchema.{IsOwnerSchema}
@@ -26,6 +26,7 @@ use Rattle.history_model.specs.Create.{create, kept_text}
 use Rattle.history_model.specs.Created.{AreAdmitted, IsCreated, without_rows}
 use Rattle.history_model.specs.History.{History, World, flat, happens, left_by, world}
 use Rattle.history_model.specs.Run.{create_table, create_unless, insert, insert_into, put, run}
+use Rattle.history_model.proofs.Outcomes.{of-run}
 
 -- where there is no cause of five, there is none without the fourth
 without_fourth : (first second third fourth other fifth : Option Refusal)
@@ -84,20 +85,27 @@ create_step : (db : Db) (table : CreateTable) → IsCreated db → (why : Option
 create_step db table is None admitted = created-create db table is admitted
 create_step db table is (Some why) refused = is
 
-put_step : (db : Db) (name : List ℕ) (number : ℕ) → IsCreated db → (r : Result (List Row) Key) → IsCreated (put db name number r).db
-put_step db name number is (Ok rows) = created-rows db _ is
-put_step db name number is (Err key) = is
+put_step : (db : Db) (number : ℕ) (table : TableDef) (count : ℕ) → IsCreated db → (r : Result (List Row) Key) → IsCreated (put db number table count r).db
+put_step db number table count is (Ok rows) = created-rows db _ is
+put_step db number table count is (Err key) = is
 
-insert_step : (db : Db) (name : List ℕ) (tuple : Row) → IsCreated db → (found : Option Table) → IsCreated (insert_into db name tuple found).db
-insert_step db name tuple is None = is
-insert_step db name tuple is (Some table) = put_step db name table.number is _
+insert_step : (db : Db) (number : ℕ) (tuples : List Row) → IsCreated db → (found : Option TableDef) → IsCreated (insert_into db number tuples found).db
+insert_step db number tuples is None = is
+insert_step db number tuples is (Some table) = put_step db number table (length tuples) is _
+
+created-insert : (db : Db) (number : ℕ) (tuples : List Row) → IsCreated db → IsCreated (insert db number tuples).db
+unfolding insert
+created-insert db number tuples is = insert_step db number tuples is _
+
+created-create_table : (db : Db) (table : CreateTable) → IsCreated db → IsCreated (create_table db table).db
+unfolding create_table
+created-create_table db table is = create_step db table is _ refl
 
 -- a statement leaves the schema that the creates give
 created-run : (db : Db) (statement : Statement) → IsCreated db → IsCreated (run db statement).db
-unfolding run create_table insert
-created-run db (statement.CreateTable table) is = create_step db table is _ refl
-created-run db (statement.Insert table None (tuple ∷ [])) is = insert_step db table tuple is (table_of db table)
-created-run db _ is = is
+created-run db statement is =
+    of-run db (λ outcome. IsCreated outcome.db) (λ reply. is) (λ number tuples. created-insert db number tuples is)
+    (λ table. created-create_table db table is) statement
 
 -- so does a request
 pub created-left_by : (db : Db) (request : Request) → IsCreated db → IsCreated (left_by db request)

@@ -1,5 +1,5 @@
 -- A call that is refused changes nothing.
-use Rattle.std.proofs.Common.{◌≡◌, ℕ, ◌+◌, List, [], ◌∷◌, ◌++◌, take, refl, ap, ◌∙◌}
+use Rattle.std.proofs.Common.{◌≡◌, ℕ, ◌+◌, List, [], ◌∷◌, ◌++◌, length, take, refl, ap, ◌∙◌}
 use Rattle.std.specs.Prelude.{Option, Some, None, Result, Ok, Err, slice_get, slice_index_or}
 use Rattle.std.specs.Option.{option_map}
 use Rattle.std.proofs.lemmas.List.{take_more}
@@ -11,32 +11,41 @@ use Rattle.own_model.specs.declared.refusal.Refusal.{Refusal}
 use Rattle.own_model.specs.declared.reply.Reply.TheVariants.{Refused}
 use Rattle.own_model.specs.declared.request.Request.{Request}
 use Rattle.own_model.specs.declared.request.Request.TheVariants.{Run}
+use Rattle.own_model.specs.declared.schema.TableDef.{TableDef}
 use Rattle.own_model.specs.declared.statement.Statement.{Statement}
-use Rattle.own_model.specs.declared.statement.Statement.TheVariants as statement
-use Rattle.own_model.specs.Db.{Db, Row, Table, table_of}
+use Rattle.own_model.specs.Db.{Db, Row}
 use Rattle.history_model.specs.History.{History, answer, answer_to, flat, left_by, reply, world}
 use Rattle.history_model.specs.Run.{create_table, create_unless, insert, insert_into, put, run}
 use Rattle.history_model.proofs.HistoryLemmas.{flat-append}
+use Rattle.history_model.proofs.Outcomes.{of-run}
 
-put_step : (db : Db) (name : List ℕ) (number : ℕ) (r : Result (List Row) Key) (why : Refusal) → (put db name number r).reply ≡ Refused why → (put db name number r).db ≡ db
-put_step db name number (Ok rows) why refused = cc
-put_step db name number (Err key) why refused = refl
+put_step : (db : Db) (number : ℕ) (table : TableDef) (count : ℕ) (r : Result (List Row) Key) (why : Refusal) → (put db number table count r).reply ≡ Refused why
+    → (put db number table count r).db ≡ db
+put_step db number table count (Ok rows) why refused = cc
+put_step db number table count (Err key) why refused = refl
 
-insert_step : (db : Db) (name : List ℕ) (tuple : Row) (found : Option Table) (why : Refusal) → (insert_into db name tuple found).reply ≡ Refused why
-    → (insert_into db name tuple found).db ≡ db
-insert_step db name tuple None why refused = refl
-insert_step db name tuple (Some table) why refused = put_step db name table.number _ why refused
+insert_step : (db : Db) (number : ℕ) (tuples : List Row) (found : Option TableDef) (why : Refusal) → (insert_into db number tuples found).reply ≡ Refused why
+    → (insert_into db number tuples found).db ≡ db
+insert_step db number tuples None why refused = refl
+insert_step db number tuples (Some table) why refused = put_step db number table (length tuples) _ why refused
+
+refused-insert : (db : Db) (number : ℕ) (tuples : List Row) (why : Refusal) → (insert db number tuples).reply ≡ Refused why → (insert db number tuples).db ≡ db
+unfolding insert
+refused-insert db number tuples why refused = insert_step db number tuples _ why refused
 
 create_step : (db : Db) (table : CreateTable) (cause : Option Refusal) (why : Refusal) → (create_unless db table cause).reply ≡ Refused why
     → (create_unless db table cause).db ≡ db
 create_step db table None why refused = cc
 create_step db table (Some cause) why refused = refl
 
+refused-create : (db : Db) (table : CreateTable) (why : Refusal) → (create_table db table).reply ≡ Refused why → (create_table db table).db ≡ db
+unfolding create_table
+refused-create db table why refused = create_step db table _ why refused
+
+-- a statement that is refused
 refused-run : (db : Db) (statement : Statement) (why : Refusal) → (run db statement).reply ≡ Refused why → (run db statement).db ≡ db
-unfolding run create_table insert
-refused-run db (statement.CreateTable table) why refused = create_step db table _ why refused
-refused-run db (statement.Insert table None (tuple ∷ [])) why refused = insert_step db table tuple (table_of db table) why refused
-refused-run db _ why refused = refl
+refused-run db statement =
+    of-run db (λ outcome. (why : Refusal) → outcome.reply ≡ Refused why → outcome.db ≡ db) (λ reply why refused. refl) (refused-insert db) (refused-create db) statement
 
 -- nothing changes where the answer is a refusal
 refused-left_by : (db : Db) (request : Request) (why : Refusal) → answer_to db request ≡ Refused why → left_by db request ≡ db

@@ -1,9 +1,8 @@
 -- The keys of each table rise strictly, whatever statements run.
-use Rattle.std.proofs.Common.{◌≡◌, ℕ, zero, suc, ◌+◌, ◌≤◌, List, [], ◌∷◌, ◌++◌, map, fold, Bool, true, false, refl, subst, arith}
-use Rattle.std.specs.Prelude.{Result, Ok, Err, Option, Some, None, slice_set}
+use Rattle.std.proofs.Common.{◌≡◌, ℕ, zero, suc, List, [], ◌∷◌, ◌++◌, length, map, fold, Bool, true, false, refl, subst, sym}
+use Rattle.std.specs.Prelude.{Result, Ok, Err, Option, Some, None, slice_get, slice_set}
 use Rattle.std.specs.List.{AllByRecursion, list_any}
 use Rattle.std.specs.List.Sorted.{IsStrictlySortedBy}
-use Rattle.std.specs.Str.{bytes_eq}
 use Rattle.std.specs.declared.cmp.Ordering.{Ordering}
 use Rattle.std.specs.declared.cmp.Ordering.TheVariants.{Less, Equal, Greater}
 use Rattle.own_base.specs.Key.{key_cmp}
@@ -14,14 +13,16 @@ use Rattle.own_model.specs.declared.schema.TableDef.{TableDef}
 use Rattle.own_model.specs.declared.request.Request.{Request}
 use Rattle.own_model.specs.declared.request.Request.TheVariants.{Run, Syntax, Limit, End}
 use Rattle.own_model.specs.declared.statement.Statement.{Statement}
-use Rattle.own_model.specs.declared.statement.Statement.TheVariants as statement
 use Rattle.history_model.specs.Create.{create}
-use Rattle.own_model.specs.Db.{Db, Row, Table, empty, AreRising, IsOrdered, IsRising, key_of, table_from}
-use Rattle.own_model.specs.Stored.{has_key}
+use Rattle.own_model.specs.Db.{Db, Row, empty, AreRising, IsOrdered, IsRising, key_of}
+use Rattle.own_model.specs.Stored.{has_key, rows_at}
 use Rattle.schema_model.specs.NewTable.{new_table}
 use Rattle.schema_model.specs.WithTable.{with_table}
 use Rattle.history_model.specs.History.{History, World, flat, happens, left_by, world}
-use Rattle.history_model.specs.Run.{create_table, create_unless, insert, put, run, with_row, with_tuple}
+use Rattle.history_model.specs.Insert.{and_tuple, with_row, with_tuple, with_tuples}
+use Rattle.history_model.specs.Run.{create_table, create_unless, insert, insert_into, put, run}
+use Rattle.history_model.proofs.Outcomes.{of-run}
+use Rattle.history_model.proofs.TableLemmas.{IfRows}
 use Rattle.own_model.proofs.KeyOrder.{key_order}
 
 -- the other way round
@@ -84,111 +85,78 @@ module _ (table : TableDef) (row : Row) where
   pub rising-with_tuple : (rows new : List Row) → IsRising table rows → with_tuple table rows row ≡ Ok new → IsRising table new
   rising-with_tuple rows new rising by = tuple_step rows new rising _ refl by
 
--- What holds of each table with its rows holds of the table that is found, whose number is counted from here on.
-module _ (P : Table → Type 0) (name : List ℕ) where
-  found_step : (number : ℕ) (first : TableDef) (tables : List TableDef) (row : List Row) (rows : List (List Row)) (table : Table)
-      → P (record { number = number; definition = first; rows = row })
-      → (table_from (number + 1) name tables rows ≡ Some table → P table)
-      → (b : Bool) → bytes_eq first.name name ≡ b → table_from number name (first ∷ tables) (row ∷ rows) ≡ Some table → P table
-  unfolding table_from
-  found_step number first tables row rows table here there true is found =
-      let both : ◌≡◌ {A = Option Table} (Some (record { number = number; definition = first; rows = row })) (Some table) = rw is at found in
-      let same : record { number = number; definition = first; rows = row } ≡ table = cc in
-      subst P same here
-  found_step number first tables row rows table here there false is found = there (rw is at found)
+pub rising_next : (table : TableDef) (before : Result (List Row) Key) (tuple : Row) → IfRows (IsRising table) before
+    → (r : Result (List Row) Key) → and_tuple table before tuple ≡ r → IfRows (IsRising table) r
+rising_next table (Ok rows) tuple rising (Ok new) is = rising-with_tuple table tuple rows new rising is
+rising_next table (Err key) tuple rising (Ok new) is = cc
+rising_next table before tuple rising (Err key) is = tt
 
--- the number of a table that is found is at least that of the first
-at_least : (number : ℕ) (name : List ℕ) (tables : List TableDef) (rows : List (List Row)) (table : Table)
-    → table_from number name tables rows ≡ Some table → number ≤ table.number
-unfolding table_from
-at_least number name [] rows table found = cc
-at_least number name (first ∷ tables) [] table found = cc
-at_least number name (first ∷ tables) (row ∷ rows) table found =
-    found_step (λ table. number ≤ table.number) name number first tables row rows table (omega arith)
-    (λ later. let more = at_least (number + 1) name tables rows table later in omega arith) _ refl found
+rising_fold : (table : TableDef) (before : Result (List Row) Key) (tuples : List Row) → IfRows (IsRising table) before
+    → IfRows (IsRising table) (fold (and_tuple table) before tuples)
+rising_fold table before [] rising = rising
+rising_fold table before (tuple ∷ tuples) rising =
+    rising_fold table (and_tuple table before tuple) tuples (rising_next table before tuple rising _ refl)
 
--- the rows of a table that is found rise
-pub rising-found : (number : ℕ) (name : List ℕ) (tables : List TableDef) (rows : List (List Row)) (table : Table)
-    → AreRising tables rows → table_from number name tables rows ≡ Some table → IsRising table.definition table.rows
-unfolding table_from
-rising-found number name [] rows table rising found = cc
-rising-found number name (first ∷ tables) [] table rising found = cc
-rising-found number name (first ∷ tables) (row ∷ rows) table rising found =
-    found_step (λ table. IsRising table.definition table.rows) name number first tables row rows table rising.0
-    (λ later. rising-found (number + 1) name tables rows table rising.1 later) _ refl found
+-- so do tuples that are put one after another
+pub rising-with_tuples : (table : TableDef) (rows tuples : List Row) → IsRising table rows → IfRows (IsRising table) (with_tuples table rows tuples)
+unfolding with_tuples
+rising-with_tuples table rows tuples rising = rising_fold table (Ok rows) tuples rising
 
--- the case of the first table, and of a later one
-set_here : (number : ℕ) (first : TableDef) (tables : List TableDef) (row : List Row) (rows : List (List Row)) → AreRising tables rows
-    → (new : List Row) → IsRising first new → (k : ℕ) → number ≡ number + k → AreRising (first ∷ tables) (slice_set (row ∷ rows) k new)
-set_here number first tables row rows rising new news zero is = (news, rising)
-set_here number first tables row rows rising new news (suc k) is = absurd (omega arith)
+-- the rows of the table of a number rise, and other rows that rise stand in their place
+pub rising-at : (tables : List TableDef) (rows : List (List Row)) (number : ℕ) (table : TableDef) → AreRising tables rows
+    → slice_get tables number ≡ Some table → IsRising table (rows_at rows number)
+rising-at [] rows number table rising is = cc
+rising-at (first ∷ tables) [] number table rising is = absurd rising
+rising-at (first ∷ tables) (one ∷ rows) zero table rising is = let same : first ≡ table = cc in subst (λ table. IsRising table one) same rising.0
+rising-at (first ∷ tables) (one ∷ rows) (suc number) table rising is = rising-at tables rows number table rising.1 is
 
-set_later : (number own : ℕ) (first : TableDef) (tables : List TableDef) (row : List Row) (rows : List (List Row)) → AreRising (first ∷ tables) (row ∷ rows)
-    → (new : List Row) → number + 1 ≤ own → ((k : ℕ) → own ≡ (number + 1) + k → AreRising tables (slice_set rows k new))
-    → (k : ℕ) → own ≡ number + k → AreRising (first ∷ tables) (slice_set (row ∷ rows) k new)
-set_later number own first tables row rows rising new least more zero is = absurd (omega arith)
-set_later number own first tables row rows rising new least more (suc k) is = (rising.0, more k (omega arith))
-
--- rising rows are set in the place of those of a table that is found
-pub rising-set : (number : ℕ) (name : List ℕ) (tables : List TableDef) (rows : List (List Row)) (table : Table)
-    → AreRising tables rows → table_from number name tables rows ≡ Some table → (new : List Row) → IsRising table.definition new
-    → (k : ℕ) → table.number ≡ number + k → AreRising tables (slice_set rows k new)
-unfolding table_from
-rising-set number name [] rows table rising found = let never : ⊥ = cc in absurd never
-rising-set number name (first ∷ tables) [] table rising found = let never : ⊥ = cc in absurd never
-rising-set number name (first ∷ tables) (row ∷ rows) table rising found =
-    found_step (λ table. (new : List Row) → IsRising table.definition new → (k : ℕ) → table.number ≡ number + k → AreRising (first ∷ tables) (slice_set (row ∷ rows) k new))
-    name number first tables row rows table (set_here number first tables row rows rising.1)
-    (λ later new news. set_later number table.number first tables row rows rising new (at_least (number + 1) name tables rows table later)
-    (rising-set (number + 1) name tables rows table rising.1 later new news)) _ refl found
+pub rising-set : (tables : List TableDef) (rows : List (List Row)) (number : ℕ) (table : TableDef) (new : List Row) → AreRising tables rows
+    → slice_get tables number ≡ Some table → IsRising table new → AreRising tables (slice_set rows number new)
+rising-set [] rows number table new rising is news = cc
+rising-set (first ∷ tables) [] number table new rising is news = absurd rising
+rising-set (first ∷ tables) (one ∷ rows) zero table new rising is news =
+    let same : first ≡ table = cc in (subst (λ table. IsRising table new) (sym same) news, rising.1)
+rising-set (first ∷ tables) (one ∷ rows) (suc number) table new rising is news = (rising.0, rising-set tables rows number table new rising.1 is news)
 
 -- a table more, without rows
-rising-append : (tables : List TableDef) (rows : List (List Row)) (new : TableDef) → AreRising tables rows → AreRising (tables ++ new ∷ []) (rows ++ [] ∷ [])
+pub rising-append : (tables : List TableDef) (rows : List (List Row)) (new : TableDef) → AreRising tables rows → AreRising (tables ++ new ∷ []) (rows ++ [] ∷ [])
 unfolding IsStrictlySortedBy
 rising-append [] [] new rising = (tt, tt)
 rising-append [] (row ∷ rows) new rising = absurd rising
 rising-append (table ∷ tables) [] new rising = absurd rising
 rising-append (table ∷ tables) (row ∷ rows) new rising = (rising.0, rising-append tables rows new rising.1)
 
-put_step : (db : Db) (name : List ℕ) (tuple : Row) (table : Table) → IsOrdered db → table_from 0 name db.schema.tables db.rows ≡ Some table
-    → (r : Result (List Row) Key) → with_tuple table.definition table.rows tuple ≡ r → IsOrdered (put db name table.number r).db
-put_step db name tuple table ordered found (Ok new) by = record {
-  rising = rising-set 0 name db.schema.tables db.rows table ordered.rising found new
-      (rising-with_tuple table.definition tuple table.rows new (rising-found 0 name db.schema.tables db.rows table ordered.rising found) by)
-      table.number (omega arith);
-}
-put_step db name tuple table ordered found (Err key) by = ordered
+put_step : (db : Db) (number : ℕ) (table : TableDef) (count : ℕ) → IsOrdered db → slice_get db.schema.tables number ≡ Some table
+    → (r : Result (List Row) Key) → IfRows (IsRising table) r → IsOrdered (put db number table count r).db
+put_step db number table count ordered is (Ok new) rising =
+    record { rising = rising-set db.schema.tables db.rows number table new ordered.rising is rising }
+put_step db number table count ordered is (Err key) rising = ordered
 
-insert_step : (db : Db) (name : List ℕ) (tuple : Row) → IsOrdered db → (found : Option Table) → table_from 0 name db.schema.tables db.rows ≡ found
-    → IsOrdered (insert db name tuple).db
+insert_step : (db : Db) (number : ℕ) (tuples : List Row) → IsOrdered db → (found : Option TableDef) → slice_get db.schema.tables number ≡ found
+    → IsOrdered (insert_into db number tuples found).db
+insert_step db number tuples ordered None is = ordered
+insert_step db number tuples ordered (Some table) is =
+    put_step db number table (length tuples) ordered is _
+    (rising-with_tuples table (rows_at db.rows number) tuples (rising-at db.schema.tables db.rows number table ordered.rising is))
+
+ordered-insert : (db : Db) (number : ℕ) (tuples : List Row) → IsOrdered db → IsOrdered (insert db number tuples).db
 unfolding insert
-insert_step db name tuple ordered None is = rw is ordered
-insert_step db name tuple ordered (Some table) is = rw is (put_step db name tuple table ordered is _ refl)
+ordered-insert db number tuples ordered = insert_step db number tuples ordered _ refl
 
 create_step : (db : Db) (table : CreateTable) → IsOrdered db → (why : Option Refusal) → IsOrdered (create_unless db table why).db
 unfolding create with_table
 create_step db table ordered None = record { rising = rising-append db.schema.tables db.rows (new_table db.schema table) ordered.rising }
 create_step db table ordered (Some why) = ordered
 
+ordered-create : (db : Db) (table : CreateTable) → IsOrdered db → IsOrdered (create_table db table).db
+unfolding create_table
+ordered-create db table ordered = create_step db table ordered _
+
 -- a statement leaves the keys rising
 ordered-run : (db : Db) (statement : Statement) → IsOrdered db → IsOrdered (run db statement).db
-unfolding run create_table
-ordered-run db (statement.CreateTable table) ordered = create_step db table ordered _
-ordered-run db (statement.Insert table None []) ordered = ordered
-ordered-run db (statement.Insert table None (tuple ∷ [])) ordered = insert_step db table tuple ordered _ refl
-ordered-run db (statement.Insert table None (tuple ∷ next ∷ tuples)) ordered = ordered
-ordered-run db (statement.Insert table (Some columns) tuples) ordered = ordered
-ordered-run db (statement.Select query) ordered = ordered
-ordered-run db (statement.CreateView view) ordered = ordered
-ordered-run db (statement.Update table sets cond) ordered = ordered
-ordered-run db (statement.Delete table cond) ordered = ordered
-ordered-run db statement.Begin ordered = ordered
-ordered-run db statement.Commit ordered = ordered
-ordered-run db statement.Rollback ordered = ordered
-ordered-run db (statement.GdprGet table key) ordered = ordered
-ordered-run db (statement.GdprForget table key) ordered = ordered
-ordered-run db statement.Explain ordered = ordered
-ordered-run db statement.Checkpoint ordered = ordered
+ordered-run db statement ordered =
+    of-run db (λ outcome. IsOrdered outcome.db) (λ reply. ordered) (λ number tuples. ordered-insert db number tuples ordered)
+    (λ table. ordered-create db table ordered) statement
 
 -- so does a request
 ordered-left_by : (db : Db) (request : Request) → IsOrdered db → IsOrdered (left_by db request)

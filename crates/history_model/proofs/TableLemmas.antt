@@ -1,16 +1,14 @@
 -- What a row more does to a table's rows, and to those of a database.
-use Rattle.std.proofs.Common.{◌≡◌, ℕ, zero, suc, ◌+◌, ◌<◌, List, [], ◌∷◌, ◌++◌, length, Bool, true, false, refl, ap, arith}
-use Rattle.std.specs.Prelude.{Option, Some, slice_get, slice_set, sum_by}
-use Rattle.std.specs.List.{AllByRecursion, position_or_len}
-use Rattle.std.specs.Str.{bytes_eq}
-use Rattle.std.proofs.lemmas.Bool.{lt-ltb}
+use Rattle.std.proofs.Common.{◌≡◌, ℕ, zero, suc, ◌+◌, List, [], ◌∷◌, ◌++◌, length, fold, Bool, true, false, refl, ap, arith}
+use Rattle.std.specs.Prelude.{Some, Result, Ok, Err, slice_get, slice_set, sum_by}
+use Rattle.std.specs.List.{AllByRecursion, list_any}
 use Rattle.std.proofs.lemmas.List.Sums.{sum_by-cons}
 use Rattle.own_base.specs.Row.{row_size}
-use Rattle.own_model.specs.declared.schema.Schema.{Schema}
+use Rattle.own_base.specs.declared.value.Key.{Key}
 use Rattle.own_model.specs.declared.schema.TableDef.{TableDef}
-use Rattle.own_model.specs.Db.{Row, Table, table_from}
-use Rattle.schema_model.specs.Tables.{number_of}
-use Rattle.history_model.specs.Run.{precedes, with_row}
+use Rattle.own_model.specs.Db.{Row, key_of}
+use Rattle.own_model.specs.Stored.{has_key, rows_at}
+use Rattle.history_model.specs.Insert.{and_tuple, precedes, with_row, with_tuple, with_tuples}
 use Rattle.history_model.specs.Sound.{AreRowsOf, IsRowOf}
 
 -- a row more in key order, by whatever the rows' measure is
@@ -55,81 +53,68 @@ module _ (table : TableDef) (row : Row) where
   size-with_row [] = omega arith
   size-with_row (first ∷ rest) = size_step first rest (size-with_row rest) _ refl
 
--- where a table stands that is found
-pub record IsAt (tables : List TableDef) (rows : List (List Row)) (table : Table) (place : ℕ) : Type 0 where
-  pub has_definition : slice_get tables place ≡ Some table.definition
-  pub has_rows : slice_get rows place ≡ Some table.rows
+-- what holds of the rows, where there are rows and no key that was there already
+abbrev pub IfRows : (List Row → Type 0) → Result (List Row) Key → Type 0
+IfRows P (Ok rows) = P rows
+IfRows P (Err key) = Unit {0}
 
-found_step : (number : ℕ) (name : List ℕ) (first : TableDef) (tables : List TableDef) (one : List Row) (rows : List (List Row)) (table : Table)
-    → (table_from (number + 1) name tables rows ≡ Some table → (place : ℕ) × (table.number ≡ number + 1 + place) × IsAt tables rows table place)
-    → (b : Bool) → bytes_eq first.name name ≡ b → table_from number name (first ∷ tables) (one ∷ rows) ≡ Some table
-    → (place : ℕ) × (table.number ≡ number + place) × IsAt (first ∷ tables) (one ∷ rows) table place
-unfolding table_from
-found_step number name first tables one rows table later true is found =
-    let both : ◌≡◌ {A = Option Table} (Some (record { number = number; definition = first; rows = one })) (Some table) = rw is at found in
-    let same : record { number = number; definition = first; rows = one } ≡ table = cc in
-    (0, (let n : number ≡ table.number = ap (λ t. t.number) same in omega arith), record { has_definition = ap (λ t. Some t.definition) same; has_rows = ap (λ t. Some t.rows) same })
-found_step number name first tables one rows table later false is found =
-    let there = later (rw is at found) in
-    (suc there.0, (let n = there.1 in omega arith), record { has_definition = there.2.has_definition; has_rows = there.2.has_rows })
+-- rows and tuples together, each of which has a property
+pub record AreTogether (P : Row → Type 0) (rows tuples together : List Row) : Type 0 where
+  pub each : AllByRecursion P together
+  pub counted : length together ≡ length rows + length tuples
+  pub sized : sum_by row_size together ≡ sum_by row_size rows + sum_by row_size tuples
 
-pub found-at : (number : ℕ) (name : List ℕ) (tables : List TableDef) (rows : List (List Row)) (table : Table) → table_from number name tables rows ≡ Some table
-    → (place : ℕ) × (table.number ≡ number + place) × IsAt tables rows table place
-unfolding table_from
-found-at number name [] rows table found = let never : ⊥ = cc in absurd never
-found-at number name (first ∷ tables) [] table found = let never : ⊥ = cc in absurd never
-found-at number name (first ∷ tables) (one ∷ rows) table found =
-    found_step number name first tables one rows table (found-at (number + 1) name tables rows table) _ refl found
+module _ (P : Row → Type 0) (table : TableDef) where
+  -- a key that was there stays told
+  refused_fold : (Q : List Row → Type 0) (key : Key) (tuples : List Row) → IfRows Q (fold (and_tuple table) (Err key) tuples)
+  refused_fold Q key [] = tt
+  refused_fold Q key (tuple ∷ tuples) = refused_fold Q key tuples
 
--- whether a table has a name
-abbrev is_of_name : List ℕ → TableDef → Bool
-is_of_name name table = bytes_eq table.name name
+  -- the first tuple and then the others
+  together_first : (rows : List Row) (tuple : Row) (tuples : List Row) (r : Result (List Row) Key) → IfRows (AreTogether P (with_row table tuple rows) tuples) r
+      → IfRows (AreTogether P rows (tuple ∷ tuples)) r
+  together_first rows tuple tuples (Err key) are = tt
+  together_first rows tuple tuples (Ok new) are =
+      let counted = are.counted in
+      let sized = are.sized in
+      let longer = length-with_row table tuple rows in
+      let heavier = size-with_row table tuple rows in
+      let own = sum_by-cons row_size tuple tuples in
+      record { each = are.each; counted = omega arith; sized = omega arith }
 
--- The number of a table that is found is that of the first table of its name.
-record IsFirstOf (number : ℕ) (name : List ℕ) (tables : List TableDef) (table : Table) : Type 0 where
-  counted : table.number ≡ number + position_or_len (is_of_name name) tables
-  within : position_or_len (is_of_name name) tables < length tables
+  -- by whether the first tuple's key was there
+  together_step : (rows : List Row) (tuple : Row) (tuples : List Row)
+      → IfRows (AreTogether P (with_row table tuple rows) tuples) (fold (and_tuple table) (Ok (with_row table tuple rows)) tuples)
+      → (b : Bool) → list_any (has_key table (key_of table tuple)) rows ≡ b
+      → IfRows (AreTogether P rows (tuple ∷ tuples)) (fold (and_tuple table) (with_tuple table rows tuple) tuples)
+  unfolding with_tuple
+  together_step rows tuple tuples later true is = rw is (refused_fold _ (key_of table tuple) tuples)
+  together_step rows tuple tuples later false is = rw is (together_first rows tuple tuples _ later)
 
-first_step : (number : ℕ) (name : List ℕ) (first : TableDef) (tables : List TableDef) (one : List Row) (rows : List (List Row)) (table : Table)
-    → (table_from (number + 1) name tables rows ≡ Some table → IsFirstOf (number + 1) name tables table)
-    → (b : Bool) → bytes_eq first.name name ≡ b → table_from number name (first ∷ tables) (one ∷ rows) ≡ Some table
-    → IsFirstOf number name (first ∷ tables) table
-unfolding table_from
-first_step number name first tables one rows table later true is found =
-    let both : ◌≡◌ {A = Option Table} (Some (record { number = number; definition = first; rows = one })) (Some table) = rw is at found in
-    let same : record { number = number; definition = first; rows = one } ≡ table = cc in
-    let own : number ≡ table.number = ap (λ t. t.number) same in
-    record { counted = rw is (omega arith); within = rw is (omega arith) }
-first_step number name first tables one rows table later false is found =
-    let there = later (rw is at found) in
-    let counted = there.counted in
-    let within = there.within in
-    record { counted = rw is (omega arith); within = rw is (omega arith) }
+  -- rows with tuples, one after another
+  pub together-with_tuples : (rows tuples : List Row) → AllByRecursion P rows → AllByRecursion P tuples
+      → IfRows (AreTogether P rows tuples) (with_tuples table rows tuples)
+  unfolding with_tuples
+  together-with_tuples rows [] all more = record { each = all; counted = omega arith; sized = omega arith }
+  together-with_tuples rows (tuple ∷ tuples) all more =
+      together_step rows tuple tuples
+      (together-with_tuples (with_row table tuple rows) tuples (all-with_row table tuple P rows more.0 all) more.1) _ refl
 
-first-found : (number : ℕ) (name : List ℕ) (tables : List TableDef) (rows : List (List Row)) (table : Table) → table_from number name tables rows ≡ Some table
-    → IsFirstOf number name tables table
-unfolding table_from
-first-found number name [] rows table found = let never : ⊥ = cc in absurd never
-first-found number name (first ∷ tables) [] table found = let never : ⊥ = cc in absurd never
-first-found number name (first ∷ tables) (one ∷ rows) table found =
-    first_step number name first tables one rows table (first-found (number + 1) name tables rows table) _ refl found
+-- a table's rows stand at its number
+pub rows-there : (tables : List TableDef) (rows : List (List Row)) (number : ℕ) (table : TableDef) → AreRowsOf tables rows
+    → slice_get tables number ≡ Some table → slice_get rows number ≡ Some (rows_at rows number)
+rows-there [] rows number table are is = cc
+rows-there (first ∷ tables) [] number table are is = absurd are
+rows-there (first ∷ tables) (one ∷ rows) zero table are is = refl
+rows-there (first ∷ tables) (one ∷ rows) (suc number) table are is = rows-there tables rows number table are.1 is
 
--- a table that is found by its name has the number of the name
-pub number-found : (schema : Schema) (rows : List (List Row)) (name : List ℕ) (table : Table) → table_from 0 name schema.tables rows ≡ Some table
-    → number_of schema name ≡ table.number
-number-found schema rows name table found =
-    let first = first-found 0 name schema.tables rows table found in
-    let counted = first.counted in
-    rw (lt-ltb (position_or_len (is_of_name name) schema.tables) (length schema.tables) first.within) (omega arith)
-
--- the rows of one table are those of the table
-pub rows-at : (tables : List TableDef) (rows : List (List Row)) (place : ℕ) (table : TableDef) (own : List Row) → AreRowsOf tables rows
-    → slice_get tables place ≡ Some table → slice_get rows place ≡ Some own → AllByRecursion (IsRowOf table) own
-rows-at [] rows place table own are is owns = cc
-rows-at (first ∷ tables) [] place table own are is owns = cc
-rows-at (first ∷ tables) (one ∷ rows) zero table own are is owns =
-    let same : first ≡ table = cc in let rest : one ≡ own = cc in rw (← same, ← rest) are.0
-rows-at (first ∷ tables) (one ∷ rows) (suc place) table own are is owns = rows-at tables rows place table own are.1 is owns
+-- and may stand in it
+pub rows-at : (tables : List TableDef) (rows : List (List Row)) (number : ℕ) (table : TableDef) → AreRowsOf tables rows
+    → slice_get tables number ≡ Some table → AllByRecursion (IsRowOf table) (rows_at rows number)
+rows-at [] rows number table are is = cc
+rows-at (first ∷ tables) [] number table are is = absurd are
+rows-at (first ∷ tables) (one ∷ rows) zero table are is = let same : first ≡ table = cc in rw (← same) are.0
+rows-at (first ∷ tables) (one ∷ rows) (suc number) table are is = rows-at tables rows number table are.1 is
 
 -- other rows of the table in their place
 pub rows-set : (tables : List TableDef) (rows : List (List Row)) (place : ℕ) (table : TableDef) (new : List Row) → AreRowsOf tables rows

@@ -4,6 +4,7 @@ pub mod Create
 pub mod Created
 pub mod Fault
 pub mod History
+pub mod Insert
 pub mod Made
 pub mod MayBeUnmade
 pub mod Named

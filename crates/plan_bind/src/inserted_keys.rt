@@ -10,7 +10,7 @@ use std::collections::BTreeSet;
 
 /// The primary key of a table's row. A value that stands in no primary key counts as 0.
 #[tactic(auto, unfolding(own_model::specs::Db::key_of))]
-fn key_of(alloc: Global, definition: &TableDef, row: &Row) -> Result<Key, AllocError>
+pub fn key_of(alloc: Global, definition: &TableDef, row: &Row) -> Result<Key, AllocError>
     ensures { IfOk result (λ key. key ≡ key_of definition.now row.now) }
 {
     match row.values().get(definition.key.0 as usize) {

@@ -22,4 +22,5 @@ mod value_kind;
 
 pub use bind_select::bind_view;
 pub use footprints::footprint;
+pub use inserted_keys::key_of;
 pub use statement::bind;

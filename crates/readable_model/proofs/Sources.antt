@@ -54,7 +54,7 @@ view-below : (schema : Schema) (name : NameBytes) → IsBelow (length schema.vie
 view-below schema name = find-below (λ view. bytes_eq view.name name) 0 schema.views (length schema.views) (omega arith)
 
 -- a table that has to be there
-table-there : (schema : Schema) (name : NameBytes) → no_table schema name ≡ [] → (table_number schema name).0 < length schema.tables
+pub table-there : (schema : Schema) (name : NameBytes) → no_table schema name ≡ [] → (table_number schema name).0 < length schema.tables
 table-there schema name none = table-below schema name (none-if (is_none (table_named schema name)) (NoTable name) none)
 
 -- where no table is named, a view is, and then nothing is grouped

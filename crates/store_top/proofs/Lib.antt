@@ -1,12 +1,13 @@
+pub mod BoundInserts
+pub mod BoundSelects
 pub mod CreatedTables
 pub mod FewColumns
-pub mod FittingValues
+pub mod InsertedRows
+pub mod KeptViews
 pub mod LastEntry
 pub mod NamedRows
-pub mod Placed
 pub mod PutRows
 pub mod Results
 pub mod Runs
 pub mod Serving
-pub mod StateRows
-pub mod StoredTables
+pub mod TheirParts

@@ -1,37 +1,27 @@
--- The row of a name, by the place at which a search finds it.
-use Rattle.std.proofs.Common.{◌≡◌, ◌<◌, ◌∙◌, ℕ, length, ap, sym, subst}
-use Rattle.std.specs.Prelude.{None, Some, slice_get, slice_index_or}
-use Rattle.std.specs.List.{HoldsAt}
-use Rattle.std.specs.declared.cmp.Ordering.TheVariants.{Equal}
-use Rattle.std.proofs.lemmas.Option.{slice_get-get_or}
+-- The row of a name in a state.
+use Rattle.std.proofs.Common.{◌≡◌, ◌<◌, ◌∙◌, length, ap, refl, subst, sym}
+use Rattle.std.specs.Prelude.{slice_index_or}
 use Rattle.own_base.specs.Key.{key_cmp}
+use Rattle.own_base.specs.declared.number.ColNo.{ColNo}
 use Rattle.own_base.specs.declared.row_name.RowName.{RowName}
-use Rattle.own_model.specs.declared.schema.TableDef.{TableDef}
-use Rattle.own_model.specs.Db.{Db, IsOrdered, IsRising, Row, key_of}
-use Rattle.own_model.specs.Stored.{row_named, rows_at}
-use Rattle.store_top.specs.Gap.{IsGap}
-use Rattle.store_top.proofs.Placed.{find-found, find-gap}
-use Rattle.store_top.proofs.StoredTables.{rising-at}
+use Rattle.own_model.specs.Stored.{row_named}
+use Rattle.page_model.specs.Found.{found}
+use Rattle.table_part.specs.KeyIn.{key_in}
+use Rattle.table_part.specs.Part.{Part, rows_of}
+use Rattle.table_part.proofs.KeyLemmas.{found-has_key}
+use Rattle.store_top.specs.State.{AreTheirParts, db_of}
+use Rattle.store_top.specs.declared.state.State.TheInside.{Inside}
+use Rattle.store_top.proofs.TheirParts.{part-key, part-rows, parts-count, some-table}
 
-module _ (db : Db) (name : RowName) (table : TableDef) (ordered : IsOrdered db) (within : name.table.0 < length db.schema.tables)
-    (own : slice_index_or db.schema.tables name.table.0 table ≡ table) where
-  -- the rows of the table rise
-  pub rising-named : IsRising table (rows_at db.rows name.table.0)
-  rising-named =
-      let P : TableDef → Type 0 = λ t. IsRising t (rows_at db.rows name.table.0) in
-      subst P own (rising-at db.schema.tables db.rows name.table.0 table ordered.rising within)
-
-  there : slice_get db.schema.tables name.table.0 ≡ Some table
-  there = slice_get-get_or db.schema.tables name.table.0 table within ∙ ap (λ t. Some t) own
-
-  -- a place at which a row has the key has the row of the name
-  pub row_named-found : (place : ℕ) (row : Row) → place < length (rows_at db.rows name.table.0)
-      → HoldsAt (λ row. key_cmp (key_of table row) name.key ≡ Equal) (rows_at db.rows name.table.0) place
-      → Some (slice_index_or (rows_at db.rows name.table.0) place row) ≡ row_named db.schema db.rows name
-  unfolding row_named
-  row_named-found place row lt found = rw there (sym (find-found table name.key (rows_at db.rows name.table.0) place row rising-named lt found))
-
-  -- where the key has a gap, there is no row of the name
-  pub row_named-gap : (place : ℕ) → IsGap table name.key (rows_at db.rows name.table.0) place → None ≡ row_named db.schema db.rows name
-  unfolding row_named
-  row_named-gap place gap = rw there (sym (find-gap table name.key (rows_at db.rows name.table.0) place gap))
+-- it is the one that the table's part finds
+pub row-named : (state : Inside) (name : RowName) (part : Part) → AreTheirParts state.catalog.schema.tables state.parts.items
+    → name.table.0 < length state.catalog.schema.tables → part ≡ slice_index_or state.parts.items name.table.0 part
+    → found (key_in part.key) key_cmp name.key (rows_of part) ≡ row_named (db_of state).schema (db_of state).rows name
+unfolding row_named
+row-named state name part are within own =
+    let table = some-table state.catalog.schema.tables name.table.0 within in
+    let key = part-key state.catalog.schema.tables state.parts.items name.table.0 table.0 part are table.1 own in
+    let rows = part-rows state.parts.items name.table.0 part (subst (λ count. name.table.0 < count) (sym (parts-count state.catalog.schema.tables state.parts.items are)) within) own in
+    ap (λ (column : ColNo). found (key_in column) key_cmp name.key (rows_of part)) key
+    ∙ (found-has_key table.0 name.key (rows_of part)
+    ∙ rw (table.1, rows) refl)

@@ -1,34 +1,111 @@
--- What a row put among those of one table does to the database.
-use Rattle.std.proofs.Common.{◌≡◌, ℕ, List, [], ap, sym, ◌∙◌}
-use Rattle.std.proofs.lemmas.List.{set-get_or}
-use Rattle.std.specs.Prelude.{Result, Ok, Err, Some, position, slice_index_or, slice_set}
-use Rattle.std.specs.Str.{bytes_eq}
+-- A row that is put into a part goes to its place by key.
+use Rattle.std.proofs.Common.{Bor, ◌≡◌, ◌∙◌, List, [], ◌∷◌, map, Bool, true, false, refl, ap, sym}
+use Rattle.std.specs.Prelude.{◌||◌, Option, Some, None, Ok, Err, cond, find, is_some}
+use Rattle.std.specs.List.{AllByRecursion, list_any}
+use Rattle.std.specs.Option.{option_copied}
+use Rattle.std.specs.List.Sorted.{IsStrictlySortedBy}
+use Rattle.std.specs.declared.cmp.Ordering.{Ordering}
+use Rattle.std.specs.declared.cmp.Ordering.TheVariants.{Less, Equal, Greater}
+use Rattle.own_base.specs.Key.{key_cmp}
+use Rattle.own_base.specs.declared.change.Change.{Change}
+use Rattle.own_base.specs.declared.number.ColNo.{ColNo}
 use Rattle.own_base.specs.declared.value.Key.{Key}
-use Rattle.own_model.specs.declared.reply.Reply.{Reply}
+use Rattle.own_model.proofs.KeyOrder.{key_order}
 use Rattle.own_model.specs.declared.schema.TableDef.{TableDef}
-use Rattle.own_model.specs.Db.{Db, IsOrdered, Row}
-use Rattle.own_model.specs.Stored.{rows_at}
-use Rattle.history_model.specs.Run.{Outcome, insert, put, with_tuple}
-use Rattle.store_top.specs.Put.{after_put}
-use Rattle.store_top.proofs.StoredTables.{table_of-found}
+use Rattle.own_model.specs.Db.{IsRising, Row, key_of}
+use Rattle.own_model.specs.Stored.{has_key}
+use Rattle.history_model.specs.Insert.{with_row, with_tuple}
+use Rattle.history_model.proofs.RisingKeys.{rising_next}
+use Rattle.page_model.specs.Changed.{above_key, below_key, with_change, with_changes}
+use Rattle.page_model.specs.Found.{found}
+use Rattle.table_part.specs.Changes.{changed_key, row_after}
+use Rattle.table_part.specs.KeyIn.{key_in}
+use Rattle.table_part.proofs.KeyLemmas.{found-has_key}
+use Rattle.table_part.specs.Part.{Part, rows_of}
+use Rattle.store_top.specs.Put.{IsPartOf}
 
--- an outcome, by its parts
-pub outcome : (a b : Db) (r s : Reply) → a ≡ b → r ≡ s → ◌≡◌ {A = Outcome} (record { db = a; reply = r }) (record { db = b; reply = s })
-outcome a b r s p q = λ i. record { db = p i; reply = q i }
+-- the other way round
+less_is_greater : (x y : Key) → key_cmp x y ≡ Less → key_cmp y x ≡ Greater
+less_is_greater x y less = rw (key_order.antisymm y x) (rw less refl)
 
--- the rows after a tuple was put or refused, as the definition has them
-put_cases : (db : Db) (name : List ℕ) (n : ℕ) (new : List Row) (reply : Reply) (r : Result (List Row) Key) → after_put name (rows_at db.rows n) r ≡ (new, reply)
-    → put db name n r ≡ record { db = record db { rows = slice_set db.rows n new }; reply = reply }
-put_cases db name n new reply (Ok rows) by =
-    outcome _ _ _ _ (ap (λ p. record db { rows = slice_set db.rows n p.0 }) by) (ap (λ p. p.1) by)
-put_cases db name n new reply (Err key) by =
-    let stays = ap (λ p. slice_set db.rows n p.0) (sym by) ∙ set-get_or db.rows n [] in
-    outcome _ _ _ _ (ap (λ rows. record db { rows = rows }) (sym stays)) (ap (λ p. p.1) by)
+greater_is_less : (x y : Key) → key_cmp x y ≡ Greater → key_cmp y x ≡ Less
+greater_is_less x y greater = rw (key_order.antisymm y x) (rw greater refl)
 
--- INSERT, where the rows of the table that has the name were put into
-pub insert-put : (db : Db) (name : List ℕ) (n : ℕ) (d : TableDef) (tuple : Row) (new : List Row) (reply : Reply) → IsOrdered db
-    → Some n ≡ position (λ table. bytes_eq table.name name) db.schema.tables
-    → after_put name (rows_at db.rows n) (with_tuple (slice_index_or db.schema.tables n d) (rows_at db.rows n) tuple) ≡ (new, reply)
-    → insert db name tuple ≡ record { db = record db { rows = slice_set db.rows n new }; reply = reply }
-unfolding insert
-insert-put db name n d tuple new reply ordered found by = rw (table_of-found db name n d ordered found) (put_cases db name n new reply _ by)
+module _ (table : TableDef) (key : Key) where
+  -- none of the rows behind one that is above the key is below it, and all are above it
+  none_below : (first : Row) (rest : List Row) → key_cmp key (key_of table first) ≡ Less → AllByRecursion (λ y. key_cmp (key_of table first) y ≡ Less) (map (key_of table) rest)
+      → (below_key (key_of table) key_cmp key rest ≡ []) × (above_key (key_of table) key_cmp key rest ≡ rest)
+  none_below first [] less all = (refl, refl)
+  none_below first (next ∷ rest) less all =
+      let greater : key_cmp (key_of table next) key ≡ Greater = less_is_greater key (key_of table next) (key_order.trans key (key_of table first) (key_of table next) less all.0) in
+      let later = none_below first rest less all.1 in
+      (rw greater later.0, rw greater (ap (λ rows. next ∷ rows) later.1))
+
+module _ (table : TableDef) (row : Row) where
+  with_row-step : (first : Row) (rest : List Row) → IsRising table (first ∷ rest) → list_any (has_key table (key_of table row)) (first ∷ rest) ≡ false
+      → (list_any (has_key table (key_of table row)) rest ≡ false → with_row table row rest ≡ with_change (key_of table) key_cmp (key_of table row) (Some row) rest)
+      → (o : Ordering) → key_cmp (key_of table first) (key_of table row) ≡ o
+      → with_row table row (first ∷ rest) ≡ with_change (key_of table) key_cmp (key_of table row) (Some row) (first ∷ rest)
+  unfolding with_row with_change IsStrictlySortedBy
+  with_row-step first rest rising absent later Less is = rw is (ap (λ rows. first ∷ rows) (later (rw is at absent)))
+  with_row-step first rest rising absent later Equal is = let never : true ≡ false = rw is at absent in absurd (cc)
+  with_row-step first rest rising absent later Greater is =
+      let behind = none_below table (key_of table row) first rest (greater_is_less (key_of table first) (key_of table row) is) rising.0 in
+      rw (is, behind.0, behind.1) refl
+
+  -- a row whose key isn't there, put at its place
+  pub with_row-changed : (rows : List Row) → IsRising table rows → list_any (has_key table (key_of table row)) rows ≡ false
+      → with_row table row rows ≡ with_change (key_of table) key_cmp (key_of table row) (Some row) rows
+  unfolding with_row with_change IsStrictlySortedBy
+  with_row-changed [] rising absent = refl
+  with_row-changed (first ∷ rest) rising absent = with_row-step first rest rising absent (λ none. with_row-changed rest rising.1 none) _ refl
+
+  -- a tuple whose key is there, and one whose key isn't
+  pub with_tuple-found : (rows : List Row) → list_any (has_key table (key_of table row)) rows ≡ true → with_tuple table rows row ≡ Err (key_of table row)
+  unfolding with_tuple
+  with_tuple-found rows there = rw there refl
+
+  pub with_tuple-absent : (rows : List Row) → IsRising table rows → list_any (has_key table (key_of table row)) rows ≡ false
+      → with_tuple table rows row ≡ Ok (with_change (key_of table) key_cmp (key_of table row) (Some row) rows)
+  unfolding with_tuple
+  with_tuple-absent rows rising absent = rw absent (ap (λ rows. Ok rows) (with_row-changed rows rising absent))
+
+any-step : (here : Bool) (row : Row) (later : Option Row) (rest : Bool) → is_some later ≡ rest → is_some (cond here (Some row) later) ≡ here || rest
+any-step true row later rest is = refl
+any-step false row later rest is = is
+
+-- a row is found where there is one
+found-any : (P : Row → Bool) (rows : List Row) → is_some (find P rows) ≡ list_any P rows
+found-any P [] = refl
+found-any P (row ∷ rows) = any-step (P row) row (find P rows) (list_any P rows) (found-any P rows)
+
+copied-some : {T : Type 0} (got : Option (Bor T)) → is_some (option_copied got) ≡ is_some got
+copied-some None = refl
+copied-some (Some row) = refl
+
+-- whether a part has a row of a key
+pub any-found : (table : TableDef) (column : ColNo) (key : Key) (rows : List Row) (got : Option (Bor Row)) → column ≡ table.key
+    → option_copied got ≡ found (key_in column) key_cmp key rows → list_any (has_key table key) rows ≡ is_some got
+any-found table column key rows got same is =
+    sym (found-any (has_key table key) rows)
+    ∙ (ap is_some (sym (found-has_key table key rows))
+    ∙ (ap (λ (column : ColNo). is_some (found (key_in column) key_cmp key rows)) (sym same) ∙ (ap is_some (sym is) ∙ copied-some got)))
+
+-- rows with one change that puts a row whose key isn't there
+pub put-absent : (table : TableDef) (row : Row) (rows new : List Row) (column : ColNo) (change : Change) → IsRising table rows
+    → list_any (has_key table (key_of table row)) rows ≡ false → column ≡ table.key → change.name.key ≡ key_of table row → change.after ≡ Some row
+    → new ≡ with_changes (key_in column) key_cmp changed_key row_after (change ∷ []) rows → Ok new ≡ with_tuple table rows row
+unfolding with_changes key_in key_of
+put-absent table row rows new column change rising absent same key after is =
+    ap (λ (rows : List Row). Ok rows)
+    (is
+    ∙ (ap (λ (column : ColNo). with_change (key_in column) key_cmp change.name.key change.after rows) same
+    ∙ (ap (λ (key : Key). with_change (key_of table) key_cmp key change.after rows) key
+    ∙ ap (λ (put : Option Row). with_change (key_of table) key_cmp (key_of table row) put rows) after)))
+    ∙ sym (with_tuple-absent table row rows rising absent)
+
+-- which is one of the table's rows
+pub put-into : (table : TableDef) (row : Row) (rows : List Row) (part : Part) → IsRising table rows → Ok (rows_of part) ≡ with_tuple table rows row
+    → part.key ≡ table.key → IsPartOf table part
+put-into table row rows part rising is keyed =
+    record { keyed = keyed; rising = rising_next table (Ok rows) row rising (Ok (rows_of part)) (sym is) }

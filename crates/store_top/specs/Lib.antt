@@ -1,6 +1,6 @@
+pub mod BoundThere
 pub mod Engine
-pub mod Gap
-pub mod KeyRef
+pub mod Kept
 pub mod Put
 pub mod State
 pub mod Status

@@ -5,7 +5,7 @@ use Rattle.std.specs.List.{AllByRecursion}
 use Rattle.own_model.specs.declared.script.ScriptCall.{ScriptCall}
 use Rattle.own_model.specs.Db.{empty}
 use Rattle.grammar_model.specs.Readable.{IsReadable}
-use Rattle.history_model.specs.History.{History, flat}
+use Rattle.history_model.specs.History.{History}
 use Rattle.history_model.specs.Made.{Want, Unmade, added, entry_of}
 use Rattle.history_model.specs.MayBeUnmade.{MayBeUnmade}
 use Rattle.transcript_model.specs.Transcript.{IsTranscript, text_of_call}
@@ -35,7 +35,7 @@ TellsCall (Err Memory) old new text = ToldBefore old new [] text
 pub record MakesCall {T E : Type 0} (bytes_of : T → List ℕ) (call : ScriptCall) (before after : History) (result : Result T E) : Type 0 where
   pub want : Want
   pub history_is : after ≡ before ++ added (entry_of empty before call) want
-  pub spared : want ≡ Unmade → MayBeUnmade (flat empty before) (entry_of empty before call).request
+  pub spared : want ≡ Unmade → MayBeUnmade (entry_of empty before call).request
   pub text_is : IfOk result (λ text. bytes_of text ≡ text_of_call empty before call want)
 
 -- The history grew by the call's entry, unless memory kept it from being made, and the sink has what the result says of
@@ -43,7 +43,7 @@ pub record MakesCall {T E : Type 0} (bytes_of : T → List ℕ) (call : ScriptCa
 pub record MakesCallTo (call : ScriptCall) (before after : History) (old new : Option (List ℕ)) (result : Result (Unit {0}) RunFault) : Type 0 where
   pub want : Want
   pub history_is : after ≡ before ++ added (entry_of empty before call) want
-  pub spared : want ≡ Unmade → MayBeUnmade (flat empty before) (entry_of empty before call).request
+  pub spared : want ≡ Unmade → MayBeUnmade (entry_of empty before call).request
   pub written : TellsCall result old new (text_of_call empty before call want)
 
 -- these calls were made in a run, and known bytes grew by its text
@@ -67,6 +67,6 @@ pub record StopsAtCall (calls : List ScriptCall) (history : History) (Told : Lis
   -- and with it
   pub want : Want
   pub history_is : history ≡ before ++ added (entry_of empty before last) want
-  pub spared : want ≡ Unmade → MayBeUnmade (flat empty before) (entry_of empty before last).request
+  pub spared : want ≡ Unmade → MayBeUnmade (entry_of empty before last).request
   pub made : IsTranscript empty (done ++ last ∷ []) history (text ++ text_of_call empty before last want)
   pub told : Told text (text_of_call empty before last want)

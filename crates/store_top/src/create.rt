@@ -14,6 +14,7 @@ use own_model::{CreateTable, Reply, Statement};
 use sql_print::print_statement;
 use std::alloc::{AllocError, Global};
 use std::mem::drop;
+use table_part::TablePart;
 
 impl State {
     /// CREATE TABLE, which the statement is. Where memory is refused, nothing changes.
@@ -49,8 +50,9 @@ impl State {
         ensures ok { IfOk result (λ reply. (reply ≡ Done) × (self.new ≡ db_with self.old admitted text)) }
         ensures err { OnErr result (self.new ≡ self.old) }
     {
+        let part = TablePart::new(admitted.table.key);
         let catalog = self.catalog.with_table(alloc, admitted, text)?;
-        self.rows.push(Vec::new(alloc))?;
+        self.parts.push(part)?;
         self.catalog = catalog;
         Ok(Reply::Done)
     }

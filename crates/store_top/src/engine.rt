@@ -63,7 +63,7 @@ impl Engine {
         ensures told { IfOk result (λ answered. (answered.place.0 ≡ length self.old.history.items)
             × Tells answered.reply (reply empty self.new.history.items (length self.old.history.items))) }
         ensures err { OnErr result (self.new.history.items ≡ self.old.history.items) }
-        ensures spared { OnErr result (MayBeUnmade (flat empty self.old.history.items) (entry_of empty self.old.history.items call).request) }
+        ensures spared { OnErr result (MayBeUnmade (entry_of empty self.old.history.items call).request) }
         ensures room { vec_capacity self.old.history ≤ vec_capacity self.new.history }
     {
         let entry = self.entry_of(call);
@@ -99,7 +99,7 @@ impl Engine {
         ensures told { IfOk result (λ answered. (answered.place.0 + 1 ≡ vec_len self.old.history)
             × Tells answered.reply (reply empty self.old.history.items (vec_len self.old.history - 1))) }
         ensures err { OnErr result (self.new.history.items ≡ take (vec_len self.old.history - 1) self.old.history.items) }
-        ensures spared { OnErr result ((default : _) → MayBeUnmade (flat empty (take (vec_len self.old.history - 1) self.old.history.items)) (slice_index_or self.old.history.items (vec_len self.old.history - 1) default).request) }
+        ensures spared { OnErr result ((default : _) → MayBeUnmade (slice_index_or self.old.history.items (vec_len self.old.history - 1) default).request) }
         ensures room { vec_capacity self.old.history ≤ vec_capacity self.new.history }
     {
         let last = self.history.len() - 1;

@@ -5,9 +5,9 @@
 mod built;
 mod create;
 mod engine;
-mod key_ref;
 mod rows;
 mod running;
+mod selecting;
 mod served;
 mod state;
 mod statements;

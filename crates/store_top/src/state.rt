@@ -1,25 +1,22 @@
-ghost use Rattle.std.specs.Prelude.{◌≡◌, ◌<◌, length, slice_index_or};
+ghost use Rattle.std.specs.Prelude.{◌≡◌, ◌<◌, slice_index_or, length};
 ghost use Rattle.own_model.specs.Db.{empty};
-ghost use Rattle.own_model.specs.Stored.{rows_at};
 
-use crate::key_ref::lent;
-use crate::rows::search;
 use annot_schema::Catalog;
 use own_base::{Row, RowName, TableNo};
 use own_model::{Schema, StoreView, TableDef};
 use std::alloc::Global;
 use std::marker::Model;
+use table_part::TablePart;
 
-/// What a store holds, which contracts see as the database: its catalog and, for each table by its number, its rows in
-/// strictly rising key order.
+/// What a store holds, which contracts see as the database: its catalog and, for each table by its number, its rows.
 #[derive(Drop)]
 pub(crate) struct State {
     pub(crate) catalog: Catalog,
-    pub(crate) rows: Vec<Vec<Row>>,
+    pub(crate) parts: Vec<TablePart>,
 }
 
 impl Model for State {
-    ghost use Rattle.own_model.specs.Db.{Db, IsOrdered};
+    ghost use Rattle.own_model.specs.Db.{Db};
     ghost use Rattle.own_model.specs.contracts.bound.BoundCond as cond;
     ghost use Rattle.std.specs.Coded.{codes};
 
@@ -27,11 +24,12 @@ impl Model for State {
 
     ghost coded = { Prim.hlevel (codes, cond.the_row.coded) };
 
-    ghost use Rattle.store_top.specs.State.{db_of};
+    ghost use Rattle.store_top.specs.State.{AreTheirParts, db_of};
+    ghost use Rattle.store_top.specs.Kept.{IsKept};
 
     ghost view = { db_of };
 
-    ghost invariant = { λ state. IsOrdered (db_of state) };
+    ghost invariant = { λ state. IsKept (db_of state) × AreTheirParts state.catalog.schema.tables state.parts.items };
 }
 
 /// The table of this number.
@@ -49,17 +47,7 @@ impl State {
     {
         State {
             catalog: Catalog::new(alloc),
-            rows: Vec::new(alloc),
-        }
-    }
-
-    /// The rows of the table of this number.
-    pub(crate) fn rows_of(&self, table: TableNo) -> &[Row]
-        ensures { result.now ≡ rows_at self.now.rows table.0 }
-    {
-        match self.rows.get(table.0 as usize) {
-            Some(rows) => rows.as_slice(),
-            None => &[],
+            parts: Vec::new(alloc),
         }
     }
 }
@@ -74,28 +62,18 @@ impl StoreView for State {
     }
 
     fn count(&self, table: TableNo) -> u64 {
-        self.rows_of(table).len() as u64
+        self.parts[table.0 as usize].len()
     }
 
     fn row_at(&self, table: TableNo, at: u64) -> Option<&Row> {
-        self.rows_of(table).get(at as usize)
+        self.parts[table.0 as usize].at(at)
     }
 
     fn row(&self, name: &RowName) -> Option<&Row> {
-        let table = table_at(&self.catalog, name.table);
-        let rows = self.rows_of(name.table);
-        match search(table, rows, lent(&name.key)) {
-            Ok(place) => Some(&rows[place]),
-            Err(_) => None,
-        }
+        self.parts[name.table.0 as usize].get(&name.key)
     }
 
     fn rows_from(&self, table: TableNo, at: u64) -> &[Row] {
-        let rows = self.rows_of(table);
-        if at < rows.len() as u64 {
-            &rows[at as usize..]
-        } else {
-            &[]
-        }
+        self.parts[table.0 as usize].rows_from(at)
     }
 }

@@ -1,47 +1,62 @@
-ghost use Rattle.std.specs.Prelude.{◌≡◌, IfOk, OnOk, OnErr};
+ghost use Rattle.std.specs.Prelude.{◌≡◌, ◌≢◌, ◌<◌, length, IfOk, OnOk, OnErr};
 ghost use Rattle.own_model.specs.declared.limit.TheConstants.{STATEMENT_BYTES};
-ghost use Rattle.own_model.specs.declared.reply.Reply.TheVariants.{Graph};
+ghost use Rattle.own_model.specs.declared.refusal.Refusal.TheVariants.{Memory};
+ghost use Rattle.own_model.specs.declared.reply.Reply.TheVariants.{Graph, Refused};
 ghost use Rattle.grammar_model.specs.Readable.{IsReadable, IsWritten};
 ghost use Rattle.history_model.specs.History.{answer_to, left_by};
-ghost use Rattle.history_model.specs.MayBeUnmade.{IsNoReading, MayBeUnmade};
-ghost use Rattle.history_model.specs.Run.{insert, run, select};
+ghost use Rattle.history_model.specs.MayBeUnmade.{MayBeUnmade, MayFail};
+ghost use Rattle.history_model.specs.Run.{insert, run, run_bound, run_unless};
+ghost use Rattle.query_model.specs.BoundStatement.{bound_statement};
+ghost use Rattle.query_eval.specs.Stored.{AreStored};
 ghost use Rattle.schema_model.specs.Explained.{explained};
+ghost use Rattle.schema_model.specs.WithinLimits.{IsWithinLimits};
 ghost use Rattle.transcript_model.specs.Printed.{MayTell};
+ghost use Rattle.store_top.specs.BoundThere.{NamesThere};
+ghost use Rattle.store_top.specs.Kept.{IsKept};
 
-use crate::rows::{copied, put};
+use crate::rows::with_rows;
 use crate::state::{State, table_at};
-use own_base::{MakeCopy, Name, Row};
-use own_model::{Refusal, Reply, Request, Statement};
+use own_base::{List, MakeCopy, Row, TableNo};
+use own_model::{Bound, Refusal, Reply, Request, Schema, Statement, StoreView};
+use plan_bind::bind;
 use std::alloc::{AllocError, Global};
+use std::mem::drop;
+
+/// The reply to a call that is refused, unless it is for want of memory.
+fn refused(why: Refusal) -> Result<Reply, AllocError>
+    ensures { IfOk result (λ reply. (reply ≡ Refused why) × (why ≢ Memory)) }
+{
+    match why {
+        Refusal::Memory => Err(AllocError),
+        why => Ok(Reply::Refused(why)),
+    }
+}
 
 impl State {
-    /// INSERT of one tuple.
+    /// INSERT that is bound.
     #[tactic(auto, unfolding(history_model::specs::Run::insert))]
-    fn insert(&mut self, alloc: Global, name: &Name, tuple: Row) -> Result<Reply, AllocError>
-        ensures ok { IfOk result (λ reply. insert self.old name.now tuple ≡ record { db = self.new; reply = reply }) }
+    fn insert(
+        &mut self,
+        alloc: Global,
+        number: TableNo,
+        rows: List<Row>,
+    ) -> Result<Reply, AllocError>
+        requires there { number.0 < length self.old.schema.tables }
+        requires stored { AreStored rows }
+        ensures ok { IfOk result (λ reply. insert self.old number.0 rows ≡ record { db = self.new; reply = reply }) }
         ensures err { OnErr result (self.new ≡ self.old) }
     {
-        match self.catalog.table(name) {
-            Some(number) => {
-                let table = table_at(&self.catalog, number);
-                put(alloc, table, &mut self.rows[number.0 as usize], name, tuple)
+        let table = table_at(&self.catalog, number);
+        let count = rows.items().len() as u64;
+        match with_rows(alloc, number, table, &self.parts[number.0 as usize], rows)? {
+            Ok(part) => {
+                self.parts[number.0 as usize] = part;
+                Ok(Reply::Counted(count))
             }
-            None => Ok(Reply::Refused(Refusal::NoTable(name.copy(alloc)?))),
-        }
-    }
-
-    /// SELECT * FROM the table. Where memory is refused for the rows, `Memory` is told in their place.
-    #[tactic(auto, unfolding(history_model::specs::Run::select))]
-    fn select(&self, alloc: Global, name: &Name) -> Result<Reply, AllocError>
-        ensures told { IfOk result (λ reply. MayTell reply (select self.now name.now)) }
-        ensures spared { OnErr result (IsNoReading (select self.now name.now)) }
-    {
-        match self.catalog.table(name) {
-            Some(number) => match copied(alloc, self.rows_of(number)) {
-                Ok(rows) => Ok(Reply::Rows(rows)),
-                Err(AllocError) => Ok(Reply::Refused(Refusal::Memory)),
-            },
-            None => Ok(Reply::Refused(Refusal::NoTable(name.copy(alloc)?))),
+            Err(key) => {
+                let table = table.name.copy(alloc)?;
+                Ok(Reply::Refused(Refusal::Duplicate { table, key }))
+            }
         }
     }
 
@@ -52,6 +67,52 @@ impl State {
         match self.catalog.explain(alloc) {
             Ok(graph) => graph,
             Err(AllocError) => Reply::Refused(Refusal::Memory),
+        }
+    }
+
+    /// Lends the schema. With it comes what holds of the database.
+    fn kept_schema(&self) -> &Schema
+        ensures same { result.now ≡ self.now.schema }
+        ensures within { IsWithinLimits result.now }
+        ensures kept { IsKept self.now }
+    {
+        self.catalog.schema()
+    }
+
+    /// Runs a bound statement. Where memory is refused for the rows of a SELECT, `Memory` is told in their place.
+    #[tactic(auto, unfolding(history_model::specs::Run::run_bound))]
+    fn run_bound(&mut self, alloc: Global, bound: Bound) -> Result<Reply, AllocError>
+        requires kept { IsKept self.old }
+        requires there { NamesThere self.old.schema bound }
+        ensures left { OnOk result (self.new ≡ (run_bound self.old bound).db) }
+        ensures told { IfOk result (λ reply. MayTell reply (run_bound self.old bound).reply) }
+        ensures err { OnErr result (self.new ≡ self.old) }
+    {
+        match bound {
+            Bound::Select(query) => {
+                let told = self.told(alloc, &query);
+                drop(query);
+                Ok(told)
+            }
+            Bound::Insert { table, rows } => self.insert(alloc, table, rows),
+            other => {
+                drop(other);
+                Ok(Reply::Refused(Refusal::Syntax(0)))
+            }
+        }
+    }
+
+    /// Runs a statement by what it means, or refuses it.
+    #[tactic(auto, using(readable_model::proofs::Within::statement_within))]
+    fn run_by_meaning(&mut self, alloc: Global, statement: &Statement) -> Result<Reply, AllocError>
+        requires { IsWritten STATEMENT_BYTES statement.now }
+        ensures left { OnOk result (self.new ≡ (run_unless self.old (bound_statement self.old.schema statement.now)).db) }
+        ensures told { IfOk result (λ reply. MayTell reply (run_unless self.old (bound_statement self.old.schema statement.now)).reply) }
+        ensures err { OnErr result (self.new ≡ self.old) }
+    {
+        match bind(alloc, self.kept_schema(), statement) {
+            Ok(bound) => self.run_bound(alloc, bound),
+            Err(why) => refused(why),
         }
     }
 }
@@ -65,21 +126,12 @@ impl State {
         ensures left { OnOk result (self.new ≡ (run self.old statement.now).db) }
         ensures told { IfOk result (λ reply. MayTell reply (run self.old statement.now).reply) }
         ensures err { OnErr result (self.new ≡ self.old) }
-        ensures spared { OnErr result (IsNoReading (run self.old statement.now).reply) }
+        ensures spared { OnErr result (MayFail statement.now) }
     {
         match statement {
             Statement::CreateTable(create) => self.create(alloc, create, statement),
             Statement::Explain => Ok(self.explain(alloc)),
-            Statement::Insert {
-                table,
-                columns: None,
-                rows,
-            } => match rows.items() {
-                [tuple] => self.insert(alloc, table, Row::from_values(tuple.copy(alloc)?)),
-                _ => Ok(Reply::Refused(Refusal::Syntax(0))),
-            },
-            Statement::Select(query) => self.select(alloc, &query.from),
-            _ => Ok(Reply::Refused(Refusal::Syntax(0))),
+            _ => self.run_by_meaning(alloc, statement),
         }
     }
 
@@ -91,7 +143,7 @@ impl State {
         ensures told { IfOk result (λ reply. MayTell reply (answer_to self.old request.now)) }
         ensures left { OnOk result (self.new ≡ left_by self.old request.now) }
         ensures err { OnErr result (self.new ≡ self.old) }
-        ensures spared { OnErr result (MayBeUnmade self.old request.now) }
+        ensures spared { OnErr result (MayBeUnmade request.now) }
     {
         match request {
             Request::Run(statement) => self.run(alloc, statement),

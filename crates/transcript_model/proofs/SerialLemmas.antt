@@ -1,201 +1,65 @@
 -- Every history of few entries and few bytes of texts is Serial.
 use Rattle.std.proofs.Common.{◌≡◌, ℕ, zero, suc, ◌+◌, ◌*◌, ◌≤◌, List, [], ◌∷◌, ◌++◌, length, map, fold, take, Bool, true, false, refl, ap, sym, subst, ◌∙◌, arith, append-nil}
-use Rattle.std.specs.Prelude.{Option, Some, None, Result, Ok, Err, slice_get, slice_set, sum_by, nat_lt, ◌==◌, ◌&&◌}
-use Rattle.std.specs.List.{AllByRecursion, list_any}
+use Rattle.std.specs.Prelude.{None, sum_by, nat_lt, ◌==◌, ◌&&◌}
+use Rattle.std.specs.List.{AllByRecursion}
 use Rattle.std.proofs.lemmas.Bool.{lt-leb}
 use Rattle.std.proofs.lemmas.List.{length-append, length-map, length-take-le}
 use Rattle.std.proofs.lemmas.List.Sums.{sum_by_push, sum_by-cons, sum_by-take-le}
-use Rattle.own_base.specs.Row.{row_size, value_size}
-use Rattle.own_base.specs.declared.row.TheConstants.{ROW_SIZE}
-use Rattle.own_base.specs.declared.value.Key.{Key}
-use Rattle.own_base.specs.declared.value.TheConstants.{VALUE_SIZE}
-use Rattle.own_base.specs.declared.value.Value.{Value}
-use Rattle.own_base.specs.declared.value.Value.TheVariants as value
-use Rattle.own_model.specs.declared.create.CreateTable.{CreateTable}
 use Rattle.own_model.specs.declared.history.Entry.{Entry}
-use Rattle.own_model.specs.declared.limit.TheConstants.{INPUT_BYTES, INPUT_CALLS, SESSIONS, STORE_ROWS, STORE_WEIGHT, TABLE_COLUMNS}
-use Rattle.own_model.specs.declared.refusal.Refusal.{Refusal}
+use Rattle.own_model.specs.declared.limit.TheConstants.{INPUT_BYTES, INPUT_CALLS, SESSIONS, STORE_ROWS, STORE_WEIGHT}
 use Rattle.own_model.specs.declared.request.Request.{Request}
 use Rattle.own_model.specs.declared.request.Request.TheVariants.{Run, Syntax, Limit, End}
 use Rattle.own_model.specs.declared.schema.Schema.{Schema}
-use Rattle.own_model.specs.declared.schema.TableDef.{TableDef}
 use Rattle.own_model.specs.declared.script.ScriptCall.{ScriptCall}
 use Rattle.own_model.specs.declared.statement.Statement.{Statement}
-use Rattle.own_model.specs.declared.statement.Statement.TheVariants as statement
-use Rattle.own_model.specs.Db.{Db, Row, Table, empty, key_of, table_from}
-use Rattle.own_model.specs.Stored.{has_key}
-use Rattle.own_model.specs.TextBytes.{asked_bytes, put_bytes, text_bytes, tuple_bytes}
-use Rattle.schema_model.specs.NewTable.{new_table}
-use Rattle.schema_model.specs.Tables.{number_of}
-use Rattle.schema_model.specs.WithTable.{with_table}
-use Rattle.schema_model.specs.WithinLimits.{IsTableWithin, IsWithinLimits}
+use Rattle.own_model.specs.Db.{Db, empty}
+use Rattle.own_model.specs.TextBytes.{asked_bytes}
 use Rattle.grammar_model.specs.Readable.{IsReadable}
 use Rattle.script_model.specs.Script.{HasCalls}
 use Rattle.script_model.proofs.InputCalls.{all-append, calls-few, calls-readable}
 use Rattle.script_model.proofs.TextBytes.{calls-bytes}
 use Rattle.history_model.specs.AreBuilt.{AreBuilt}
 use Rattle.history_model.specs.Built.{built, is_built}
-use Rattle.history_model.specs.Create.{create}
 use Rattle.history_model.specs.Created.{IsCreated}
 use Rattle.history_model.specs.Fault.{fault, row_count, weight}
 use Rattle.history_model.specs.History.{History, World, flat, happens, left_by, world}
 use Rattle.history_model.specs.Made.{Called, Want, Spared, Unshown, Unmade, added, after_call, entry_of, made}
-use Rattle.history_model.specs.Run.{create_table, create_unless, insert, put, run, with_row, with_tuple}
 use Rattle.history_model.specs.Serial.{Serial}
-use Rattle.history_model.specs.Sound.{AreRowsOf, IsRowOf}
 use Rattle.history_model.proofs.CreatedLemmas.{created-empty, created-left_by, within-created}
 use Rattle.history_model.proofs.RisingKeys.{ordered-empty, ordered-flat}
-use Rattle.history_model.proofs.TableLemmas.{IsAt, all-with_row, found-at, length-with_row, number-found, rows-append, rows-at, rows-set, size-with_row, sum-set}
 use Rattle.transcript_model.specs.Transcript.{IsTranscript}
-use Rattle.transcript_model.proofs.BuiltStatements.{FitsNamed, FitsTable, fits-built, is_built-of, length-of_kinds}
-use Rattle.transcript_model.proofs.ShortTexts.{written-short}
+use Rattle.transcript_model.proofs.BuiltStatements.{tuples_most}
+use Rattle.transcript_model.proofs.FewRows.{HasFew, few-empty, few-left_by}
 
 -- the bytes of the texts that an entry puts into rows
 abbrev pub entry_bytes : Entry → ℕ
 entry_bytes entry = asked_bytes entry.request
 
--- a value takes its size without text, and its bytes
-size_of : (value : Value) → value_size value ≡ VALUE_SIZE + text_bytes value
-size_of value.Null = omega arith
-size_of (value.Int number) = omega arith
-size_of (value.Sum number) = omega arith
-size_of (value.Text bytes) = refl
-
-size_of_all : (values : List Value) → sum_by value_size values ≡ VALUE_SIZE * length values + tuple_bytes values
-size_of_all [] = refl
-size_of_all (value ∷ values) =
-    let own = size_of value in
-    let rest = size_of_all values in
-    let sizes = sum_by-cons value_size value values in
-    let bytes = sum_by-cons text_bytes value values in
-    omega arith
-
--- what a row takes at most without the bytes of its texts, in a table of as many columns as there may be
-abbrev row_most : ℕ
-row_most = ROW_SIZE + TABLE_COLUMNS * VALUE_SIZE
-
-size-row : (table : TableDef) (row : Row) → length table.columns ≤ TABLE_COLUMNS → IsRowOf table row → row_size row ≤ row_most + tuple_bytes row
-size-row table row few is =
-    let long = length-of_kinds table.columns row is.kinds in
-    let size = size_of_all row in
-    omega arith
-
--- A database of so few rows that hold so few bytes of texts: each row is one of its table's.
-record HasFew (db : Db) (most bytes : ℕ) : Type 0 where
-  rows : AreRowsOf db.schema.tables db.rows
-  count : row_count db ≤ most
-  light : weight db ≤ row_most * most + bytes
-
-more : (db : Db) (most bytes other : ℕ) → HasFew db most bytes → HasFew db (most + 1) (bytes + other)
-more db most bytes other few = record { rows = few.rows; count = (let c = few.count in omega arith); light = (let w = few.light in omega arith) }
-
-few_same : (db : Db) (most same bytes other : ℕ) → most ≡ same → bytes ≡ other → HasFew db most bytes → HasFew db same other
-few_same db most same bytes other most_is bytes_is few = rw (← most_is, ← bytes_is) few
-
--- what holds of each table holds of one
-columns-at : (tables : List TableDef) (place : ℕ) (table : TableDef) → AllByRecursion IsTableWithin tables → slice_get tables place ≡ Some table
-    → length table.columns ≤ TABLE_COLUMNS
-columns-at [] place table all is = cc
-columns-at (first ∷ tables) zero table all is =
-    let same : first ≡ table = cc in let P : TableDef → Type 0 = λ t. length t.columns ≤ TABLE_COLUMNS in subst P same all.0.columns
-columns-at (first ∷ tables) (suc place) table all is = columns-at tables place table all.1 is
-
--- a tuple more
-few-with_row : (db : Db) (tuple : Row) (table : Table) (place most bytes : ℕ) → length table.definition.columns ≤ TABLE_COLUMNS → IsRowOf table.definition tuple
-    → IsAt db.schema.tables db.rows table place → HasFew db most bytes
-    → HasFew (record db { rows = slice_set db.rows place (with_row table.definition tuple table.rows) }) (most + 1) (bytes + tuple_bytes tuple)
-few-with_row db tuple table place most bytes within fits at few = record {
-  rows = rows-set db.schema.tables db.rows place table.definition (with_row table.definition tuple table.rows) few.rows at.has_definition
-      (all-with_row table.definition tuple (IsRowOf table.definition) table.rows fits
-      (rows-at db.schema.tables db.rows place table.definition table.rows few.rows at.has_definition at.has_rows));
-  count = (let longer = sum-set length db.rows place table.rows (with_row table.definition tuple table.rows) 1 at.has_rows
-      (length-with_row table.definition tuple table.rows) in let c = few.count in omega arith);
-  light = (let heavier = sum-set (sum_by row_size) db.rows place table.rows (with_row table.definition tuple table.rows) (row_size tuple) at.has_rows
-      (size-with_row table.definition tuple table.rows) in let w = few.light in let s = size-row table.definition tuple within fits in omega arith);
-}
-
--- rows with a tuple have it at its place
-tuple_step : (table : TableDef) (rows : List Row) (tuple : Row) (new : List Row) (b : Bool) → list_any (has_key table (key_of table tuple)) rows ≡ b
-    → with_tuple table rows tuple ≡ Ok new → with_row table tuple rows ≡ new
-unfolding with_tuple
-tuple_step table rows tuple new true is by = let never : ◌≡◌ {A = Result (List Row) Key} (Err (key_of table tuple)) (Ok new) = rw is at by in cc
-tuple_step table rows tuple new false is by = let both : ◌≡◌ {A = Result (List Row) Key} (Ok (with_row table tuple rows)) (Ok new) = rw is at by in cc
-
-put_step : (db : Db) (name : List ℕ) (tuple : Row) (table : Table) (most bytes : ℕ) → IsWithinLimits db.schema → FitsNamed db.schema name tuple
-    → table_from 0 name db.schema.tables db.rows ≡ Some table → HasFew db most bytes → (r : Result (List Row) Key) → with_tuple table.definition table.rows tuple ≡ r
-    → HasFew (put db name table.number r).db (most + 1) (bytes + tuple_bytes tuple)
-put_step db name tuple table most bytes within fits found few (Ok new) by =
-    let there = found-at 0 name db.schema.tables db.rows table found in
-    let number : there.0 ≡ table.number = (let n = there.1 in omega arith) in
-    let named : number_of db.schema name ≡ there.0 = number-found db.schema db.rows name table found ∙ sym number in
-    let same : with_row table.definition tuple table.rows ≡ new = tuple_step table.definition table.rows tuple new _ refl by in
-    let own : IsRowOf table.definition tuple = fits table.definition (rw named there.2.has_definition) in
-    rw (← same, ← number)
-    (few-with_row db tuple table there.0 most bytes (columns-at db.schema.tables there.0 table.definition within.each there.2.has_definition) own there.2 few)
-put_step db name tuple table most bytes within fits found few (Err key) by = more db most bytes _ few
-
-insert_step : (db : Db) (name : List ℕ) (tuple : Row) (most bytes : ℕ) → IsWithinLimits db.schema → FitsNamed db.schema name tuple → HasFew db most bytes
-    → (found : Option Table) → table_from 0 name db.schema.tables db.rows ≡ found → HasFew (insert db name tuple).db (most + 1) (bytes + tuple_bytes tuple)
-unfolding insert
-insert_step db name tuple most bytes within fits few None is = rw is (more db most bytes _ few)
-insert_step db name tuple most bytes within fits few (Some table) is = rw is (put_step db name tuple table most bytes within fits is few _ refl)
-
--- a table more
-few-create : (db : Db) (most bytes : ℕ) (table : CreateTable) → HasFew db most bytes → HasFew (create db table) most bytes
-unfolding create with_table
-few-create db most bytes table few = record {
-  rows = rows-append db.schema.tables db.rows (new_table db.schema table) few.rows;
-  count = (let same = sum_by_push length db.rows [] in let c = few.count in omega arith);
-  light = (let same = sum_by_push (sum_by row_size) db.rows [] in let w = few.light in omega arith);
-}
-
-create_step : (db : Db) (most bytes : ℕ) (table : CreateTable) → HasFew db most bytes → (why : Option Refusal) → HasFew (create_unless db table why).db most bytes
-create_step db most bytes table few None = few-create db most bytes table few
-create_step db most bytes table few (Some why) = few
-
--- a statement that is built adds one row at most, with the texts that it puts
-few-run : (db : Db) (statement : Statement) (most bytes : ℕ) → IsWithinLimits db.schema → FitsTable db.schema statement → HasFew db most bytes
-    → HasFew (run db statement).db (most + 1) (bytes + put_bytes statement)
-unfolding run create_table put_bytes
-few-run db (statement.CreateTable table) most bytes within fits few = more _ most bytes 0 (create_step db most bytes table few _)
-few-run db (statement.Insert table None (tuple ∷ [])) most bytes within fits few =
-    subst (HasFew (insert db table tuple).db (most + 1)) (let own = sum_by-cons tuple_bytes tuple [] in omega arith)
-    (insert_step db table tuple most bytes within fits.0 few _ refl)
-few-run db _ most bytes within fits few = more db most bytes _ few
-
--- so does a request that can be read and is built
-few-left_by : (db : Db) (session : ℕ) (request : Request) (most bytes : ℕ) → IsReadable request → built db.schema session request ≡ request
-    → IsWithinLimits db.schema → HasFew db most bytes → HasFew (left_by db request) (most + 1) (bytes + asked_bytes request)
-unfolding left_by asked_bytes
-few-left_by db session (Run statement) most bytes readable same within few =
-    few-run db statement most bytes within (fits-built db.schema statement (written-short _ statement readable) (is_built-of db.schema session statement same)) few
-few-left_by db session (Syntax byte) most bytes readable same within few = more db most bytes _ few
-few-left_by db session (Limit passed) most bytes readable same within few = more db most bytes _ few
-few-left_by db session End most bytes readable same within few = more db most bytes _ few
-
 -- an entry of a request that can be read
 abbrev pub HasReadable : Entry → Type 0
 HasReadable entry = IsReadable entry.request
 
+-- the same by equal numbers
+few_same : (db : Db) (most same bytes other : ℕ) → most ≡ same → bytes ≡ other → HasFew db most bytes → HasFew db same other
+few_same db most same bytes other most_is bytes_is few = rw (← most_is, ← bytes_is) few
+
+-- entries more
 few-fold : (before : World) (history : History) (most bytes : ℕ) → AllByRecursion HasReadable history → AreBuilt before.flat history → IsCreated before.flat
-    → HasFew before.flat most bytes → HasFew (fold happens before history).flat (most + length history) (bytes + sum_by entry_bytes history)
+    → HasFew before.flat most bytes → HasFew (fold happens before history).flat (most + tuples_most * length history) (bytes + sum_by entry_bytes history)
 few-fold before [] most bytes readable are_built created few = few_same before.flat most _ bytes _ (omega arith) (omega arith) few
 few-fold before (entry ∷ history) most bytes readable are_built created few =
     let next = few-left_by before.flat entry.session.0 entry.request most bytes readable.0 are_built.0 (within-created before.flat created) few in
-    let step = few-fold (happens before entry) history (most + 1) (bytes + entry_bytes entry) readable.1 are_built.1 (created-left_by before.flat entry.request created) next in
+    let step = few-fold (happens before entry) history (most + tuples_most) (bytes + entry_bytes entry) readable.1 are_built.1 (created-left_by before.flat entry.request created) next in
     let own = sum_by-cons entry_bytes entry history in
     few_same _ _ _ _ _ (omega arith) (omega arith) step
 
-few-empty : HasFew empty 0 0
-few-empty = record { rows = tt; count = omega arith; light = omega arith }
-
--- a history leaves at most a row for each entry, and the bytes of the texts that they put
-few-flat : (history : History) → AllByRecursion HasReadable history → AreBuilt empty history → HasFew (flat empty history) (length history) (sum_by entry_bytes history)
+-- a history leaves at most a few rows for each entry, and the bytes of the texts that they put
+few-flat : (history : History) → AllByRecursion HasReadable history → AreBuilt empty history → HasFew (flat empty history) (tuples_most * length history) (sum_by entry_bytes history)
 unfolding flat world
 few-flat history readable are_built = few_same _ _ _ _ _ (omega arith) (omega arith) (few-fold _ history 0 0 readable are_built created-empty few-empty)
 
 -- so few rows and bytes pass no limit
-faultless-few : (db : Db) (most bytes : ℕ) → most ≤ INPUT_CALLS + SESSIONS → bytes ≤ INPUT_BYTES → HasFew db most bytes → fault db ≡ None
+faultless-few : (db : Db) (most bytes : ℕ) → most ≤ tuples_most * (INPUT_CALLS + SESSIONS) → bytes ≤ INPUT_BYTES → HasFew db most bytes → fault db ≡ None
 unfolding fault
 faultless-few db most bytes short small few =
     let rows : nat_lt STORE_ROWS (row_count db) ≡ false = (let c = few.count in lt-leb _ _ (omega arith)) in
@@ -223,7 +87,7 @@ serial-few history short small readable are_built = record {
       let long : length front ≡ place = length-take-le place history within in
       let light : sum_by entry_bytes front ≤ sum_by entry_bytes history = sum_by-take-le entry_bytes history place in
       record {
-        faultless = faultless-few (flat empty front) (length front) (sum_by entry_bytes front) (omega arith) (omega arith) few;
+        faultless = faultless-few (flat empty front) (tuples_most * length front) (sum_by entry_bytes front) (omega arith) (omega arith) few;
         ordered = ordered-flat empty front ordered-empty;
         rows = few.rows;
       };

@@ -4,7 +4,8 @@ use Rattle.std.specs.Prelude.{Option, None, Some}
 use Rattle.std.specs.Option.{option_map_or}
 use Rattle.std.proofs.lemmas.List.{length-append, length-map}
 use Rattle.own_model.specs.declared.history.Entry.{Entry}
-use Rattle.own_model.specs.declared.refusal.Refusal.TheVariants.{Memory}
+use Rattle.own_model.specs.declared.limit.LimitName.TheVariants as limit
+use Rattle.own_model.specs.declared.refusal.Refusal.TheVariants.{Limit, Memory}
 use Rattle.own_model.specs.declared.reply.Reply.{Reply}
 use Rattle.own_model.specs.declared.reply.Reply.TheVariants.{Graph, Refused, Rows}
 use Rattle.own_model.specs.declared.script.ScriptCall.{ScriptCall}
@@ -72,6 +73,7 @@ told-same place session call Spared reply none = refl
 told-same place session call Unmade reply none = refl
 told-same place session call Unshown (Rows rows) none = absurd (none (tells-memory place session call))
 told-same place session call Unshown (Graph lines) none = absurd (none (tells-memory place session call))
+told-same place session call Unshown (Refused (Limit limit.Reply)) none = absurd (none (tells-memory place session call))
 told-same place session call Unshown _ none = refl
 
 found-same : (place session call : ℕ) (want : Want) (found : Option Reply)

@@ -5,7 +5,7 @@ use Rattle.std.proofs.lemmas.List.{map-append}
 use Rattle.own_model.specs.declared.reply.Reply.{Reply}
 use Rattle.own_model.specs.declared.script.ScriptCall.{ScriptCall}
 use Rattle.own_model.specs.Db.{Db}
-use Rattle.history_model.specs.History.{History, flat, reply}
+use Rattle.history_model.specs.History.{History, reply}
 use Rattle.history_model.specs.Made.{Want, Spared, Unshown, Unmade, Called, added, after_call, entry_of, made, place_by}
 use Rattle.history_model.specs.MayBeUnmade.{MayBeUnmade}
 use Rattle.history_model.proofs.UnmadeLemmas.{unmade-append}
@@ -19,7 +19,7 @@ use Rattle.transcript_model.proofs.PrintedLemmas.{CallsWithin, EntriesWithin, Is
 -- A call more: its entry goes after the history, unless memory refused it, and its lines after the text.
 pub transcript-more : (base : Db) (calls : List ScriptCall) (history : History) (text : List ℕ) (call : ScriptCall) (want : Want)
     → IsTranscript base calls history text → IsNext calls call → CallsWithin calls calls → EntriesWithin calls history
-    → (want ≡ Unmade → MayBeUnmade (flat base history) (entry_of base history call).request)
+    → (want ≡ Unmade → MayBeUnmade (entry_of base history call).request)
     → IsTranscript base (calls ++ call ∷ []) (history ++ added (entry_of base history call) want)
     (text ++ lines_at base (history ++ added (entry_of base history call) want) (record { call = call; want = want }) (place_by want (length history)))
 unfolding made
@@ -34,7 +34,7 @@ transcript-more base calls history text call want run next within earlier cause 
       called = run.called ++ last ∷ [];
       calls_are = same_calls;
       unmade = unmade-append base [] run.called last run.unmade
-          (λ unmade. let P : History → Type 0 = λ h. MayBeUnmade (flat base h) (entry_of base h call).request in subst P run.history_is (cause unmade));
+          (λ unmade. let P : History → Type 0 = λ h. MayBeUnmade (entry_of base h call).request in subst P run.history_is (cause unmade));
       history_is = ap (λ h. after_call base h last) run.history_is ∙ sym (made-append base run.called last);
       text_is = ap (λ t. t ++ lines_at base grown last (place_by want (length history))) before
           ∙ (ap (λ l. printed base grown run.called ++ l) lines ∙ sym (printed-last base grown run.called last));

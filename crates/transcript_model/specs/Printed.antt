@@ -3,7 +3,8 @@ use Rattle.std.specs.Prelude.{◌≡◌, ◌⊎◌, ℕ, ◌+◌, List, [], ◌�
 use Rattle.std.specs.List.{flat_map}
 use Rattle.std.specs.Option.{option_map_or}
 use Rattle.own_model.specs.declared.history.Entry.{Entry}
-use Rattle.own_model.specs.declared.refusal.Refusal.TheVariants.{Memory}
+use Rattle.own_model.specs.declared.refusal.Refusal.TheVariants.{Limit, Memory}
+use Rattle.own_model.specs.declared.limit.LimitName.TheVariants as limit
 use Rattle.own_model.specs.declared.reply.Reply.{Reply}
 use Rattle.own_model.specs.declared.reply.Reply.TheVariants.{Rows, Graph, Refused}
 use Rattle.own_model.specs.declared.script.ScriptCall.{ScriptCall}
@@ -25,10 +26,12 @@ place_from place call (entry ∷ history) = if is_of call entry then Some place 
 abbrev pub place_of : History → ScriptCall → Option ℕ
 place_of history call = place_from 0 call history
 
--- what is told of a reply: `memory` may stand in the place of what was read, rows or the lines of EXPLAIN COMPLIANCE
+-- what is told of a reply: `memory` may stand in the place of what was read: rows, also where they are too many to be shown,
+-- or the lines of EXPLAIN COMPLIANCE
 abbrev pub told : Want → Reply → Reply
 told Unshown (Rows rows) = Refused Memory
 told Unshown (Graph lines) = Refused Memory
+told Unshown (Refused (Limit limit.Reply)) = Refused Memory
 told Unshown reply = reply
 told Spared reply = reply
 told Unmade reply = reply

@@ -7,9 +7,8 @@ use Rattle.own_model.specs.declared.reply.Reply.TheVariants.{Done}
 use Rattle.own_model.specs.declared.schema.Schema.{Schema}
 use Rattle.own_model.specs.Stored.{holds_rows}
 use Rattle.text_model.specs.Canonical.{canonical}
-use Rattle.store_top.proofs.CreatedTables.{create-admitted}
+use Rattle.store_top.proofs.CreatedTables.{create-admitted, outcome}
 use Rattle.store_top.proofs.FewColumns.{columns-few}
-use Rattle.store_top.proofs.PutRows.{outcome}
 use Rattle.store_top.proofs.state.State.create.Goals as goal
 
 pub admit-requires-clause-columns : goal.admit-requires-clause-columns
