@@ -1,2 +1,3 @@
-pub mod NodeLemmas
-pub mod WalkLemmas
+mod NodeLemmas
+mod SearchLemmas
+mod WalkLemmas

@@ -3,13 +3,16 @@ ghost use Rattle.page_model.specs.ChangedPages.{AddsPages};
 ghost use Rattle.page_model.specs.Page.{joined};
 ghost use Rattle.page_tree.specs.Body.{pages_of};
 
-use crate::node::{Body, Node, halves};
+use crate::node::{Body, Node, parted};
 use page_model::PAGE_ITEMS;
 use std::alloc::{AllocError, Global};
 use std::sync::Arc;
 
+/// The most items of a page that is made; a page has fewer than it may have, since a change of one item copies all of them.
+const FULL_PAGE: usize = 32;
+
 /// The most nodes right below a node.
-const INNER_NODES: usize = 16;
+const INNER_NODES: usize = 8;
 
 /// A node of one page.
 fn leaf<T: Drop>(alloc: Global, page: Vec<T>) -> Result<Arc<Node<T>, Global>, AllocError>
@@ -80,7 +83,7 @@ pub(crate) fn push_pages<T: Drop>(
     ensures { OnOk result (AddsPages items.items (pages_of made.old.items) (pages_of made.new.items)) }
 {
     let mut items = items;
-    if items.len() > PAGE_ITEMS {
+    if items.len() > FULL_PAGE {
         let others = items.split_off(items.len() / 2)?;
         items.shrink_to_fit();
         made.push(leaf(alloc, items)?)?;
@@ -108,7 +111,7 @@ fn push_groups<T: Drop>(
         made.push(inner(alloc, shared)?)?;
         return Ok(());
     }
-    let (front, back) = halves(nodes);
+    let (front, back) = parted(nodes, nodes.len() / 2);
     push_groups(alloc, front, made)?;
     push_groups(alloc, back, made)
 }

@@ -11,7 +11,7 @@ ghost use Rattle.page_tree.specs.Body.{pages_of};
 use crate::build::{push_above, push_nodes, push_pages};
 use crate::key::{ChangeOf, KeyOf};
 use crate::merge::merged;
-use crate::node::{Body, Node, first_of, halves};
+use crate::node::{Body, Node, first_of, parted};
 use crate::search::place_of;
 use own_base::MakeCopy;
 use page_model::PAGE_ITEMS;
@@ -104,7 +104,7 @@ fn change_nodes<T: MakeCopy + Drop, By: KeyOf<T>, C: ChangeOf<T, By::Key>>(
     if nodes.len() == 1 {
         return change_node(alloc, by, &nodes[0], changes, made);
     }
-    let (front, back) = halves(nodes);
+    let (front, back) = parted(nodes, 1);
     let (below, others) = split_at(by, changes, first_of(back));
     change_nodes(alloc, by, front, below, made)?;
     change_nodes(alloc, by, back, others, made)

@@ -116,21 +116,21 @@ pub(crate) fn first_of<T>(nodes: &[Arc<Node<T>, Global>]) -> &T
     nodes[0].first()
 }
 
-/// The first half of some nodes, and the other. Takes no memory.
-pub(crate) fn halves<T>(
+/// So many of some nodes, and the others. Takes no memory.
+pub(crate) fn parted<T>(
     nodes: &[Arc<Node<T>, Global>],
+    count: usize,
 ) -> (&[Arc<Node<T>, Global>], &[Arc<Node<T>, Global>])
-    requires { 1 < length nodes.now }
-    ensures front { 0 < length result.0.now }
-    ensures back { 0 < length result.1.now }
-    ensures first { length result.0.now ≡ length nodes.now / 2 }
-    ensures second { length result.0.now + length result.1.now ≡ length nodes.now }
+    requires some { 0 < count }
+    requires others { count < length nodes.now }
+    ensures front { length result.0.now ≡ count }
+    ensures back { length result.1.now + count ≡ length nodes.now }
     ensures pages { pages_of nodes.now ≡ pages_of result.0.now ++ pages_of result.1.now }
     ensures items { joined (pages_of nodes.now) ≡ joined (pages_of result.0.now) ++ joined (pages_of result.1.now) }
     ensures fewer { nodes_of nodes.now ≡ nodes_of result.0.now + nodes_of result.1.now }
     ensures some { (0 < nodes_of result.0.now) × (0 < nodes_of result.1.now) }
 {
-    nodes.split_at(nodes.len() / 2)
+    nodes.split_at(count)
 }
 
 /// The page of a number among the pages of some nodes.

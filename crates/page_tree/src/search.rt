@@ -7,7 +7,7 @@ ghost use Rattle.page_model.specs.Rising.{IsRising};
 ghost use Rattle.page_tree.specs.Body.{pages_of};
 
 use crate::key::KeyOf;
-use crate::node::{Body, Node, first_of, halves};
+use crate::node::{Body, Node, first_of, parted};
 use std::alloc::Global;
 use std::sync::Arc;
 
@@ -16,7 +16,12 @@ pub(crate) fn place_of<T, By: KeyOf<T>>(by: By, items: &[T], key: &By::Key) -> u
     requires { IsRising (By.key_of by) By.key_cmp items.now }
     ensures { IsPlaceOf (By.key_of by) By.key_cmp key.now items.now result }
 {
-    items.partition_point(|item| by.compare(item, key).is_lt())
+    for (place, item) in items.iter().enumerate() {
+        if !by.compare(item, key).is_lt() {
+            return place;
+        }
+    }
+    items.len()
 }
 
 /// The item of a key among these items. Takes no memory.
@@ -63,7 +68,7 @@ fn item_among<'a, T, By: KeyOf<T>>(
     if nodes.len() == 1 {
         return item_in(by, &nodes[0], key);
     }
-    let (front, back) = halves(nodes);
+    let (front, back) = parted(nodes, 1);
     if by.compare(first_of(back), key).is_gt() {
         item_among(by, front, key)
     } else {

@@ -58,7 +58,7 @@ pub change_nodes-change_nodes-requires : goal.change_nodes-change_nodes-requires
 change_nodes-change_nodes-requires g t c κs within =
     let key_of = g.By.KeyOf.key_of c.args.by in
     let cmp = g.By.KeyOf.key_cmp in
-    let nodes = c.halves.ensures in
+    let nodes = c.parted.ensures in
     let changes = c.split_at.ensures in
     let pages = subst ArePages nodes.pages c.requires.pages in
     let rising = subst (IsRising key_of cmp) nodes.items c.requires.rising in
@@ -74,11 +74,11 @@ change_nodes-change_nodes-requires g t c κs within =
             (
               within.1.1.1,
               (
-                nodes.front,
+                omega (arith, nodes.front),
                 (
-                  each_front _ (pages_of c.halves.result.0.now) (pages_of c.halves.result.1.now) pages,
+                  each_front _ (pages_of c.parted.result.0.now) (pages_of c.parted.result.1.now) pages,
                   (
-                    rising_front key_of cmp (joined (pages_of c.halves.result.0.now)) (joined (pages_of c.halves.result.1.now)) rising,
+                    rising_front key_of cmp (joined (pages_of c.parted.result.0.now)) (joined (pages_of c.parted.result.1.now)) rising,
                     (rising_front g.C.ChangeOf.changed cmp c.split_at.result.0.now c.split_at.result.1.now rises, each_front _ c.split_at.result.0.now c.split_at.result.1.now keyed),
                   ),
                 ),
@@ -93,7 +93,7 @@ pub change_nodes-change_nodes-requires-2 : goal.change_nodes-change_nodes-requir
 change_nodes-change_nodes-requires-2 g t c κs within =
     let key_of = g.By.KeyOf.key_of c.args.by in
     let cmp = g.By.KeyOf.key_cmp in
-    let nodes = c.halves.ensures in
+    let nodes = c.parted.ensures in
     let changes = c.split_at.ensures in
     let pages = subst ArePages nodes.pages c.requires.pages in
     let rising = subst (IsRising key_of cmp) nodes.items c.requires.rising in
@@ -109,11 +109,11 @@ change_nodes-change_nodes-requires-2 g t c κs within =
             (
               within.1.1.1,
               (
-                nodes.back,
+                omega (arith, nodes.back),
                 (
-                  each_back _ (pages_of c.halves.result.0.now) (pages_of c.halves.result.1.now) pages,
+                  each_back _ (pages_of c.parted.result.0.now) (pages_of c.parted.result.1.now) pages,
                   (
-                    rising_back key_of cmp (joined (pages_of c.halves.result.0.now)) (joined (pages_of c.halves.result.1.now)) rising,
+                    rising_back key_of cmp (joined (pages_of c.parted.result.0.now)) (joined (pages_of c.parted.result.1.now)) rising,
                     (rising_back g.C.ChangeOf.changed cmp c.split_at.result.0.now c.split_at.result.1.now rises, each_back _ c.split_at.result.0.now c.split_at.result.1.now keyed),
                   ),
                 ),
@@ -129,15 +129,15 @@ pub change_nodes-returns : goal.change_nodes-returns
 change_nodes-returns g t c =
     let key_of = g.By.KeyOf.key_of c.args.by in
     let cmp = g.By.KeyOf.key_cmp in
-    let front = pages_of c.halves.result.0.now in
-    let back = pages_of c.halves.result.1.now in
-    let rising = subst (λ pages. IsRising key_of cmp (joined pages)) c.halves.ensures.pages c.requires.rising in
+    let front = pages_of c.parted.result.0.now in
+    let back = pages_of c.parted.result.1.now in
+    let rising = subst (λ pages. IsRising key_of cmp (joined pages)) c.parted.ensures.pages c.requires.rising in
     let keyed = each_front _ c.split_at.result.0.now c.split_at.result.1.now (subst (AreKeyed key_of g.C.ChangeOf.changed g.C.ChangeOf.put) c.split_at.ensures.all c.requires.keyed) in
     let first = c.in_ok-change_nodes.ensures in
     on_ok_weaker c.change_nodes-2.result
     (λ adds.
     subst (λ changes. AddsChanged key_of cmp g.C.ChangeOf.changed g.C.ChangeOf.put (pages_of c.args.nodes.now) changes (pages_of c.args.made.now.items) (pages_of c.change_nodes-2.new.made.items)) (sym c.split_at.ensures.all)
-    (subst (λ old. AddsChanged key_of cmp g.C.ChangeOf.changed g.C.ChangeOf.put old (c.split_at.result.0.now ++ c.split_at.result.1.now) (pages_of c.args.made.now.items) (pages_of c.change_nodes-2.new.made.items)) (sym c.halves.ensures.pages)
+    (subst (λ old. AddsChanged key_of cmp g.C.ChangeOf.changed g.C.ChangeOf.put old (c.split_at.result.0.now ++ c.split_at.result.1.now) (pages_of c.args.made.now.items) (pages_of c.change_nodes-2.new.made.items)) (sym c.parted.ensures.pages)
     (adds_both key_of g.met.By.KeyOf.total g.C.ChangeOf.changed g.C.ChangeOf.put front back c.first_of.result.now c.first_of.ensures.others c.first_of.ensures.behind
     c.split_at.result.0.now c.split_at.result.1.now (pages_of c.args.made.now.items) (pages_of c.change_nodes.new.made.items) (pages_of c.change_nodes-2.new.made.items)
     c.first_of.ensures.is rising keyed c.split_at.ensures.below c.split_at.ensures.others first adds)))
