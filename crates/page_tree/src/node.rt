@@ -8,10 +8,12 @@ use std::alloc::Global;
 use std::marker::Model;
 use std::sync::Arc;
 
-/// A node of the tree: a page, or some nodes and their pages in their order.
+/// A node of the tree: a page, or some nodes and their pages in their order. The first item and the counts stand beside
+/// them, so that nothing below has to be looked at for those.
 #[cycle(node)]
 #[derive(Drop)]
 pub(crate) struct Node<T> {
+    pub(crate) first: T,
     pub(crate) items: usize,
     pub(crate) pages: usize,
     pub(crate) body: Body<T>,
@@ -27,16 +29,16 @@ pub(crate) enum Body<T> {
 
 impl<T> Model for Node<T> {
     ghost use Rattle.std.specs.Prelude.{◌≡◌, length};
-    ghost use Rattle.page_model.specs.Page.{joined};
+    ghost use Rattle.page_model.specs.Page.{joined, IsFirst};
     ghost use Rattle.page_tree.specs.Branch.{Branch};
 
     ghost Value = { Branch T };
 
-    ghost use Rattle.page_tree.specs.Body.{branch_of, IsFilled};
+    ghost use Rattle.page_tree.specs.Body.{branch_of};
 
     ghost view = { λ node. branch_of node.body };
 
-    ghost invariant = { λ node. (node.items ≡ length (joined (branch_of node.body).pages)) × (node.pages ≡ length (branch_of node.body).pages) × IsFilled node.body };
+    ghost invariant = { λ node. (node.items ≡ length (joined (branch_of node.body).pages)) × (node.pages ≡ length (branch_of node.body).pages) × IsFirst node.first (branch_of node.body).pages };
 
     ghost size = { λ branch. branch.below };
 
@@ -61,14 +63,10 @@ impl<T> Node<T> {
     }
 
     /// The first item. Takes no memory.
-    #[cycle(first)]
     pub(crate) fn first(&self) -> &T
         ensures { IsFirst result.now self.now.pages }
     {
-        match &self.body {
-            Body::Leaf(page) => &page[0],
-            Body::Inner(kids) => first_of(kids.as_slice()),
-        }
+        &self.first
     }
 
     /// The page of a number, counted from 0. Takes no memory.
@@ -108,7 +106,6 @@ impl<T> Node<T> {
 }
 
 /// The first item of some nodes. Takes no memory.
-#[cycle(first)]
 pub(crate) fn first_of<T>(nodes: &[Arc<Node<T>, Global>]) -> &T
     requires { 0 < length nodes.now }
     ensures { IsFirst result.now (pages_of nodes.now) }

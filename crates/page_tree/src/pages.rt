@@ -180,7 +180,7 @@ impl<T, By: KeyOf<T>> MakeCopy for Pages<T, By> {
 }
 
 /// One node above these, where there is one. Fewer nodes stand at the top after each step.
-fn rooted<T: Drop>(
+fn rooted<T: MakeCopy + Drop>(
     alloc: Global,
     nodes: Vec<Arc<Node<T>, Global>>,
 ) -> Result<Option<Arc<Node<T>, Global>>, AllocError>
