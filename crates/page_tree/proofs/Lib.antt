@@ -1,3 +1,4 @@
 mod NodeLemmas
+mod NodeOfLemmas
 mod SearchLemmas
 mod WalkLemmas

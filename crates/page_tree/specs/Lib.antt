@@ -2,3 +2,4 @@ pub mod Body
 pub mod Branch
 pub mod Falls
 pub mod ItemsLeft
+pub mod NodeOf
