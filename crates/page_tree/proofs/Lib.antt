@@ -1,3 +1,4 @@
+mod ChangeLemmas
 mod NodeLemmas
 mod NodeOfLemmas
 mod SearchLemmas

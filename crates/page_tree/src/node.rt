@@ -1,4 +1,4 @@
-ghost use Rattle.std.specs.Prelude.{◌≡◌, ◌<◌, ◌+◌, ◌/◌, ◌++◌, length, slice_get};
+ghost use Rattle.std.specs.Prelude.{◌≡◌, ◌<◌, ◌≤◌, ◌+◌, ◌++◌, drop, length, slice_get, take};
 ghost use Rattle.std.specs.Option.{option_copied};
 ghost use Rattle.page_model.specs.Page.{IsFirst, joined};
 ghost use Rattle.page_model.specs.Run.{IsRunFrom};
@@ -128,6 +128,22 @@ pub(crate) fn parted<T>(
     ensures some { (0 < nodes_of result.0.now) × (0 < nodes_of result.1.now) }
 {
     nodes.split_at(count)
+}
+
+/// The nodes before one of some, that one, and those behind it. Takes no memory.
+pub(crate) fn around<T>(
+    nodes: &[Arc<Node<T>, Global>],
+    number: usize,
+) -> (&[Arc<Node<T>, Global>], &Node<T>, &[Arc<Node<T>, Global>])
+    requires { number < length nodes.now }
+    ensures front { result.0.now ≡ take number nodes.now }
+    ensures behind { result.2.now ≡ drop (number + 1) nodes.now }
+    ensures pages { pages_of (drop number nodes.now) ≡ result.1.now.pages ++ pages_of result.2.now }
+    ensures fewer { result.1.now.below + 1 + nodes_of result.2.now ≤ nodes_of nodes.now }
+{
+    let (front, _) = nodes.split_at(number);
+    let (_, behind) = nodes.split_at(number + 1);
+    (front, &nodes[number], behind)
 }
 
 /// The page of a number among the pages of some nodes.

@@ -4,14 +4,14 @@ use Rattle.page_model.specs.Page.{joined}
 use Rattle.page_model.specs.Rising.{IsRising}
 use Rattle.page_tree.specs.Body.{nodes_of}
 use Rattle.page_tree.specs.Branch.{Branch}
-use Rattle.page_tree.proofs.NodeLemmas.{nodes_here}
+use Rattle.page_tree.proofs.NodeLemmas.{nodes_from}
 use Rattle.page_tree.proofs.NodeOfLemmas.{found_in_node, rising_within}
 use Rattle.page_tree.proofs.search.+get.Goals as goal
 
 -- The node has fewer nodes below it than all, and its keys rise too.
 pub item_among-item_in-requires : goal.item_among-item_in-requires
 item_among-item_in-requires g t c κs within =
-    let fewer = nodes_here c.args.nodes.now c.node_of.result c.index-nodes-node_of.result c.node_of.ensures.within c.index-nodes-node_of.is in
+    let fewer = nodes_from c.args.nodes.now c.node_of.result c.index-nodes-node_of.result c.node_of.ensures.within c.index-nodes-node_of.is in
     let rises = rising_within (g.By.KeyOf.key_of c.args.by) g.met.By.KeyOf.total c.args.nodes.now c.node_of.result c.index-nodes-node_of.result c.node_of.ensures.within c.index-nodes-node_of.is c.requires.rising in (
       subst (λ (branch : Branch g.row.T.Denot). 2 * branch.below + 1 < t) (sym c.deref.ensures) (omega arith),
       (
