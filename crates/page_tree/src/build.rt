@@ -10,7 +10,7 @@ use std::alloc::{AllocError, Global};
 use std::sync::Arc;
 
 /// The most items of a page that is made; a page has fewer than it may have, since a change of one item copies all of them.
-const FULL_PAGE: usize = 32;
+pub(crate) const FULL_PAGE: usize = 32;
 
 /// The most nodes right below a node.
 const INNER_NODES: usize = 8;

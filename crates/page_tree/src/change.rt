@@ -8,7 +8,7 @@ ghost use Rattle.page_model.specs.Page.{joined, ArePages};
 ghost use Rattle.page_model.specs.Rising.{IsRising};
 ghost use Rattle.page_tree.specs.Body.{pages_of};
 
-use crate::build::{push_above, push_nodes, push_pages};
+use crate::build::{FULL_PAGE, push_above, push_nodes, push_pages};
 use crate::key::{ChangeOf, KeyOf};
 use crate::merge::merged;
 use crate::node::{Body, Node, around, first_of};
@@ -46,7 +46,7 @@ pub(crate) fn fill<T: MakeCopy + Drop, By: KeyOf<T>, C: ChangeOf<T, By::Key>>(
     requires keyed { AreKeyed (By.key_of by) C.changed C.put changes.now }
     ensures { OnOk result (AddsPages (with_changes (By.key_of by) By.key_cmp C.changed C.put changes.now items.now) (pages_of made.old.items) (pages_of made.new.items)) }
 {
-    if changes.len() <= PAGE_ITEMS {
+    if changes.len() <= FULL_PAGE {
         return push_pages(alloc, merged(alloc, by, items, changes)?, made);
     }
     let (below, others) = changes.split_at(changes.len() / 2);
