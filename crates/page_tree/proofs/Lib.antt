@@ -1,4 +1,6 @@
+mod AmongLemmas
 mod ChangeLemmas
+mod InPlaceLemmas
 mod NodeLemmas
 mod NodeOfLemmas
 mod SearchLemmas
