@@ -95,12 +95,12 @@ module _ {T K C Z : Type 0} (key_of : T → K) {cmp : K → K → Ordering} (ord
       let parts = parts_of key_of cmp nodes number here behind pages rising from in
       elim (cases_lt (number + 1) (length nodes)) [
         | inl more ↦ let begin = falls.ends more in
-          let less : cmp (changed change) (key_of begin.first) ≡ Less = below_from_above order (key_of begin.first) (changed change) (greater_from_gt _ begin.stands) in
-          adds_behind key_of order changed put here behind (change ∷ []) begin.first (change ∷ []) [] before (before ++ new) ((before ++ new) ++ behind) begin.is parts.rising_both keyed refl (less, tt) tt adds
-          (adds_same key_of order changed put behind (before ++ new) ((before ++ new) ++ behind) parts.pages_behind refl)
+            let less : cmp (changed change) (key_of begin.first) ≡ Less = below_from_above order (key_of begin.first) (changed change) (greater_from_gt _ begin.stands) in
+            adds_behind key_of order changed put here behind (change ∷ []) begin.first (change ∷ []) [] before (before ++ new) ((before ++ new) ++ behind) begin.is parts.rising_both keyed refl (less, tt) tt adds
+            (adds_same key_of order changed put behind (before ++ new) ((before ++ new) ++ behind) parts.pages_behind refl)
         | inr end ↦ let none : behind ≡ [] = ap pages_of (drop_all (number + 1) nodes end) in
-          subst (λ old. AddsChanged key_of cmp changed put old (change ∷ []) before ((before ++ new) ++ behind)) (sym (ap (λ pages. here ++ pages) none ∙ append-nil here))
-          (subst (λ after. AddsChanged key_of cmp changed put here (change ∷ []) before after) (sym (ap (λ pages. (before ++ new) ++ pages) none ∙ append-nil (before ++ new))) adds)
+            subst (λ old. AddsChanged key_of cmp changed put old (change ∷ []) before ((before ++ new) ++ behind)) (sym (ap (λ pages. here ++ pages) none ∙ append-nil here))
+            (subst (λ after. AddsChanged key_of cmp changed put here (change ∷ []) before after) (sym (ap (λ pages. (before ++ new) ++ pages) none ∙ append-nil (before ++ new))) adds)
       ]
 
   -- nodes of which one was changed in place

@@ -42,6 +42,6 @@ module _ {T K Z : Type 0} (key_of : T → K) {cmp : K → K → Ordering} (order
       let from = items_from nodes number node falls.within is in
       found_from key nodes number falls rising ∙ elim (cases_lt (number + 1) (length nodes)) [
         | inl more ↦ let begin = falls.ends more in
-          found_in_front key_of order key (joined (pages_of (drop number nodes))) (joined node.value.pages) begin.first (pages_of (drop (number + 1) nodes)) from begin.is (rising_from nodes number rising) begin.stands
+            found_in_front key_of order key (joined (pages_of (drop number nodes))) (joined node.value.pages) begin.first (pages_of (drop (number + 1) nodes)) from begin.is (rising_from nodes number rising) begin.stands
         | inr end ↦ ap (found key_of cmp key) (from ∙ (ap (λ behind. joined node.value.pages ++ joined (pages_of behind)) (drop_all (number + 1) nodes end) ∙ append-nil (joined node.value.pages)))
       ]

@@ -9,7 +9,7 @@ use page_model::PAGE_ITEMS;
 use std::alloc::{AllocError, Global};
 use std::sync::Arc;
 
-/// The most items of a page that is made; a page has fewer than it may have, since a change of one item copies all of them.
+/// A page with more items is cut in two, though it might have them: a change of one item copies all items of its page.
 pub(crate) const FULL_PAGE: usize = 32;
 
 /// The most nodes right below a node.

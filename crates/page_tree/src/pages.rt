@@ -170,9 +170,9 @@ impl<T: MakeCopy + Drop, By: KeyOf<T>> Pages<T, By> {
         Ok(Pages { by: self.by, root })
     }
 
-    /// Makes one change in this sequence itself. Where no other sequence shares the page into which the key falls, mostly
-    /// that page is changed in place; else it is made new with the nodes above it, as `with_changes` does. After
-    /// `AllocError`, which comes where it does there, the sequence is as it was.
+    /// Makes one change in this sequence itself: mostly in the page into which the key falls, where no other sequence
+    /// shares that page, and else as `with_changes` does. `AllocError` comes where it comes there, and leaves the sequence
+    /// as it was.
     pub fn change<C: ChangeOf<T, By::Key>>(
         &mut self,
         alloc: Global,
