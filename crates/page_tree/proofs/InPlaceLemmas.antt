@@ -5,7 +5,7 @@ use Rattle.std.specs.Cmp.{IsTotalOrder}
 use Rattle.std.specs.List.{insert}
 use Rattle.std.specs.Option.{option_to_list}
 use Rattle.std.specs.declared.cmp.Ordering.{Ordering}
-use Rattle.page_model.specs.Changed.{above_key, AreKeyed, below_key, with_change, with_changes}
+use Rattle.page_model.specs.Changed.{above_key, AreKeyed, with_change, with_changes}
 use Rattle.page_model.specs.ChangedPages.{AddsPages}
 use Rattle.page_model.specs.Page.{ArePages, IsFirst, IsPage, joined}
 use Rattle.page_model.specs.Place.{IsPlaceOf}

@@ -1,6 +1,5 @@
 -- The node into which a key falls, among nodes whose keys rise.
-use Rattle.std.proofs.Common.{◌≡◌, refl, sym, ◌∙◌, ap, subst, inl, inr, List, [], ◌∷◌, ◌++◌, ℕ, zero, suc, ◌+◌, ◌<◌, ◌≤◌, length, take, drop, get_or, append-nil, arith}
-use Rattle.std.specs.Prelude.{true, false}
+use Rattle.std.proofs.Common.{◌≡◌, refl, ◌∙◌, ap, subst, inl, inr, List, ◌++◌, ℕ, zero, suc, ◌+◌, ◌<◌, length, take, drop, get_or, append-nil, arith}
 use Rattle.std.specs.Cmp.{IsTotalOrder}
 use Rattle.std.specs.declared.cmp.Ordering.{Ordering}
 use Rattle.std.specs.declared.sync.Arc.{Arc}
@@ -13,7 +12,7 @@ use Rattle.page_model.proofs.FoundLemmas.{found_in_back, found_in_front}
 use Rattle.page_model.proofs.RisingLemmas.{rising_back, rising_front}
 use Rattle.page_tree.specs.Body.{pages_of}
 use Rattle.page_tree.specs.Branch.{Branch}
-use Rattle.page_tree.specs.NodeOf.{Begin, IsNodeOf}
+use Rattle.page_tree.specs.NodeOf.{IsNodeOf}
 use Rattle.page_tree.proofs.NodeLemmas.{items_from, items_split}
 
 module _ {T K Z : Type 0} (key_of : T → K) {cmp : K → K → Ordering} (order : IsTotalOrder cmp) where

@@ -7,7 +7,7 @@ use Rattle.std.proofs.lemmas.List.{nil_from_length}
 use Rattle.std.proofs.lemmas.Result.{on_ok_weaker}
 use Rattle.page_model.specs.ChangedPages.{AddsChanged}
 use Rattle.page_model.specs.Changed.{AreKeyed}
-use Rattle.page_model.specs.Page.{ArePages, IsFirst, joined}
+use Rattle.page_model.specs.Page.{IsFirst}
 use Rattle.page_model.specs.Rising.{IsRising}
 use Rattle.page_model.proofs.KeptLemmas.{adds_leaf, adds_moved, adds_same}
 use Rattle.page_model.proofs.RisingLemmas.{each_back, each_front, rising_back, rising_front}

@@ -1,9 +1,7 @@
 use Rattle.std.proofs.Common.{Global, ◌≡◌, ◌<◌, ◌∙◌, ap, subst, length, get_or-set_same, arith}
 use Rattle.std.specs.declared.sync.Arc.{Arc}
 use Rattle.page_model.specs.Page.{joined}
-use Rattle.page_tree.specs.Body.{pages_of}
 use Rattle.page_tree.specs.Branch.{Branch}
-use Rattle.page_tree.specs.InPlace.{InPlace}
 use Rattle.page_tree.specs.NodeOf.{IsNodeOf}
 use Rattle.page_tree.proofs.AmongLemmas.{among, grows, items_around, items_set, pages_same}
 use Rattle.page_tree.proofs.ChangeLemmas.{parts_of}

@@ -1,8 +1,7 @@
-use Rattle.std.proofs.Common.{◌≡◌, ◌<◌, ◌*◌, ◌+◌, sym, ◌∙◌, ap, subst, arith}
+use Rattle.std.proofs.Common.{◌<◌, ◌*◌, ◌+◌, sym, ◌∙◌, ap, subst, arith}
 use Rattle.page_model.specs.Found.{found}
 use Rattle.page_model.specs.Page.{joined}
 use Rattle.page_model.specs.Rising.{IsRising}
-use Rattle.page_tree.specs.Body.{nodes_of}
 use Rattle.page_tree.specs.Branch.{Branch}
 use Rattle.page_tree.proofs.NodeLemmas.{nodes_from}
 use Rattle.page_tree.proofs.NodeOfLemmas.{found_in_node, rising_within}
