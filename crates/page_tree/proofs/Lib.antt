@@ -1,2 +1,7 @@
-pub mod NodeLemmas
-pub mod WalkLemmas
+mod AmongLemmas
+mod ChangeLemmas
+mod InPlaceLemmas
+mod NodeLemmas
+mod NodeOfLemmas
+mod SearchLemmas
+mod WalkLemmas

@@ -22,7 +22,7 @@ get_behind (x ∷ xs) ys (suc n) m is = get_behind xs ys n m (omega arith)
 
 module _ {T Z : Type 0} where
   -- the pages from a node on are its own and those behind it
-  pages_from : (nodes : List (Arc (Branch T) Z)) (index : ℕ) (node : Arc (Branch T) Z) → index < length nodes → node ≡ get_or nodes index node
+  pub pages_from : (nodes : List (Arc (Branch T) Z)) (index : ℕ) (node : Arc (Branch T) Z) → index < length nodes → node ≡ get_or nodes index node
       → pages_of (drop index nodes) ≡ node.value.pages ++ pages_of (drop (index + 1) nodes)
   pages_from nodes index node within is = ap pages_of (drop_more nodes index node within) ∙ ap (λ (first : Arc (Branch T) Z). first.value.pages ++ pages_of (drop (index + 1) nodes)) (sym is)
 
@@ -63,3 +63,10 @@ module _ {T Z : Type 0} where
   pub nodes_some : (nodes : List (Arc (Branch T) Z)) → 0 < length nodes → 0 < nodes_of nodes
   nodes_some [] some = absurd (omega arith)
   nodes_some (node ∷ nodes) some = omega (arith, sum_by-cons (λ (each : Arc (Branch T) Z). each.value.below + 1) node nodes)
+
+  -- a node and those behind it are some of all of them
+  pub nodes_from : (nodes : List (Arc (Branch T) Z)) (index : ℕ) (node : Arc (Branch T) Z) → index < length nodes → node ≡ get_or nodes index node → node.value.below + 1 + nodes_of (drop (index + 1) nodes) ≤ nodes_of nodes
+  nodes_from nodes index node within is =
+      let here : drop index nodes ≡ node ∷ drop (index + 1) nodes = drop_more nodes index node within ∙ ap (λ first. first ∷ drop (index + 1) nodes) (sym is) in
+      let from = ap nodes_of here in
+      omega (arith, nodes_split index nodes, sum_by-cons (λ (each : Arc (Branch T) Z). each.value.below + 1) node (drop (index + 1) nodes))

@@ -1,5 +1,5 @@
 -- What a node holds: a page, or nodes.
-use Rattle.std.specs.Prelude.{◌<◌, ◌+◌, ℕ, List, [], ◌∷◌, length, sum_by, Option, None, Some}
+use Rattle.std.specs.Prelude.{◌+◌, ℕ, List, [], ◌∷◌, sum_by, Option, None, Some}
 use Rattle.std.specs.List.{flat_map}
 use Rattle.std.specs.declared.sync.Arc.{Arc}
 use Rattle.page_tree.specs.Branch.{Branch}
@@ -18,11 +18,6 @@ nodes_of {T} {Z} kids = sum_by (λ (kid : Arc (Branch T) Z). kid.value.below + 1
 abbrev pub branch_of : {T : Type 0} → Body T → Branch T
 branch_of (Leaf page) = record { pages = page.items ∷ []; below = 0 }
 branch_of (Inner kids) = record { pages = pages_of kids.items; below = nodes_of kids.items }
-
--- it holds something
-abbrev pub IsFilled : {T : Type 0} → Body T → Type 0
-IsFilled (Leaf page) = 0 < length page.items
-IsFilled (Inner kids) = 0 < length kids.items
 
 -- the pages of the node at the top, where there is one
 abbrev pub root_pages : {T Z : Type 0} → Option (Arc (Branch T) Z) → List (List T)

@@ -1,4 +1,6 @@
 pub mod Body
 pub mod Branch
 pub mod Falls
+pub mod InPlace
 pub mod ItemsLeft
+pub mod NodeOf

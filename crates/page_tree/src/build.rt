@@ -3,20 +3,22 @@ ghost use Rattle.page_model.specs.ChangedPages.{AddsPages};
 ghost use Rattle.page_model.specs.Page.{joined};
 ghost use Rattle.page_tree.specs.Body.{pages_of};
 
-use crate::node::{Body, Node, halves};
+use crate::node::{Body, Node, first_of, parted};
+use own_base::MakeCopy;
 use page_model::PAGE_ITEMS;
 use std::alloc::{AllocError, Global};
 use std::sync::Arc;
 
 /// The most nodes right below a node.
-const INNER_NODES: usize = 16;
+const INNER_NODES: usize = 8;
 
 /// A node of one page.
-fn leaf<T: Drop>(alloc: Global, page: Vec<T>) -> Result<Arc<Node<T>, Global>, AllocError>
+fn leaf<T: MakeCopy + Drop>(alloc: Global, page: Vec<T>) -> Result<Arc<Node<T>, Global>, AllocError>
     requires { 0 < length page.items }
     ensures { IfOk result (λ node. node.value.pages ≡ page.items ∷ []) }
 {
     let node = Node {
+        first: page[0].copy(alloc)?,
         items: page.len(),
         pages: 1,
         body: Body::Leaf(page),
@@ -40,7 +42,7 @@ fn counts<T>(nodes: &[Arc<Node<T>, Global>]) -> Result<(usize, usize), AllocErro
 }
 
 /// A node above these, with their pages in their order.
-fn inner<T: Drop>(
+fn inner<T: MakeCopy + Drop>(
     alloc: Global,
     nodes: Vec<Arc<Node<T>, Global>>,
 ) -> Result<Arc<Node<T>, Global>, AllocError>
@@ -49,6 +51,7 @@ fn inner<T: Drop>(
 {
     let (items, pages) = counts(nodes.as_slice())?;
     let node = Node {
+        first: first_of(nodes.as_slice()).copy(alloc)?,
         items,
         pages,
         body: Body::Inner(nodes),
@@ -71,7 +74,7 @@ pub(crate) fn push_nodes<T: Drop>(
 }
 
 /// Puts items last as pages: none, one, or two where they are too many for one.
-pub(crate) fn push_pages<T: Drop>(
+pub(crate) fn push_pages<T: MakeCopy + Drop>(
     alloc: Global,
     items: Vec<T>,
     made: &mut Vec<Arc<Node<T>, Global>>,
@@ -92,7 +95,7 @@ pub(crate) fn push_pages<T: Drop>(
 }
 
 /// Puts nodes above these last, each above no more than fit.
-fn push_groups<T: Drop>(
+fn push_groups<T: MakeCopy + Drop>(
     alloc: Global,
     nodes: &[Arc<Node<T>, Global>],
     made: &mut Vec<Arc<Node<T>, Global>>,
@@ -108,13 +111,13 @@ fn push_groups<T: Drop>(
         made.push(inner(alloc, shared)?)?;
         return Ok(());
     }
-    let (front, back) = halves(nodes);
+    let (front, back) = parted(nodes, nodes.len() / 2);
     push_groups(alloc, front, made)?;
     push_groups(alloc, back, made)
 }
 
 /// Puts a node above these last, or some where they are too many for one.
-pub(crate) fn push_above<T: Drop>(
+pub(crate) fn push_above<T: MakeCopy + Drop>(
     alloc: Global,
     nodes: Vec<Arc<Node<T>, Global>>,
     made: &mut Vec<Arc<Node<T>, Global>>,

@@ -11,8 +11,8 @@ ghost use Rattle.page_tree.specs.Body.{pages_of};
 use crate::build::{push_above, push_nodes, push_pages};
 use crate::key::{ChangeOf, KeyOf};
 use crate::merge::merged;
-use crate::node::{Body, Node, first_of, halves};
-use crate::search::place_of;
+use crate::node::{Body, Node, around, first_of};
+use crate::search::{node_of, place_of};
 use own_base::MakeCopy;
 use page_model::PAGE_ITEMS;
 use std::alloc::{AllocError, Global};
@@ -82,7 +82,7 @@ pub(crate) fn change_node<T: MakeCopy + Drop, By: KeyOf<T>, C: ChangeOf<T, By::K
     }
 }
 
-/// Puts the pages of nodes last, with changes, by halves: where no change falls, the nodes are shared.
+/// Puts the pages of nodes last, with changes: those into which no change falls are shared.
 #[cycle(change)]
 fn change_nodes<T: MakeCopy + Drop, By: KeyOf<T>, C: ChangeOf<T, By::Key>>(
     alloc: Global,
@@ -98,14 +98,15 @@ fn change_nodes<T: MakeCopy + Drop, By: KeyOf<T>, C: ChangeOf<T, By::Key>>(
     requires keyed { AreKeyed (By.key_of by) C.changed C.put changes.now }
     ensures { OnOk result (AddsChanged (By.key_of by) By.key_cmp C.changed C.put (pages_of nodes.now) changes.now (pages_of made.old.items) (pages_of made.new.items)) }
 {
-    if changes.is_empty() {
+    let Some(change) = changes.first() else {
         return push_nodes(nodes, made);
+    };
+    let (front, node, behind) = around(nodes, node_of(by, nodes, change.key()));
+    push_nodes(front, made)?;
+    if behind.is_empty() {
+        return change_node(alloc, by, node, changes, made);
     }
-    if nodes.len() == 1 {
-        return change_node(alloc, by, &nodes[0], changes, made);
-    }
-    let (front, back) = halves(nodes);
-    let (below, others) = split_at(by, changes, first_of(back));
-    change_nodes(alloc, by, front, below, made)?;
-    change_nodes(alloc, by, back, others, made)
+    let (here, others) = split_at(by, changes, first_of(behind));
+    change_node(alloc, by, node, here, made)?;
+    change_nodes(alloc, by, behind, others, made)
 }

@@ -3,8 +3,10 @@
 
 mod build;
 mod change;
+mod in_place;
 mod items;
 mod key;
+mod lent;
 mod merge;
 mod node;
 mod pages;

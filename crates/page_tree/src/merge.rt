@@ -1,4 +1,4 @@
-ghost use Rattle.std.specs.Prelude.{◌≡◌, ◌≤◌, ◌++◌, IfOk, OnOk, drop, length};
+ghost use Rattle.std.specs.Prelude.{◌≡◌, ◌≤◌, ◌+◌, ◌++◌, IfOk, OnOk, drop, length};
 ghost use Rattle.std.specs.Option.{option_copied, option_to_list};
 ghost use Rattle.page_model.specs.Changed.{above_key, below_key, with_changes, AreKeyed};
 ghost use Rattle.page_model.specs.Place.{IsPlaceOf};
@@ -38,10 +38,12 @@ fn push_copy<T: MakeCopy + Drop>(
 }
 
 /// Where the items above a key begin: at the key's place, or behind the item there. Takes no memory.
-fn above_from<T, By: KeyOf<T>>(by: By, items: &[T], key: &By::Key, place: usize) -> usize
+pub(crate) fn above_from<T, By: KeyOf<T>>(by: By, items: &[T], key: &By::Key, place: usize) -> usize
     requires rising { IsRising (By.key_of by) By.key_cmp items.now }
     requires place { IsPlaceOf (By.key_of by) By.key_cmp key.now items.now place }
     ensures within { result ≤ length items.now }
+    ensures behind { place ≤ result }
+    ensures near { result ≤ place + 1 }
     ensures above { above_key (By.key_of by) By.key_cmp key.now items.now ≡ drop result items.now }
 {
     if place == items.len() {

@@ -1,4 +1,4 @@
-ghost use Rattle.std.specs.Prelude.{◌≡◌, ◌<◌, ◌+◌, ◌/◌, ◌++◌, length, slice_get};
+ghost use Rattle.std.specs.Prelude.{◌≡◌, ◌<◌, ◌≤◌, ◌+◌, ◌++◌, drop, length, slice_get, take};
 ghost use Rattle.std.specs.Option.{option_copied};
 ghost use Rattle.page_model.specs.Page.{IsFirst, joined};
 ghost use Rattle.page_model.specs.Run.{IsRunFrom};
@@ -8,10 +8,12 @@ use std::alloc::Global;
 use std::marker::Model;
 use std::sync::Arc;
 
-/// A node of the tree: a page, or some nodes and their pages in their order.
+/// A node of the tree: a page, or some nodes and their pages in their order. The first item and the counts stand beside
+/// them, so that nothing below has to be looked at for those.
 #[cycle(node)]
 #[derive(Drop)]
 pub(crate) struct Node<T> {
+    pub(crate) first: T,
     pub(crate) items: usize,
     pub(crate) pages: usize,
     pub(crate) body: Body<T>,
@@ -27,16 +29,16 @@ pub(crate) enum Body<T> {
 
 impl<T> Model for Node<T> {
     ghost use Rattle.std.specs.Prelude.{◌≡◌, length};
-    ghost use Rattle.page_model.specs.Page.{joined};
+    ghost use Rattle.page_model.specs.Page.{joined, IsFirst};
     ghost use Rattle.page_tree.specs.Branch.{Branch};
 
     ghost Value = { Branch T };
 
-    ghost use Rattle.page_tree.specs.Body.{branch_of, IsFilled};
+    ghost use Rattle.page_tree.specs.Body.{branch_of};
 
     ghost view = { λ node. branch_of node.body };
 
-    ghost invariant = { λ node. (node.items ≡ length (joined (branch_of node.body).pages)) × (node.pages ≡ length (branch_of node.body).pages) × IsFilled node.body };
+    ghost invariant = { λ node. (node.items ≡ length (joined (branch_of node.body).pages)) × (node.pages ≡ length (branch_of node.body).pages) × IsFirst node.first (branch_of node.body).pages };
 
     ghost size = { λ branch. branch.below };
 
@@ -61,14 +63,10 @@ impl<T> Node<T> {
     }
 
     /// The first item. Takes no memory.
-    #[cycle(first)]
     pub(crate) fn first(&self) -> &T
         ensures { IsFirst result.now self.now.pages }
     {
-        match &self.body {
-            Body::Leaf(page) => &page[0],
-            Body::Inner(kids) => first_of(kids.as_slice()),
-        }
+        &self.first
     }
 
     /// The page of a number, counted from 0. Takes no memory.
@@ -108,7 +106,6 @@ impl<T> Node<T> {
 }
 
 /// The first item of some nodes. Takes no memory.
-#[cycle(first)]
 pub(crate) fn first_of<T>(nodes: &[Arc<Node<T>, Global>]) -> &T
     requires { 0 < length nodes.now }
     ensures { IsFirst result.now (pages_of nodes.now) }
@@ -116,21 +113,37 @@ pub(crate) fn first_of<T>(nodes: &[Arc<Node<T>, Global>]) -> &T
     nodes[0].first()
 }
 
-/// The first half of some nodes, and the other. Takes no memory.
-pub(crate) fn halves<T>(
+/// So many of some nodes, and the others. Takes no memory.
+pub(crate) fn parted<T>(
     nodes: &[Arc<Node<T>, Global>],
+    count: usize,
 ) -> (&[Arc<Node<T>, Global>], &[Arc<Node<T>, Global>])
-    requires { 1 < length nodes.now }
-    ensures front { 0 < length result.0.now }
-    ensures back { 0 < length result.1.now }
-    ensures first { length result.0.now ≡ length nodes.now / 2 }
-    ensures second { length result.0.now + length result.1.now ≡ length nodes.now }
+    requires some { 0 < count }
+    requires others { count < length nodes.now }
+    ensures front { length result.0.now ≡ count }
+    ensures back { length result.1.now + count ≡ length nodes.now }
     ensures pages { pages_of nodes.now ≡ pages_of result.0.now ++ pages_of result.1.now }
     ensures items { joined (pages_of nodes.now) ≡ joined (pages_of result.0.now) ++ joined (pages_of result.1.now) }
     ensures fewer { nodes_of nodes.now ≡ nodes_of result.0.now + nodes_of result.1.now }
     ensures some { (0 < nodes_of result.0.now) × (0 < nodes_of result.1.now) }
 {
-    nodes.split_at(nodes.len() / 2)
+    nodes.split_at(count)
+}
+
+/// The nodes before one of some, that one, and those behind it. Takes no memory.
+pub(crate) fn around<T>(
+    nodes: &[Arc<Node<T>, Global>],
+    number: usize,
+) -> (&[Arc<Node<T>, Global>], &Node<T>, &[Arc<Node<T>, Global>])
+    requires { number < length nodes.now }
+    ensures front { result.0.now ≡ take number nodes.now }
+    ensures behind { result.2.now ≡ drop (number + 1) nodes.now }
+    ensures pages { pages_of (drop number nodes.now) ≡ result.1.now.pages ++ pages_of result.2.now }
+    ensures fewer { result.1.now.below + 1 + nodes_of result.2.now ≤ nodes_of nodes.now }
+{
+    let (front, _) = nodes.split_at(number);
+    let (_, behind) = nodes.split_at(number + 1);
+    (front, &nodes[number], behind)
 }
 
 /// The page of a number among the pages of some nodes.

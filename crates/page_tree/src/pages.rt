@@ -1,6 +1,6 @@
-ghost use Rattle.std.specs.Prelude.{◌≡◌, [], IfOk, IfSome, length, slice_get};
+ghost use Rattle.std.specs.Prelude.{◌≡◌, [], ◌∷◌, IfOk, IfSome, MatchBool, OnErr, OnOk, length, slice_get};
 ghost use Rattle.std.specs.Option.{option_copied};
-ghost use Rattle.page_model.specs.Changed.{with_changes, AreKeyed};
+ghost use Rattle.page_model.specs.Changed.{with_change, with_changes, AreKeyed};
 ghost use Rattle.page_model.specs.ChangedPages.{AddsChanged};
 ghost use Rattle.page_model.specs.Found.{found};
 ghost use Rattle.page_model.specs.Kept.{KeepsPages};
@@ -9,16 +9,20 @@ ghost use Rattle.page_model.specs.Paged.{items};
 ghost use Rattle.page_model.specs.Rising.{IsRising};
 ghost use Rattle.page_model.specs.Run.{IsRunFrom};
 ghost use Rattle.page_tree.specs.Body.{pages_of, root_pages};
+ghost use Rattle.page_tree.specs.InPlace.{InPlace};
 
 use crate::build::push_above;
 use crate::change::{change_node, fill};
+use crate::in_place::change_alone;
 use crate::items::Items;
 use crate::key::{ChangeOf, KeyOf};
+use crate::lent::Lent;
 use crate::node::Node;
 use crate::search::item_in;
 use own_base::MakeCopy;
 use std::alloc::{AllocError, Global};
 use std::marker::Model;
+use std::slice;
 use std::sync::Arc;
 
 /// A sequence of items in the order of their keys, which contracts see as the way to find an item's key and the list of
@@ -165,6 +169,40 @@ impl<T: MakeCopy + Drop, By: KeyOf<T>> Pages<T, By> {
         let root = rooted(alloc, made)?;
         Ok(Pages { by: self.by, root })
     }
+
+    /// Makes one change in this sequence itself. Where no other sequence shares the page into which the key falls, mostly
+    /// that page is changed in place; else it is made new with the nodes above it, as `with_changes` does. After
+    /// `AllocError`, which comes where it does there, the sequence is as it was.
+    pub fn change<C: ChangeOf<T, By::Key>>(
+        &mut self,
+        alloc: Global,
+        change: &C,
+    ) -> Result<(), AllocError>
+        requires { IfSome (C.put change.now) (λ item. By.key_of self.old.by item ≡ C.changed change.now) }
+        ensures by { OnOk result (self.new.by ≡ self.old.by) }
+        ensures items { OnOk result (items self.new ≡ with_change (By.key_of self.old.by) By.key_cmp (C.changed change.now) (C.put change.now) (items self.old)) }
+        ensures kept { OnOk result (KeepsPages (By.key_of self.old.by) By.key_cmp C.changed self.old.pages (change.now ∷ []) self.new.pages) }
+        ensures unchanged { OnErr result (self.new ≡ self.old) }
+    {
+        if self.change_in_place(alloc, change) {
+            return Ok(());
+        }
+        *self = self.with_changes(alloc, slice::from_ref(&Lent { change }))?;
+        Ok(())
+    }
+
+    /// Makes one change in place, where nobody shares what it falls into, and it fits there. Answers whether it did.
+    fn change_in_place<C: ChangeOf<T, By::Key>>(&mut self, alloc: Global, change: &C) -> bool
+        requires { AreKeyed (By.key_of self.old.by) C.changed C.put (change.now ∷ []) }
+        ensures by { self.new.by ≡ self.old.by }
+        ensures pages { MatchBool result (InPlace (By.key_of self.old.by) By.key_cmp C.changed C.put self.old.pages change.now self.new.pages) (self.new.pages ≡ self.old.pages) }
+    {
+        let by = self.by;
+        let Some(root) = &mut self.root else {
+            return false;
+        };
+        change_alone(alloc, by, root, change)
+    }
 }
 
 impl<T, By: KeyOf<T>> MakeCopy for Pages<T, By> {
@@ -180,7 +218,7 @@ impl<T, By: KeyOf<T>> MakeCopy for Pages<T, By> {
 }
 
 /// One node above these, where there is one. Fewer nodes stand at the top after each step.
-fn rooted<T: Drop>(
+fn rooted<T: MakeCopy + Drop>(
     alloc: Global,
     nodes: Vec<Arc<Node<T>, Global>>,
 ) -> Result<Option<Arc<Node<T>, Global>>, AllocError>

@@ -5,9 +5,10 @@ ghost use Rattle.page_model.specs.Page.{joined};
 ghost use Rattle.page_model.specs.Place.{IsPlaceOf};
 ghost use Rattle.page_model.specs.Rising.{IsRising};
 ghost use Rattle.page_tree.specs.Body.{pages_of};
+ghost use Rattle.page_tree.specs.NodeOf.{IsNodeOf};
 
 use crate::key::KeyOf;
-use crate::node::{Body, Node, first_of, halves};
+use crate::node::{Body, Node};
 use std::alloc::Global;
 use std::sync::Arc;
 
@@ -16,7 +17,12 @@ pub(crate) fn place_of<T, By: KeyOf<T>>(by: By, items: &[T], key: &By::Key) -> u
     requires { IsRising (By.key_of by) By.key_cmp items.now }
     ensures { IsPlaceOf (By.key_of by) By.key_cmp key.now items.now result }
 {
-    items.partition_point(|item| by.compare(item, key).is_lt())
+    for (place, item) in items.iter().enumerate() {
+        if !by.compare(item, key).is_lt() {
+            return place;
+        }
+    }
+    items.len()
 }
 
 /// The item of a key among these items. Takes no memory.
@@ -31,6 +37,24 @@ fn item_of<'a, T, By: KeyOf<T>>(by: By, items: &'a [T], key: &By::Key) -> Option
     } else {
         None
     }
+}
+
+/// The number of the node into which a key falls: the last whose first item isn't above it, else the first. Takes no
+/// memory.
+pub(crate) fn node_of<T, By: KeyOf<T>>(
+    by: By,
+    nodes: &[Arc<Node<T>, Global>],
+    key: &By::Key,
+) -> usize
+    requires { 0 < length nodes.now }
+    ensures { IsNodeOf (By.key_of by) By.key_cmp key.now nodes.now result }
+{
+    for number in 1..nodes.len() {
+        if by.compare(nodes[number].first(), key).is_gt() {
+            return number - 1;
+        }
+    }
+    nodes.len() - 1
 }
 
 /// The item of a key among the items of a node. Takes no memory.
@@ -49,7 +73,7 @@ pub(crate) fn item_in<'a, T, By: KeyOf<T>>(
     }
 }
 
-/// The item of a key among the items of some nodes, whose half is left out at each step.
+/// The item of a key among the items of some nodes: that of the node into which the key falls.
 #[cycle(get)]
 fn item_among<'a, T, By: KeyOf<T>>(
     by: By,
@@ -60,13 +84,5 @@ fn item_among<'a, T, By: KeyOf<T>>(
     requires rising { IsRising (By.key_of by) By.key_cmp (joined (pages_of nodes.now)) }
     ensures { option_copied result ≡ found (By.key_of by) By.key_cmp key.now (joined (pages_of nodes.now)) }
 {
-    if nodes.len() == 1 {
-        return item_in(by, &nodes[0], key);
-    }
-    let (front, back) = halves(nodes);
-    if by.compare(first_of(back), key).is_gt() {
-        item_among(by, front, key)
-    } else {
-        item_among(by, back, key)
-    }
+    item_in(by, &nodes[node_of(by, nodes, key)], key)
 }

@@ -47,7 +47,7 @@ fn has_key(row: &Row, key: &Key) -> bool
 }
 
 /// Whether a row that is put has its change's key.
-fn is_keyed(change: &Change) -> bool
+pub fn is_keyed(change: &Change) -> bool
     ensures { MatchBool result (IfSome (row_after change.now) (λ row. key_in KEY row ≡ changed_key change.now)) ⊤ }
 {
     match &change.after {

@@ -1,5 +1,5 @@
 use crate::made::{change_of, numbers_of};
-use crate::parts::{changed, part_with};
+use crate::parts::{change_each, changed, part_with};
 use own_base::{Change, Key, MakeCopy, Row};
 use std::alloc::{AllocError, Global};
 use std::test::Fail;
@@ -124,5 +124,60 @@ fn a_copy_is_a_part_of_its_own(rt: HostRuntime) -> Result<(), Fail> {
     assert_eq!(rt; made.rows().next().and_then(key_of), Some(3));
     assert!(rt; has_up_to(&copy, 3));
     assert!(rt; has_up_to(&part, 3));
+    Ok(())
+}
+
+#[test]
+fn a_row_too_many_makes_a_second_page_where_rows_come_one_by_one(
+    rt: HostRuntime,
+) -> Result<(), Fail> {
+    let alloc = rt.alloc();
+    let mut part = part_with(&rt, alloc, &[])?;
+    change_each(&rt, alloc, &mut part, &up_to(alloc, 64, true)?)?;
+    let before = part.copy(alloc)?;
+    change_each(
+        &rt,
+        alloc,
+        &mut part,
+        &[change_of(alloc, Key::Int(65), Some(650))?],
+    )?;
+    assert_eq!(rt; part.at(64).and_then(key_of), Some(65));
+    assert!(rt; part.page(1).is_some());
+    assert!(rt; has_up_to(&part, 65));
+    assert!(rt; before.at(64).is_none());
+    assert!(rt; before.page(1).is_none());
+    assert!(rt; has_up_to(&before, 64));
+    change_each(&rt, alloc, &mut part, &up_to(alloc, 65, false)?)?;
+    assert_eq!(rt; part.len(), 0);
+    assert!(rt; part.page(0).is_none());
+    assert!(rt; has_up_to(&before, 64));
+    Ok(())
+}
+
+#[test]
+fn a_row_takes_the_place_of_one_and_goes(rt: HostRuntime) -> Result<(), Fail> {
+    let alloc = rt.alloc();
+    let mut part = part_with(&rt, alloc, &up_to(alloc, 3, true)?)?;
+    change_each(
+        &rt,
+        alloc,
+        &mut part,
+        &[change_of(alloc, Key::Int(2), Some(7))?],
+    )?;
+    assert_eq!(rt; part.at(1).and_then(numbers_of), Some((2, 7)));
+    change_each(
+        &rt,
+        alloc,
+        &mut part,
+        &[change_of(alloc, Key::Int(2), None)?],
+    )?;
+    assert_eq!(rt; part.at(1).and_then(key_of), Some(3));
+    change_each(
+        &rt,
+        alloc,
+        &mut part,
+        &[change_of(alloc, Key::Int(9), None)?],
+    )?;
+    assert_eq!(rt; part.len(), 2);
     Ok(())
 }

@@ -1,6 +1,6 @@
 ghost use Rattle.std.specs.Prelude.{◌≡◌, IfOk};
 
-use crate::handed_in::{are_keyed, keys_differ};
+use crate::handed_in::{are_keyed, is_keyed, keys_differ};
 use crate::made::KEY;
 use own_base::Change;
 use std::alloc::Global;
@@ -31,4 +31,21 @@ pub fn part_with(rt: &impl Abort, alloc: Global, changes: &[Change]) -> Result<T
     let empty = TablePart::new(KEY);
     let part = changed(rt, alloc, &empty, changes)?;
     Ok(part)
+}
+
+/// Makes changes one after another in a part itself.
+pub fn change_each(
+    rt: &impl Abort,
+    alloc: Global,
+    part: &mut TablePart,
+    changes: &[Change],
+) -> Result<(), Fail>
+    requires { part.old.key ≡ KEY }
+    ensures { part.new.key ≡ KEY }
+{
+    for change in changes {
+        assert!(rt; is_keyed(change));
+        part.change(alloc, change)?;
+    }
+    Ok(())
 }

@@ -1,8 +1,8 @@
 -- What rows that are put into a table do to the database.
 use Rattle.std.proofs.Common.{◌≡◌, ◌<◌, ◌∙◌, ℕ, List, [], ◌∷◌, length, map, refl, ap, subst, sym}
-use Rattle.std.specs.Prelude.{Result, Ok, Err, Some, slice_get, slice_index_or, slice_set}
+use Rattle.std.specs.Prelude.{Option, None, Some, Result, Ok, Err, slice_get, slice_index_or, slice_set}
 use Rattle.std.specs.List.{AllByRecursion}
-use Rattle.std.proofs.lemmas.List.{map-set}
+use Rattle.std.proofs.lemmas.List.{map-set, set-get_or}
 use Rattle.std.proofs.lemmas.List.Elements.{All-cons, All-head, All-nil, All-set, All-tail}
 use Rattle.std.proofs.lemmas.Option.{slice_get-get_or}
 use Rattle.own_base.specs.declared.value.Key.{Key}
@@ -19,7 +19,7 @@ use Rattle.query_eval.specs.Stored.{AreStored, IsStoredRow}
 use Rattle.query_eval.proofs.TableRows.{stored_at}
 use Rattle.table_part.specs.Part.{Part, rows_of}
 use Rattle.store_top.specs.Kept.{IsKept}
-use Rattle.store_top.specs.Put.{IsPartOf}
+use Rattle.store_top.specs.Put.{rows_unless, IsPartOf, StaysWhere}
 use Rattle.store_top.specs.State.{AreTheirParts, db_of}
 use Rattle.store_top.specs.declared.state.State.TheInside.{Inside}
 use Rattle.store_top.proofs.TheirParts.{part-key, part-rows, parts-count, parts-set}
@@ -72,7 +72,24 @@ module _ (state : Inside) (number : ℕ) (table : TableDef) (part : Part) (kept 
     rising = subst (IsRising table) rows-here (rising-at state.catalog.schema.tables (db_of state).rows number table kept.ordered.rising is);
   }
 
-  module _ (new : Part) (tuples : List Row) (into : IsPartOf table new) (more : AreStored tuples) (put : Ok (rows_of new) ≡ with_tuples table (rows_of part) tuples) where
+  stored-here : AreStored (rows_of part)
+  stored-here = subst AreStored rows-here (stored_at (db_of state).rows number kept.stored)
+
+  -- rows that were put hold no sums, and where a key was there the part is as it was
+  pub stored-put : (new : Part) (tuples : List Row) (there : Option Key) → AreStored tuples → rows_unless new there ≡ with_tuples table (rows_of part) tuples → StaysWhere there part new
+      → AreStored (rows_of new)
+  stored-put new tuples None more put stays = stored-with_tuples table (rows_of part) tuples (rows_of new) stored-here more put
+  stored-put new tuples (Some key) more put stays = subst (λ (part : Part). AreStored (rows_of part)) (sym stays) stored-here
+
+  pub stored-same : (new : Part) → new ≡ part → AreStored (rows_of new)
+  stored-same new same = subst (λ (part : Part). AreStored (rows_of part)) (sym same) stored-here
+
+  -- the part as it was leaves the database as it was
+  pub same-after : (new : Part) → new ≡ part → map rows_of (slice_set state.parts.items number new) ≡ (db_of state).rows
+  same-after new same =
+      ap (λ (part : Part). map rows_of (slice_set state.parts.items number part)) (same ∙ own) ∙ ap (map rows_of) (set-get_or state.parts.items number part)
+
+  module _ (new : Part) (into : IsPartOf table new) (stored : AreStored (rows_of new)) where
     -- with the new part in its place the rows of that table alone change
     rows-after : map rows_of (slice_set state.parts.items number new) ≡ slice_set (db_of state).rows number (rows_of new)
     rows-after = map-set rows_of state.parts.items number new
@@ -81,8 +98,7 @@ module _ (state : Inside) (number : ℕ) (table : TableDef) (part : Part) (kept 
     kept-set : IsKept (record (db_of state) { rows = slice_set (db_of state).rows number (rows_of new) })
     kept-set = record {
       ordered = record { rising = rising-set state.catalog.schema.tables (db_of state).rows number table (rows_of new) kept.ordered.rising is into.rising };
-      stored = All-set AreStored (db_of state).rows number (rows_of new)
-          (stored-with_tuples table (rows_of part) tuples (rows_of new) (subst AreStored rows-here (stored_at (db_of state).rows number kept.stored)) more put) kept.stored;
+      stored = All-set AreStored (db_of state).rows number (rows_of new) stored kept.stored;
       few_views = kept.few_views;
       views = kept.views;
     }
@@ -94,11 +110,15 @@ module _ (state : Inside) (number : ℕ) (table : TableDef) (part : Part) (kept 
     parts-after = parts-set state.catalog.schema.tables state.parts.items number table new are is into.keyed
 
     -- as INSERT says
-    pub insert-after : insert (db_of state) number tuples ≡ record { db = record (db_of state) { rows = map rows_of (slice_set state.parts.items number new) }; reply = Counted (length tuples) }
-    insert-after =
+    pub insert-after : (tuples : List Row) → Ok (rows_of new) ≡ with_tuples table (rows_of part) tuples
+        → insert (db_of state) number tuples ≡ record { db = record (db_of state) { rows = map rows_of (slice_set state.parts.items number new) }; reply = Counted (length tuples) }
+    insert-after tuples put =
         insert-put (db_of state) number table tuples (rows_of new) is (put ∙ ap (λ rows. with_tuples table rows tuples) (sym rows-here))
         ∙ ap (λ rows. record { db = record (db_of state) { rows = rows }; reply = Counted (length tuples) }) (sym rows-after)
 
   -- a key that was there is told
-  pub insert-told : (tuples : List Row) (key : Key) → Err key ≡ with_tuples table (rows_of part) tuples → insert (db_of state) number tuples ≡ answered (db_of state) (Refused (Duplicate table.name key))
-  insert-told tuples key put = insert-refused (db_of state) number table tuples key is (put ∙ ap (λ rows. with_tuples table rows tuples) (sym rows-here))
+  pub insert-told : (new : Part) (tuples : List Row) (key : Key) → Err key ≡ with_tuples table (rows_of part) tuples → new ≡ part
+      → insert (db_of state) number tuples ≡ record { db = record (db_of state) { rows = map rows_of (slice_set state.parts.items number new) }; reply = Refused (Duplicate table.name key) }
+  insert-told new tuples key put same =
+      insert-refused (db_of state) number table tuples key is (put ∙ ap (λ rows. with_tuples table rows tuples) (sym rows-here))
+      ∙ ap (λ rows. record { db = record (db_of state) { rows = rows }; reply = Refused (Duplicate table.name key) }) (sym (same-after new same))

@@ -7,7 +7,6 @@ use Rattle.std.specs.List.Sorted.{IsStrictlySortedBy}
 use Rattle.std.specs.declared.cmp.Ordering.{Ordering}
 use Rattle.std.specs.declared.cmp.Ordering.TheVariants.{Less, Equal, Greater}
 use Rattle.own_base.specs.Key.{key_cmp}
-use Rattle.own_base.specs.declared.change.Change.{Change}
 use Rattle.own_base.specs.declared.number.ColNo.{ColNo}
 use Rattle.own_base.specs.declared.value.Key.{Key}
 use Rattle.own_model.proofs.KeyOrder.{key_order}
@@ -16,9 +15,8 @@ use Rattle.own_model.specs.Db.{IsRising, Row, key_of}
 use Rattle.own_model.specs.Stored.{has_key}
 use Rattle.history_model.specs.Insert.{with_row, with_tuple}
 use Rattle.history_model.proofs.RisingKeys.{rising_next}
-use Rattle.page_model.specs.Changed.{above_key, below_key, with_change, with_changes}
+use Rattle.page_model.specs.Changed.{above_key, below_key, with_change}
 use Rattle.page_model.specs.Found.{found}
-use Rattle.table_part.specs.Changes.{changed_key, row_after}
 use Rattle.table_part.specs.KeyIn.{key_in}
 use Rattle.table_part.proofs.KeyLemmas.{found-has_key}
 use Rattle.table_part.specs.Part.{Part, rows_of}
@@ -92,16 +90,16 @@ any-found table column key rows got same is =
     ∙ (ap (λ (column : ColNo). is_some (found (key_in column) key_cmp key rows)) (sym same) ∙ (ap is_some (sym is) ∙ copied-some got)))
 
 -- rows with one change that puts a row whose key isn't there
-pub put-absent : (table : TableDef) (row : Row) (rows new : List Row) (column : ColNo) (change : Change) → IsRising table rows
-    → list_any (has_key table (key_of table row)) rows ≡ false → column ≡ table.key → change.name.key ≡ key_of table row → change.after ≡ Some row
-    → new ≡ with_changes (key_in column) key_cmp changed_key row_after (change ∷ []) rows → Ok new ≡ with_tuple table rows row
-unfolding with_changes key_in key_of
-put-absent table row rows new column change rising absent same key after is =
+pub put-absent : (table : TableDef) (row : Row) (rows new : List Row) (column : ColNo) (key : Key) (put : Row) → IsRising table rows
+    → list_any (has_key table (key_of table row)) rows ≡ false → column ≡ table.key → key ≡ key_of table row → put ≡ row
+    → new ≡ with_change (key_in column) key_cmp key (Some put) rows → Ok new ≡ with_tuple table rows row
+unfolding key_in key_of
+put-absent table row rows new column key put rising absent same keyed kept is =
     ap (λ (rows : List Row). Ok rows)
     (is
-    ∙ (ap (λ (column : ColNo). with_change (key_in column) key_cmp change.name.key change.after rows) same
-    ∙ (ap (λ (key : Key). with_change (key_of table) key_cmp key change.after rows) key
-    ∙ ap (λ (put : Option Row). with_change (key_of table) key_cmp (key_of table row) put rows) after)))
+    ∙ (ap (λ (column : ColNo). with_change (key_in column) key_cmp key (Some put) rows) same
+    ∙ (ap (λ (key : Key). with_change (key_of table) key_cmp key (Some put) rows) keyed
+    ∙ ap (λ (put : Row). with_change (key_of table) key_cmp (key_of table row) (Some put) rows) kept)))
     ∙ sym (with_tuple-absent table row rows rising absent)
 
 -- which is one of the table's rows

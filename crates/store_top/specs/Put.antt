@@ -1,5 +1,5 @@
 -- What putting rows into a part leaves.
-use Rattle.std.specs.Prelude.{◌≡◌, List, Result, Ok, Err}
+use Rattle.std.specs.Prelude.{◌≡◌, List, Option, None, Some, Result, Ok, Err}
 use Rattle.own_base.specs.declared.value.Key.{Key}
 use Rattle.own_model.specs.declared.schema.TableDef.{TableDef}
 use Rattle.own_model.specs.Db.{IsRising, Row}
@@ -11,11 +11,11 @@ pub record IsPartOf (table : TableDef) (part : Part) : Type 0 where
   pub rising : IsRising table (rows_of part)
 
 -- the rows of the part, or the key that was there
-abbrev pub rows_put : Result Part Key → Result (List Row) Key
-rows_put (Ok part) = Ok (rows_of part)
-rows_put (Err key) = Err key
+abbrev pub rows_unless : Part → Option Key → Result (List Row) Key
+rows_unless part None = Ok (rows_of part)
+rows_unless part (Some key) = Err key
 
--- a part of the table's rows, or a key that was there
-abbrev pub IsPutInto : TableDef → Result Part Key → Type 0
-IsPutInto table (Ok part) = IsPartOf table part
-IsPutInto table (Err key) = Unit {0}
+-- where a key was there, the part is as it was
+abbrev pub StaysWhere : Option Key → Part → Part → Type 0
+StaysWhere None before after = Unit {0}
+StaysWhere (Some key) before after = after ≡ before

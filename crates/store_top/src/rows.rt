@@ -1,7 +1,7 @@
-ghost use Rattle.std.specs.Prelude.{◌≡◌, IfOk};
+ghost use Rattle.std.specs.Prelude.{◌≡◌, IfOk, OnErr};
 ghost use Rattle.history_model.specs.Insert.{and_tuple, with_tuple, with_tuples};
 ghost use Rattle.table_part.specs.Part.{rows_of};
-ghost use Rattle.store_top.specs.Put.{IsPartOf, IsPutInto, rows_put};
+ghost use Rattle.store_top.specs.Put.{rows_unless, IsPartOf, StaysWhere};
 
 use own_base::{Change, Key, List, MakeCopy, Row, RowName, TableNo};
 use own_model::TableDef;
@@ -10,68 +10,102 @@ use std::alloc::{AllocError, Global};
 use std::mem::drop;
 use table_part::TablePart;
 
-/// A table's rows with one more, or its key where that is there.
-fn with_row(
+/// Puts a row into the part of its table, or answers its key where that is there.
+fn put_row(
     alloc: Global,
     number: TableNo,
     table: &TableDef,
-    part: &TablePart,
+    part: &mut TablePart,
     row: Row,
-) -> Result<Result<TablePart, Key>, AllocError>
-    requires { IsPartOf table.now part.now }
-    ensures put { IfOk result (λ put. rows_put put ≡ with_tuple table.now (rows_of part.now) row) }
-    ensures into { IfOk result (IsPutInto table.now) }
+) -> Result<Option<Key>, AllocError>
+    requires { IsPartOf table.now part.old }
+    ensures of { IsPartOf table.now part.new }
+    ensures put { IfOk result (λ there. rows_unless part.new there ≡ with_tuple table.now (rows_of part.old) row) }
+    ensures stays { IfOk result (λ there. StaysWhere there part.old part.new) }
+    ensures err { OnErr result (part.new ≡ part.old) }
 {
     let key = key_of(alloc, table, &row)?;
     if part.get(&key).is_some() {
         drop(row);
-        return Ok(Err(key));
+        return Ok(Some(key));
     }
     let change = Change {
         name: RowName { table: number, key },
         before: None,
         after: Some(row.into_shared(alloc)?),
     };
-    Ok(Ok(part.with_changes(alloc, &[change])?))
+    let put = part.change(alloc, &change);
+    drop(change);
+    put?;
+    Ok(None)
 }
 
-/// The same where no row before was refused.
+/// The same where no key was there before.
 fn and_row(
     alloc: Global,
     number: TableNo,
     table: &TableDef,
-    put: Result<TablePart, Key>,
+    part: &mut TablePart,
+    there: Option<Key>,
     row: Row,
-) -> Result<Result<TablePart, Key>, AllocError>
-    requires { IsPutInto table.now put }
-    ensures put { IfOk result (λ after. rows_put after ≡ and_tuple table.now (rows_put put) row) }
-    ensures into { IfOk result (IsPutInto table.now) }
+) -> Result<Option<Key>, AllocError>
+    requires { IsPartOf table.now part.old }
+    ensures of { IsPartOf table.now part.new }
+    ensures put { IfOk result (λ after. rows_unless part.new after ≡ and_tuple table.now (rows_unless part.old there) row) }
 {
-    match put {
-        Ok(part) => with_row(alloc, number, table, &part, row),
-        Err(key) => {
-            drop(row);
-            Ok(Err(key))
-        }
+    if there.is_some() {
+        drop(row);
+        return Ok(there);
     }
+    put_row(alloc, number, table, part, row)
 }
 
-/// A table's rows with more, one after another; or the first key that is there.
+/// Puts rows into the part of their table, one after another, up to the first whose key is there.
 #[tactic(auto, unfolding(history_model::specs::Insert::with_tuples))]
-pub(crate) fn with_rows(
+fn put_each(
     alloc: Global,
     number: TableNo,
     table: &TableDef,
-    part: &TablePart,
-    rows: List<Row>,
-) -> Result<Result<TablePart, Key>, AllocError>
-    requires { IsPartOf table.now part.now }
-    ensures put { IfOk result (λ put. rows_put put ≡ with_tuples table.now (rows_of part.now) rows) }
-    ensures into { IfOk result (IsPutInto table.now) }
+    part: &mut TablePart,
+    rows: Vec<Row>,
+) -> Result<Option<Key>, AllocError>
+    requires { IsPartOf table.now part.old }
+    ensures of { IsPartOf table.now part.new }
+    ensures put { IfOk result (λ there. rows_unless part.new there ≡ with_tuples table.now (rows_of part.old) rows.items) }
 {
-    let mut put = Ok(part.copy(alloc)?);
-    for row in rows.into_vec() {
-        put = and_row(alloc, number, table, put, row)?;
+    let mut there = None;
+    for row in rows {
+        there = and_row(alloc, number, table, part, there, row)?;
     }
-    Ok(put)
+    Ok(there)
+}
+
+/// Puts rows into the part of their table, all of them or none; answers the first key that is there. More than one go
+/// into a part beside it first.
+#[tactic(auto, unfolding(history_model::specs::Insert::with_tuples))]
+pub(crate) fn put_rows(
+    alloc: Global,
+    number: TableNo,
+    table: &TableDef,
+    part: &mut TablePart,
+    rows: List<Row>,
+) -> Result<Option<Key>, AllocError>
+    requires { IsPartOf table.now part.old }
+    ensures of { IsPartOf table.now part.new }
+    ensures put { IfOk result (λ there. rows_unless part.new there ≡ with_tuples table.now (rows_of part.old) rows) }
+    ensures stays { IfOk result (λ there. StaysWhere there part.old part.new) }
+    ensures err { OnErr result (part.new ≡ part.old) }
+{
+    let mut rows = rows.into_vec();
+    if rows.len() == 1
+        && let Some(row) = rows.pop()
+    {
+        return put_row(alloc, number, table, part, row);
+    }
+    let mut more = part.copy(alloc)?;
+    let there = put_each(alloc, number, table, &mut more, rows)?;
+    if there.is_none() {
+        *part = more;
+    }
+    Ok(there)
 }

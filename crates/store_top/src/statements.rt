@@ -14,7 +14,7 @@ ghost use Rattle.transcript_model.specs.Printed.{MayTell};
 ghost use Rattle.store_top.specs.BoundThere.{NamesThere};
 ghost use Rattle.store_top.specs.Kept.{IsKept};
 
-use crate::rows::with_rows;
+use crate::rows::put_rows;
 use crate::state::{State, table_at};
 use own_base::{List, MakeCopy, Row, TableNo};
 use own_model::{Bound, Refusal, Reply, Request, Schema, Statement, StoreView};
@@ -48,12 +48,10 @@ impl State {
     {
         let table = table_at(&self.catalog, number);
         let count = rows.items().len() as u64;
-        match with_rows(alloc, number, table, &self.parts[number.0 as usize], rows)? {
-            Ok(part) => {
-                self.parts[number.0 as usize] = part;
-                Ok(Reply::Counted(count))
-            }
-            Err(key) => {
+        let part = &mut self.parts[number.0 as usize];
+        match put_rows(alloc, number, table, part, rows)? {
+            None => Ok(Reply::Counted(count)),
+            Some(key) => {
                 let table = table.name.copy(alloc)?;
                 Ok(Reply::Refused(Refusal::Duplicate { table, key }))
             }

@@ -1,8 +1,8 @@
-ghost use Rattle.std.specs.Prelude.{◌≡◌, [], IfOk, IfSome, length, map, slice_get};
+ghost use Rattle.std.specs.Prelude.{◌≡◌, [], ◌∷◌, IfOk, IfSome, OnErr, OnOk, length, map, slice_get};
 ghost use Rattle.std.specs.Option.{option_copied};
 ghost use Rattle.own_base.specs.Key.{key_cmp};
 ghost use Rattle.own_model.specs.Stored.{IsRunFrom};
-ghost use Rattle.page_model.specs.Changed.{AreKeyed, with_changes};
+ghost use Rattle.page_model.specs.Changed.{AreKeyed, with_change, with_changes};
 ghost use Rattle.page_model.specs.Found.{found};
 ghost use Rattle.page_model.specs.Kept.{KeepsPages};
 ghost use Rattle.page_model.specs.Page.{ArePages, IsPage};
@@ -121,6 +121,19 @@ impl TablePart {
         let _rows = self.len();
         let sorted = by_key(alloc, changes)?;
         self.changed(alloc, sorted.as_slice())
+    }
+
+    /// Makes one change in this part itself: in place, where no other part shares the page into which the key falls and
+    /// it fits there. Only the key of the change and the row `after` it are looked at. After `AllocError`, which comes
+    /// where it does in `with_changes`, the part is as it was.
+    pub fn change(&mut self, alloc: Global, change: &Change) -> Result<(), AllocError>
+        requires { IfSome (row_after change.now) (λ row. key_in self.old.key row ≡ changed_key change.now) }
+        ensures key { self.new.key ≡ self.old.key }
+        ensures rows { OnOk result (rows_of self.new ≡ with_change (key_in self.old.key) key_cmp (changed_key change.now) (row_after change.now) (rows_of self.old)) }
+        ensures kept { OnOk result (KeepsPages (key_in self.old.key) key_cmp changed_key self.old.pages (change.now ∷ []) self.new.pages) }
+        ensures unchanged { OnErr result (self.new ≡ self.old) }
+    {
+        self.pages.change(alloc, &KeyedChange(change))
     }
 }
 

@@ -1,35 +1,27 @@
-use Rattle.std.proofs.Common.{◌≡◌, ◌∙◌, sym, arith, subst}
-use Rattle.std.specs.Prelude.{true, false}
-use Rattle.std.specs.Ordering.{is_gt}
+use Rattle.std.proofs.Common.{◌<◌, ◌*◌, ◌+◌, sym, ◌∙◌, ap, subst, arith}
+use Rattle.page_model.specs.Found.{found}
 use Rattle.page_model.specs.Page.{joined}
 use Rattle.page_model.specs.Rising.{IsRising}
-use Rattle.page_tree.specs.Body.{pages_of}
-use Rattle.page_model.proofs.FoundLemmas.{found_in_back, found_in_front}
-use Rattle.page_model.proofs.RisingLemmas.{rising_back, rising_front}
+use Rattle.page_tree.specs.Branch.{Branch}
+use Rattle.page_tree.proofs.NodeLemmas.{nodes_from}
+use Rattle.page_tree.proofs.NodeOfLemmas.{found_in_node, rising_within}
 use Rattle.page_tree.proofs.search.+get.Goals as goal
 
--- A half has fewer nodes, and its keys rise too.
-pub item_among-item_among-requires : goal.item_among-item_among-requires
-item_among-item_among-requires g t c κs within =
-    let split = c.halves.ensures in
-    let rises = subst (IsRising (g.By.KeyOf.key_of c.args.by) g.By.KeyOf.key_cmp) split.items c.requires.rising in
-    (omega (arith, split.some.1, split.fewer), (within.0, (within.1.0, (within.1.1, (split.front, rising_front _ _ (joined (pages_of c.halves.result.0.now)) (joined (pages_of c.halves.result.1.now)) rises)))))
+-- The node has fewer nodes below it than all, and its keys rise too.
+pub item_among-item_in-requires : goal.item_among-item_in-requires
+item_among-item_in-requires g t c κs within =
+    let fewer = nodes_from c.args.nodes.now c.node_of.result c.index-nodes-node_of.result c.node_of.ensures.within c.index-nodes-node_of.is in
+    let rises = rising_within (g.By.KeyOf.key_of c.args.by) g.met.By.KeyOf.total c.args.nodes.now c.node_of.result c.index-nodes-node_of.result c.node_of.ensures.within c.index-nodes-node_of.is c.requires.rising in (
+      subst (λ (branch : Branch g.row.T.Denot). 2 * branch.below + 1 < t) (sym c.deref.ensures) (omega arith),
+      (
+        within.0,
+        (within.1.0, (within.1.1, subst (λ (branch : Branch g.row.T.Denot). IsRising (g.By.KeyOf.key_of c.args.by) g.By.KeyOf.key_cmp (joined branch.pages)) (sym c.deref.ensures) rises)),
+      ),
+    )
 
-pub item_among-item_among-requires-else-is_gt : goal.item_among-item_among-requires-else-is_gt
-item_among-item_among-requires-else-is_gt g t c κs within =
-    let split = c.halves.ensures in
-    let rises = subst (IsRising (g.By.KeyOf.key_of c.args.by) g.By.KeyOf.key_cmp) split.items c.requires.rising in
-    (omega (arith, split.some.0, split.fewer), (within.0, (within.1.0, (within.1.1, (split.back, rising_back _ _ (joined (pages_of c.halves.result.0.now)) (joined (pages_of c.halves.result.1.now)) rises)))))
-
--- The key is in the half where it is looked for, or in neither.
-pub item_among-returns-then-is_gt : goal.item_among-returns-then-is_gt
-item_among-returns-then-is_gt g t c =
-    let above : is_gt (g.By.KeyOf.key_cmp (g.By.KeyOf.key_of c.args.by c.first_of.result.now) c.args.key.now) ≡ true = cc in
-    c.item_among.ensures ∙ sym (found_in_front (g.By.KeyOf.key_of c.args.by) g.met.By.KeyOf.total c.args.key.now (joined (pages_of c.args.nodes.now)) (joined (pages_of c.halves.result.0.now)) c.first_of.result.now (pages_of c.halves.result.1.now)
-    c.halves.ensures.items c.first_of.ensures c.requires.rising above)
-
-pub item_among-returns-else-is_gt : goal.item_among-returns-else-is_gt
-item_among-returns-else-is_gt g t c =
-    let upto : is_gt (g.By.KeyOf.key_cmp (g.By.KeyOf.key_of c.args.by c.first_of.result.now) c.args.key.now) ≡ false = cc in
-    c.item_among-else-is_gt.ensures ∙ sym (found_in_back (g.By.KeyOf.key_of c.args.by) g.met.By.KeyOf.total c.args.key.now (joined (pages_of c.args.nodes.now)) (joined (pages_of c.halves.result.0.now)) c.first_of.result.now (pages_of c.halves.result.1.now)
-    c.halves.ensures.items c.first_of.ensures c.requires.rising upto)
+-- The key's item is in the node into which the key falls, or nowhere.
+pub item_among-returns : goal.item_among-returns
+item_among-returns g t c =
+    c.item_in.ensures
+    ∙ (ap (λ (branch : Branch g.row.T.Denot). found (g.By.KeyOf.key_of c.args.by) g.By.KeyOf.key_cmp c.args.key.now (joined branch.pages)) c.deref.ensures
+    ∙ sym (found_in_node (g.By.KeyOf.key_of c.args.by) g.met.By.KeyOf.total c.args.key.now c.args.nodes.now c.node_of.result c.index-nodes-node_of.result c.index-nodes-node_of.is c.node_of.ensures c.requires.rising))

@@ -1,50 +1,64 @@
 use Rattle.std.proofs.Common.{◌<◌, ◌∙◌, ap, length, subst, sym}
 use Rattle.own_model.specs.Db.{Db}
 use Rattle.history_model.specs.Run.{insert}
-use Rattle.store_top.proofs.InsertedRows.{insert-after, insert-told, kept-after, part-of, parts-after, table-there}
+use Rattle.store_top.proofs.InsertedRows.{insert-after, insert-told, kept-after, part-of, parts-after, stored-put, table-there}
+use Rattle.store_top.proofs.state.State.insert.Goals.{in-None, in-Some+in_ok-table-in-Some}
 use Rattle.store_top.proofs.state.State.insert.Goals as goal
 
-pub with_rows-requires : goal.with_rows-requires
-with_rows-requires c =
+pub put_rows-requires : goal.put_rows-requires
+put_rows-requires c =
     let state = c.self.inside in
     let n = c.args.number.0 in
     let table = c.table_at-table.result.now in
     let within = subst (λ (db : Db). n < length db.schema.tables) (sym c.self.view_is) c.requires.there in
     let is = table-there state.catalog.schema.tables n table within (c.table_at-table.ensures table) in
-    part-of state n table c.index.result.now c.self.invariant.0 c.self.invariant.1 is within c.index.ensures
+    part-of state n table c.index_mut-part.result.now c.self.invariant.0 c.self.invariant.1 is within c.index_mut-part.ensures.value
 
-pub invariant_of-self : goal.invariant_of-self
-invariant_of-self c =
+pub invariant_of-self-2 : goal.invariant_of-self-2
+invariant_of-self-2 c =
     let state = c.self.inside in
     let n = c.args.number.0 in
     let table = c.table_at-table.result.now in
+    let part = c.index_mut-part.result.now in
+    let new = c.put_rows.new.part in
+    let own = c.index_mut-part.ensures.value in
     let within = subst (λ (db : Db). n < length db.schema.tables) (sym c.self.view_is) c.requires.there in
     let is = table-there state.catalog.schema.tables n table within (c.table_at-table.ensures table) in
-    let into = rw c.in-Ok.is at c.in_ok-part.ensures.into in
-    let put = rw c.in-Ok.is at c.in_ok-part.ensures.put in (
-      kept-after state n table c.index.result.now c.self.invariant.0 c.self.invariant.1 is within c.index.ensures c.in-Ok.part c.args.rows into c.requires.stored put,
-      parts-after state n table c.index.result.now c.self.invariant.0 c.self.invariant.1 is within c.index.ensures c.in-Ok.part c.args.rows into c.requires.stored put,
-    )
+    let into = c.in_ok-put_rows.ensures.of in
+    let stored = stored-put state n table part c.self.invariant.0 c.self.invariant.1 is within own new c.args.rows c.in_ok-put_rows.field-0 c.requires.stored c.in_ok-put_rows.ensures.put c.in_ok-put_rows.ensures.stays in
+    elim c.match-branch-2.branch [
+      | in-None w ↦ rw w.self-inside-is (
+        kept-after state n table part c.self.invariant.0 c.self.invariant.1 is within own new into stored,
+        parts-after state n table part c.self.invariant.0 c.self.invariant.1 is within own new into stored,
+      )
+      | in-Some+in_ok-table-in-Some w ↦ rw w.self-inside-is (
+        kept-after state n table part c.self.invariant.0 c.self.invariant.1 is within own new into stored,
+        parts-after state n table part c.self.invariant.0 c.self.invariant.1 is within own new into stored,
+      )
+    ]
 
-pub returns-in-Ok-clause-ok : goal.returns-in-Ok-clause-ok
-returns-in-Ok-clause-ok c =
+pub returns-clause-ok : goal.returns-clause-ok
+returns-clause-ok c =
     let state = c.self.inside in
     let n = c.args.number.0 in
     let table = c.table_at-table.result.now in
+    let part = c.index_mut-part.result.now in
+    let new = c.put_rows.new.part in
+    let own = c.index_mut-part.ensures.value in
     let within = subst (λ (db : Db). n < length db.schema.tables) (sym c.self.view_is) c.requires.there in
     let is = table-there state.catalog.schema.tables n table within (c.table_at-table.ensures table) in
-    let into = rw c.in-Ok.is at c.in_ok-part.ensures.into in
-    let put = rw c.in-Ok.is at c.in_ok-part.ensures.put in
-    ap (λ db. insert db n c.args.rows) (sym c.self.view_is)
-    ∙ rw c.items.ensures (insert-after state n table c.index.result.now c.self.invariant.0 c.self.invariant.1 is within c.index.ensures c.in-Ok.part c.args.rows into c.requires.stored put)
-
-pub returns-in_ok-table-in-Err-clause-ok : goal.returns-in_ok-table-in-Err-clause-ok
-returns-in_ok-table-in-Err-clause-ok c =
-    let state = c.self.inside in
-    let n = c.args.number.0 in
-    let table = c.table_at-table.result.now in
-    let within = subst (λ (db : Db). n < length db.schema.tables) (sym c.self.view_is) c.requires.there in
-    let is = table-there state.catalog.schema.tables n table within (c.table_at-table.ensures table) in
-    let put = rw c.in-Err.is at c.in_ok-part.ensures.put in
-    ap (λ db. insert db n c.args.rows) (sym c.self.view_is)
-    ∙ rw (c.in_ok-table-in-Err.ensures, ← c.self.view_is) (insert-told state n table c.index.result.now c.self.invariant.0 c.self.invariant.1 is within c.index.ensures c.args.rows c.in-Err.key put)
+    let into = c.in_ok-put_rows.ensures.of in
+    let stored = stored-put state n table part c.self.invariant.0 c.self.invariant.1 is within own new c.args.rows c.in_ok-put_rows.field-0 c.requires.stored c.in_ok-put_rows.ensures.put c.in_ok-put_rows.ensures.stays in
+    elim c.match-branch-2.branch [
+      | in-None w ↦
+          let put = rw w.in-None.is at c.in_ok-put_rows.ensures.put in
+          rw (w.result-is, w.self-inside-is)
+          (ap (λ db. insert db n c.args.rows) (sym c.self.view_is)
+          ∙ rw c.items.ensures (insert-after state n table part c.self.invariant.0 c.self.invariant.1 is within own new into stored c.args.rows put))
+      | in-Some+in_ok-table-in-Some w ↦
+          let put = rw w.in-Some.is at c.in_ok-put_rows.ensures.put in
+          let stays = rw w.in-Some.is at c.in_ok-put_rows.ensures.stays in
+          rw (w.result-is, w.self-inside-is)
+          (ap (λ db. insert db n c.args.rows) (sym c.self.view_is)
+          ∙ rw w.in_ok-table-in-Some.ensures (insert-told state n table part c.self.invariant.0 c.self.invariant.1 is within own new c.args.rows w.in-Some.key put stays))
+    ]

@@ -1,0 +1,130 @@
+ghost use Rattle.std.specs.Prelude.{◌≡◌, ◌<◌, ◌∷◌, [], length, IfSome, IfNone, MatchBool};
+ghost use Rattle.page_model.specs.Changed.{AreKeyed};
+ghost use Rattle.page_model.specs.Page.{joined, ArePages, IsPage};
+ghost use Rattle.page_model.specs.Rising.{IsRising};
+ghost use Rattle.page_tree.specs.Body.{pages_of};
+ghost use Rattle.page_tree.specs.InPlace.{InPlace};
+
+use crate::key::{ChangeOf, KeyOf};
+use crate::merge::above_from;
+use crate::node::{Body, Node};
+use crate::search::{node_of, place_of};
+use own_base::MakeCopy;
+use page_model::PAGE_ITEMS;
+use std::alloc::Global;
+use std::sync::Arc;
+
+/// Puts a change into a page, unless it falls to the first item, or the page is full, or memory is refused. Answers
+/// whether it did.
+fn change_page<T: MakeCopy + Drop, By: KeyOf<T>, C: ChangeOf<T, By::Key>>(
+    alloc: Global,
+    by: By,
+    page: &mut Vec<T>,
+    change: &C,
+) -> bool
+    requires page { IsPage page.old.items }
+    requires rising { IsRising (By.key_of by) By.key_cmp page.old.items }
+    ensures { MatchBool result (InPlace (By.key_of by) By.key_cmp C.changed C.put (page.old.items ∷ []) change.now (page.new.items ∷ [])) (page.new.items ≡ page.old.items) }
+{
+    let place = place_of(by, page.as_slice(), change.key());
+    let behind = above_from(by, page.as_slice(), change.key(), place);
+    if place == 0 {
+        return false;
+    }
+    let Some(item) = change.item() else {
+        if place < behind {
+            drop(page.remove(place));
+        }
+        return true;
+    };
+    let Ok(item) = item.copy(alloc) else {
+        return false;
+    };
+    if place < behind {
+        page[place] = item;
+        return true;
+    }
+    page.len() < PAGE_ITEMS && page.insert(place, item).is_ok()
+}
+
+/// Puts a change into a page of a node, where nobody shares the node nor what is below it on the way to the page, and
+/// the page takes it. Answers whether it did.
+#[cycle(place)]
+pub(crate) fn change_alone<T: MakeCopy + Drop, By: KeyOf<T>, C: ChangeOf<T, By::Key>>(
+    alloc: Global,
+    by: By,
+    node: &mut Arc<Node<T>, Global>,
+    change: &C,
+) -> bool
+    requires pages { ArePages node.old.value.pages }
+    requires rising { IsRising (By.key_of by) By.key_cmp (joined node.old.value.pages) }
+    requires keyed { AreKeyed (By.key_of by) C.changed C.put (change.now ∷ []) }
+    ensures { MatchBool result (InPlace (By.key_of by) By.key_cmp C.changed C.put node.old.value.pages change.now node.new.value.pages) (node.new.value.pages ≡ node.old.value.pages) }
+{
+    match Arc::get_mut(node) {
+        None => false,
+        Some(node) => change_within(alloc, by, node, change),
+    }
+}
+
+/// Puts a change into a page of a node, where nobody shares what is below it.
+#[cycle(place)]
+fn change_within<T: MakeCopy + Drop, By: KeyOf<T>, C: ChangeOf<T, By::Key>>(
+    alloc: Global,
+    by: By,
+    node: &mut Node<T>,
+    change: &C,
+) -> bool
+    requires pages { ArePages node.old.pages }
+    requires rising { IsRising (By.key_of by) By.key_cmp (joined node.old.pages) }
+    requires keyed { AreKeyed (By.key_of by) C.changed C.put (change.now ∷ []) }
+    ensures { MatchBool result (InPlace (By.key_of by) By.key_cmp C.changed C.put node.old.pages change.now node.new.pages) (node.new.pages ≡ node.old.pages) }
+{
+    let items = node.items;
+    match &mut node.body {
+        Body::Leaf(page) => {
+            if !change_page(alloc, by, page, change) {
+                return false;
+            }
+            node.items = page.len();
+            true
+        }
+        Body::Inner(nodes) => match change_among(alloc, by, nodes, items, change) {
+            None => false,
+            Some(items) => {
+                node.items = items;
+                true
+            }
+        },
+    }
+}
+
+/// Puts a change into a page of some nodes, which have so many items, where nobody shares the way to it. Answers how
+/// many items they have then.
+#[cycle(place)]
+fn change_among<T: MakeCopy + Drop, By: KeyOf<T>, C: ChangeOf<T, By::Key>>(
+    alloc: Global,
+    by: By,
+    nodes: &mut Vec<Arc<Node<T>, Global>>,
+    items: usize,
+    change: &C,
+) -> Option<usize>
+    requires some { 0 < length nodes.old.items }
+    requires items { items ≡ length (joined (pages_of nodes.old.items)) }
+    requires pages { ArePages (pages_of nodes.old.items) }
+    requires rising { IsRising (By.key_of by) By.key_cmp (joined (pages_of nodes.old.items)) }
+    requires keyed { AreKeyed (By.key_of by) C.changed C.put (change.now ∷ []) }
+    ensures items { IfSome result (λ items. items ≡ length (joined (pages_of nodes.new.items))) }
+    ensures changed { IfSome result (λ _. InPlace (By.key_of by) By.key_cmp C.changed C.put (pages_of nodes.old.items) change.now (pages_of nodes.new.items)) }
+    ensures unchanged { IfNone result (pages_of nodes.new.items ≡ pages_of nodes.old.items) }
+{
+    if items == usize::MAX {
+        return None;
+    }
+    let number = node_of(by, nodes.as_slice(), change.key());
+    let before = nodes[number].items();
+    if !change_alone(alloc, by, &mut nodes[number], change) {
+        return None;
+    }
+    Some(items - before + nodes[number].items())
+}
