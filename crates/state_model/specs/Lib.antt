@@ -1,0 +1,10 @@
+pub mod Create
+pub mod Created
+pub mod Fault
+pub mod Net
+pub mod Payload
+pub mod Rows
+pub mod Same
+pub mod Settle
+pub mod Sound
+pub mod Weight

@@ -1,0 +1,44 @@
+-- Which rows may stand in a table.
+use Rattle.std.specs.Prelude.{◌≡◌, ◌≤◌, List, [], ◌∷◌, length}
+use Rattle.std.specs.List.{AllByRecursion}
+use Rattle.own_model.specs.declared.limit.TheConstants.{TEXT_BYTES}
+use Rattle.own_base.specs.declared.value.Value.{Value}
+use Rattle.own_base.specs.declared.value.Value.TheVariants.{Null, Int, Text, Sum}
+use Rattle.own_model.specs.declared.schema.Column.{Column}
+use Rattle.own_model.specs.declared.schema.Kind.{Kind}
+use Rattle.own_model.specs.declared.schema.Kind.TheVariants as kind
+use Rattle.own_model.specs.declared.schema.TableDef.{TableDef}
+use Rattle.own_model.specs.Db.{Db, Row}
+
+-- the kind of a value; NULL is of each, and a sum stands in no table
+abbrev pub IsOfKind : Kind → Value → Type 0
+IsOfKind of Null = Unit {0}
+IsOfKind of (Int number) = of ≡ kind.Int
+IsOfKind of (Text bytes) = of ≡ kind.Text
+IsOfKind of (Sum number) = ⊥
+
+-- no text of more than TEXT_BYTES bytes
+abbrev pub IsShort : Value → Type 0
+IsShort (Text bytes) = length bytes ≤ TEXT_BYTES
+IsShort Null = Unit {0}
+IsShort (Int number) = Unit {0}
+IsShort (Sum number) = Unit {0}
+
+-- one value for each column, of its kind
+abbrev pub AreOfKinds : List Column → Row → Type 0
+AreOfKinds [] [] = Unit {0}
+AreOfKinds [] (value ∷ row) = ⊥
+AreOfKinds (column ∷ columns) [] = ⊥
+AreOfKinds (column ∷ columns) (value ∷ row) = IsOfKind column.kind value × AreOfKinds columns row
+
+-- a row that may stand in a table
+pub record IsRowOf (table : TableDef) (row : Row) : Type 0 where
+  pub kinds : AreOfKinds table.columns row
+  pub short : AllByRecursion IsShort row
+
+-- each table has its list of rows, which may stand in it
+abbrev pub AreRowsOf : List TableDef → List (List Row) → Type 0
+AreRowsOf [] [] = Unit {0}
+AreRowsOf [] (rows ∷ rest) = ⊥
+AreRowsOf (table ∷ tables) [] = ⊥
+AreRowsOf (table ∷ tables) (rows ∷ rest) = AllByRecursion (IsRowOf table) rows × AreRowsOf tables rest

@@ -1,0 +1,3 @@
+//! Which databases a store may stand for, and whether a commit is accepted: the definitions of faults, weight, nets and
+//! creates, in `specs/`.
+#![tactic(auto)]
