@@ -1,0 +1,4 @@
+pub mod Agree
+pub mod Insert
+pub mod Run
+pub mod Update

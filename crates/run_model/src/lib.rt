@@ -1,0 +1,3 @@
+//! What a statement does to a database: the definitions of INSERT, UPDATE, DELETE and all others on one flat database, in
+//! `specs/`.
+#![tactic(auto)]
