@@ -1,13 +1,11 @@
 pub mod AreBuilt
 pub mod Built
-pub mod Create
-pub mod Created
-pub mod Fault
+pub mod Commits
+pub mod Held
 pub mod History
-pub mod Insert
 pub mod Made
 pub mod MayBeUnmade
 pub mod Named
-pub mod Run
+pub mod Reply
 pub mod Serial
-pub mod Sound
+pub mod World
