@@ -1,3 +1,6 @@
+pub mod KeylessSets
+pub mod Numbered
+pub mod OrderedRuns
 pub mod Outcomes
 pub mod Refusals
 pub mod RisingKeys
