@@ -1,1 +1,5 @@
+pub mod AgreeLemmas
+pub mod ApartLemmas
+pub mod BlockLemmas
+pub mod Facts
 pub mod HistoryLemmas
