@@ -2,4 +2,5 @@ pub mod AgreeLemmas
 pub mod ApartLemmas
 pub mod BlockLemmas
 pub mod Facts
+pub mod GrantLemmas
 pub mod HistoryLemmas
