@@ -4,3 +4,4 @@ pub mod BlockLemmas
 pub mod Facts
 pub mod GrantLemmas
 pub mod HistoryLemmas
+pub mod RowsByKey
