@@ -4,7 +4,9 @@ pub mod OrderedRuns
 pub mod Outcomes
 pub mod PutRows
 pub mod Refusals
+pub mod RightSets
 pub mod RisingKeys
 pub mod SameSchema
 pub mod ShortTexts
 pub mod TableLemmas
+pub mod UpdatedRows

@@ -53,7 +53,7 @@ abbrev pub IsNoSum : Value → Type 0
 IsNoSum found = (number : ℤ) → found ≡ value.Sum number → ⊥
 
 -- such a value is of the kind with which it goes, if it isn't the kind of sums
-of_kind : (of : Kind) (value : Value) → IsPlain of → IsNoSum value → goes_with of value ≡ true → IsOfKind of value
+pub of_kind : (of : Kind) (value : Value) → IsPlain of → IsNoSum value → goes_with of value ≡ true → IsOfKind of value
 of_kind of value.Null plain no_sum goes = tt
 of_kind kind.Int (value.Int number) plain no_sum goes = refl
 of_kind kind.Int (value.Text bytes) plain no_sum goes = cc
@@ -68,7 +68,7 @@ record IsGood (table : TableDef) (pair : Target × Value) : Type 0 where
   fits : (number : ℕ) (column : Column) → is_for number pair ≡ true → slice_get table.columns number ≡ Some column → IsOfKind column.kind pair.1
 
 -- a value without a fault goes with its column's kind
-goes_step : (kind : Kind) (value : Value) (fault : Refusal) (more : List Refusal) → (b : Bool) → goes_with kind value ≡ b
+pub goes_step : (kind : Kind) (value : Value) (fault : Refusal) (more : List Refusal) → (b : Bool) → goes_with kind value ≡ b
     → (cond b [] (fault ∷ [])) ++ more ≡ [] → goes_with kind value ≡ true
 goes_step kind value fault more true is none = is
 goes_step kind value fault more false is none = let never : ⊥ = cc in absurd never
@@ -97,9 +97,9 @@ good_pairs table (target ∷ targets) (value ∷ tuple) plain there short no_sum
     (good table target value plain there.0 short.0 no_sums.0 none.0, good_pairs table targets tuple plain there.1 short.1 no_sums.1 none.1)
 
 -- what a column is given
-record IsGiven (column : Column) (value : Value) : Type 0 where
-  fits : IsOfKind column.kind value
-  short : IsShort value
+pub record IsGiven (column : Column) (value : Value) : Type 0 where
+  pub fits : IsOfKind column.kind value
+  pub short : IsShort value
 
 -- by whether the first value is for the column
 given_step : (table : TableDef) (pair : Target × Value) (pairs : Pairs) (column : ℕ × Column)
