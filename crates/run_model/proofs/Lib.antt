@@ -1,3 +1,5 @@
+pub mod FitSets
+pub mod KeptRuns
 pub mod KeylessSets
 pub mod Numbered
 pub mod OrderedRuns

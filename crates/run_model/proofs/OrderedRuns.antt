@@ -36,7 +36,7 @@ module _ (db : Db) (ordered : IsOrdered db) where
   same : (reply : Reply) → Left (answered db reply)
   same reply = ordered
 
-  ordered-put : (number : ℕ) (tuples : List Row) → IfPut db Left same number tuples
+  pub ordered-put : (number : ℕ) (tuples : List Row) → IfPut db Left number tuples
   ordered-put number tuples table rows at new =
       let rising : IfRows (IsRising table) (with_tuples table (rows_at db.rows number) tuples) =
           rising-with_tuples table (rows_at db.rows number) tuples (rising-at db.schema.tables db.rows number table ordered.rising at) in
@@ -46,8 +46,8 @@ module _ (db : Db) (ordered : IsOrdered db) where
   pub ordered-insert : (number : ℕ) (tuples : List Row) → IsOrdered (insert db number tuples).db
   ordered-insert number tuples = of-insert db Left same number tuples (ordered-put number tuples)
 
-  ordered-updated : (number : ℕ) (sets : Sets) (cond : Option BoundCond) → ((table : TableDef) → slice_get db.schema.tables number ≡ Some table → AreKeyless table sets)
-      → IfUpdated db Left same number sets cond
+  pub ordered-updated : (number : ℕ) (sets : Sets) (cond : Option BoundCond) → ((table : TableDef) → slice_get db.schema.tables number ≡ Some table → AreKeyless table sets)
+      → IfUpdated db Left number sets cond
   ordered-updated number sets cond keyless table at none =
       record {
         rising = rising-set db.schema.tables db.rows number table _ ordered.rising at
@@ -59,7 +59,7 @@ module _ (db : Db) (ordered : IsOrdered db) where
       → IsOrdered (update db number sets cond).db
   ordered-update number sets cond keyless = of-update db Left same number sets cond (ordered-updated number sets cond keyless)
 
-  ordered-left : (number : ℕ) (cond : Option BoundCond) → IfDeleted db Left same number cond
+  pub ordered-left : (number : ℕ) (cond : Option BoundCond) → IfDeleted db Left number cond
   ordered-left number cond =
       record { rising = rising-change (rows_left cond) (λ table rows rising. rising-rows_left table cond rows rising) db.schema.tables db.rows number ordered.rising }
 
@@ -78,14 +78,14 @@ module _ (db : Db) (ordered : IsOrdered db) where
 
   -- the sets of an UPDATE that binding lets through are of no primary key
   bound_update : (name : NameBytes) (sets : Written) (cond : Option Cond) → lowest (update_faults db.schema name sets cond) ≡ None
-      → IfBound db Left same (meaning db.schema (statement.Update name sets cond))
+      → IfBound db Left (meaning db.schema (statement.Update name sets cond))
   unfolding meaning
   bound_update name sets cond told =
       ordered-updated _ _ _ (λ table at.
       let over = sets_over db.schema name sets cond table told at in
       rw over.bound (keyless-bound_sets table sets over.none))
 
-  runs : ((subject : RowName) → IsOrdered (forget db subject)) → (found : Statement) → IfRuns db Left same found
+  runs : ((subject : RowName) → IsOrdered (forget db subject)) → (found : Statement) → IfRuns db Left found
   unfolding meaning faults
   runs forgets (statement.CreateTable table) = λ none. ordered-create table
   runs forgets (statement.CreateView view) = λ none. ordered-create_view view

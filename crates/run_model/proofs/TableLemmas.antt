@@ -126,6 +126,16 @@ rows-set (first ∷ tables) (one ∷ rows) zero table new are is news =
     let same : first ≡ table = cc in (rw same news, are.1)
 rows-set (first ∷ tables) (one ∷ rows) (suc place) table new are is news = (are.0, rows-set tables rows place table new are.1 is news)
 
+-- rows of any table that are changed where they stand, in such a way that each still may stand there
+pub rows-change : (change : List Row → List Row)
+    → ((table : TableDef) (rows : List Row) → AllByRecursion (IsRowOf table) rows → AllByRecursion (IsRowOf table) (change rows))
+    → (tables : List TableDef) (rows : List (List Row)) (place : ℕ) → AreRowsOf tables rows → AreRowsOf tables (slice_set rows place (change (rows_at rows place)))
+rows-change change keeps [] [] place are = tt
+rows-change change keeps [] (one ∷ rows) place are = absurd are
+rows-change change keeps (first ∷ tables) [] place are = absurd are
+rows-change change keeps (first ∷ tables) (one ∷ rows) zero are = (keeps first one are.0, are.1)
+rows-change change keeps (first ∷ tables) (one ∷ rows) (suc place) are = (are.0, rows-change change keeps tables rows place are.1)
+
 -- a measure of rows that grows in one place
 pub sum-set : (measure : List Row → ℕ) (rows : List (List Row)) (place : ℕ) (old new : List Row) (more : ℕ) → slice_get rows place ≡ Some old
     → measure new ≡ measure old + more → sum_by measure (slice_set rows place new) ≡ sum_by measure rows + more
