@@ -1,0 +1,4 @@
+pub mod Members
+pub mod NamedLemmas
+pub mod JoinsLemmas
+pub mod TableRank
