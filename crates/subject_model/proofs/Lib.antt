@@ -2,3 +2,4 @@ pub mod Members
 pub mod NamedLemmas
 pub mod JoinsLemmas
 pub mod TableRank
+pub mod ForgetEdges
