@@ -3,3 +3,4 @@ pub mod NamedLemmas
 pub mod JoinsLemmas
 pub mod TableRank
 pub mod ForgetEdges
+pub mod ForgetKeys
