@@ -4,3 +4,5 @@ pub mod JoinsLemmas
 pub mod TableRank
 pub mod ForgetEdges
 pub mod ForgetKeys
+pub mod ForgetRows
+pub mod ForgetOrder
