@@ -3,3 +3,7 @@ pub mod NamedLemmas
 pub mod JoinsLemmas
 pub mod TableRank
 pub mod PathLemmas
+pub mod ForgetEdges
+pub mod ForgetKeys
+pub mod ForgetRows
+pub mod ForgetOrder
