@@ -6,3 +6,5 @@ pub mod PathLemmas
 pub mod OwnerLemmas
 pub mod EdgeNumbers
 pub mod StayLemmas
+pub mod FirstSubject
+pub mod LocalLemmas
