@@ -7,3 +7,8 @@ pub mod ForgetEdges
 pub mod ForgetKeys
 pub mod ForgetRows
 pub mod ForgetOrder
+pub mod OwnerLemmas
+pub mod EdgeNumbers
+pub mod StayLemmas
+pub mod FirstSubject
+pub mod LocalLemmas
