@@ -1,7 +1,11 @@
 pub mod Counts
 pub mod CreatedLemmas
 pub mod CreatedSchema
+pub mod ForgetCounts
+pub mod ForgetKept
+pub mod ForgetNamed
 pub mod ForgetSizes
 pub mod KeptLemmas
 pub mod Languages
+pub mod OwnerCounts
 pub mod PlainKinds
