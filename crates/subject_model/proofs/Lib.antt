@@ -6,3 +6,5 @@ pub mod ForgetEdges
 pub mod ForgetKeys
 pub mod ForgetRows
 pub mod ForgetOrder
+pub mod ForgetJoins
+pub mod ForgetSpared
