@@ -2,6 +2,12 @@ pub mod Members
 pub mod NamedLemmas
 pub mod JoinsLemmas
 pub mod TableRank
+pub mod PathLemmas
+pub mod OwnerLemmas
+pub mod EdgeNumbers
+pub mod StayLemmas
+pub mod FirstSubject
+pub mod LocalLemmas
 pub mod ForgetEdges
 pub mod ForgetKeys
 pub mod ForgetRows
