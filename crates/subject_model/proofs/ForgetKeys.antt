@@ -72,7 +72,7 @@ module _ (db : Db) (subject : RowName) (table : TableDef) (named : NamedRow) whe
         never blanked =
             let made = blanked_by db subject named.name table.key.0 owner blanked in
             let well : RulesWell db.schema made.ruling = all_contained (RulesWell db.schema) db.schema.edges made.ruling owner.rules made.among in
-            let own : slice_get db.schema.tables made.ruling.lower.0 ≡ Some table = subst (λ (t : TableNo). slice_get db.schema.tables t.0 ≡ Some table) made.joins.of_lower is in
+            let own : slice_get db.schema.tables made.ruling.lower.0 ≡ Some table = subst (λ (t : TableNo). slice_get db.schema.tables t.0 ≡ Some table) made.reaches.leads.0.of_lower is in
             let none = well.no_key table own in
             let has = made.rules in
             cc
