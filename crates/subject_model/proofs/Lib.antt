@@ -14,3 +14,4 @@ pub mod ForgetRows
 pub mod ForgetOrder
 pub mod ForgetJoins
 pub mod ForgetSpared
+pub mod ForgetPaths
