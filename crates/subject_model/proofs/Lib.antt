@@ -14,3 +14,4 @@ pub mod FirstSubject
 pub mod LocalLemmas
 pub mod ForgetJoins
 pub mod ForgetSpared
+pub mod ForgetPaths
