@@ -1,7 +1,6 @@
 -- What an UPDATE that can be read sets columns to: its literals are short, and no sums.
-use Rattle.std.proofs.Common.{◌≡◌, ℕ, List, []}
+use Rattle.std.proofs.Common.{ℕ, List, []}
 use Rattle.std.specs.Prelude.{ℤ, Option}
-use Rattle.std.specs.List.{AllByRecursion}
 use Rattle.own_base.specs.declared.value.Value.{Value}
 use Rattle.own_model.specs.declared.condition.Cond.{Cond}
 use Rattle.own_model.specs.declared.expression.Expr.{Expr}

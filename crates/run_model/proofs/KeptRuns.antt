@@ -1,9 +1,7 @@
 -- A statement that can be read keeps what databases keep.
-use Rattle.std.proofs.Common.{◌≡◌, ℕ, List, [], ◌∷◌, ◌++◌, map, refl}
+use Rattle.std.proofs.Common.{◌≡◌, ℕ, List, [], ◌++◌}
 use Rattle.std.specs.Prelude.{Option, Some, None, Ok, slice_get, flat_map}
 use Rattle.std.specs.List.{AllByRecursion}
-use Rattle.std.specs.Option.{option_map_or}
-use Rattle.own_base.specs.declared.row_name.RowName.{RowName}
 use Rattle.own_base.specs.declared.value.Value.{Value}
 use Rattle.own_model.specs.declared.bound.Bound.{Bound}
 use Rattle.own_model.specs.declared.bound.BoundCond.{BoundCond}
@@ -18,11 +16,9 @@ use Rattle.own_model.specs.Db.{Db, Row, IsOrdered}
 use Rattle.own_model.specs.Stored.{rows_at}
 use Rattle.query_model.specs.BoundStatement.{bound_statement, faults, meaning}
 use Rattle.query_model.specs.Refused.{lowest}
-use Rattle.query_model.specs.Scope.{NameBytes, table_named}
+use Rattle.query_model.specs.Scope.{NameBytes}
 use Rattle.query_model.specs.SelectFaults.{no_table}
-use Rattle.query_model.specs.SelectMeaning.{table_number}
 use Rattle.query_model.specs.WriteFaults.{insert_faults, list_faults, tuple_faults, update_faults}
-use Rattle.query_model.specs.WriteMeaning.{bound_sets, put_row}
 use Rattle.schema_model.proofs.Places.{all-at, append-none, flat_map-none}
 use Rattle.grammar_model.specs.Readable.{IsReadable}
 use Rattle.readable_model.proofs.Literals.{no_sums}
@@ -31,12 +27,12 @@ use Rattle.state_model.specs.Rows.{AreRowsOf, IsRowOf}
 use Rattle.state_model.specs.Sound.{IsKept}
 use Rattle.state_model.proofs.CreatedLemmas.{created-rows}
 use Rattle.state_model.proofs.CreatedSchema.{plain-created}
+use Rattle.state_model.proofs.ForgetKept.{kept-forget}
 use Rattle.state_model.proofs.KeptLemmas.{kept-create, kept-create_view}
 use Rattle.state_model.proofs.PlainKinds.{IsPlainTable}
-use Rattle.subject_model.specs.Forget.{forget}
 use Rattle.run_model.specs.Insert.{with_tuples}
-use Rattle.run_model.specs.Run.{Outcome, answered, run, run_bound, stored}
-use Rattle.run_model.specs.Update.{Sets, rows_left, updated_rows}
+use Rattle.run_model.specs.Run.{Outcome, answered, run, run_bound}
+use Rattle.run_model.specs.Update.{Sets, rows_left}
 use Rattle.run_model.proofs.FitSets.{written-fit}
 use Rattle.run_model.proofs.KeylessSets.{Written, keyless-bound_sets, sets_over}
 use Rattle.run_model.proofs.Numbered.{named-at}
@@ -72,7 +68,7 @@ module _ (db : Db) (kept : IsKept db) where
       → IfPut db Left number tuples
   kept-put number tuples are table rows at new =
       let together : IfRows (AreTogether (IsRowOf table) (rows_at db.rows number) tuples) (with_tuples table (rows_at db.rows number) tuples) =
-          together-with_tuples (IsRowOf table) table (rows_at db.rows number) tuples (rows-of number table at) (are table at) in
+      together-with_tuples (IsRowOf table) table (rows_at db.rows number) tuples (rows-of number table at) (are table at) in
       let all : AreTogether (IsRowOf table) (rows_at db.rows number) tuples rows = rw new at together in
       kept-stored _ (ordered-put db kept.ordered number tuples table rows at new) (rows-set db.schema.tables db.rows number table rows kept.rows at all.each)
 
@@ -118,31 +114,30 @@ module _ (db : Db) (kept : IsKept db) where
       rw over.bound (keyless, are))
 
   -- what binding gives for a statement that can be read
-  binds : ((subject : RowName) → IsKept (forget db subject)) → (found : Statement) → IsReadable (Run found) → lowest (faults db.schema found) ≡ None
+  pub kept-binds : (found : Statement) → IsReadable (Run found) → lowest (faults db.schema found) ≡ None
       → IfBound db Left (meaning db.schema found)
   unfolding meaning faults
-  binds forgets (statement.Insert table columns tuples) readable = kept-insert table columns tuples readable
-  binds forgets (statement.Update table sets cond) readable = kept-update table sets cond readable
-  binds forgets (statement.Delete table cond) readable = λ none. kept-deleted _ _
-  binds forgets (statement.GdprForget table key) readable = λ none there. forgets _
-  binds forgets _ readable = λ none. tt
+  kept-binds (statement.Insert table columns tuples) readable = kept-insert table columns tuples readable
+  kept-binds (statement.Update table sets cond) readable = kept-update table sets cond readable
+  kept-binds (statement.Delete table cond) readable = λ none. kept-deleted _ _
+  kept-binds (statement.GdprForget table key) readable = λ none there. kept-forget db _ kept
+  kept-binds _ readable = λ none. tt
 
-  runs : ((subject : RowName) → IsKept (forget db subject)) → (found : Statement) → IsReadable (Run found) → IfRuns db Left found
-  runs forgets (statement.CreateTable table) readable = kept-create db table kept readable
-  runs forgets (statement.CreateView view) readable = kept-create_view db view kept readable
-  runs forgets (statement.Insert table columns tuples) readable = binds forgets (statement.Insert table columns tuples) readable
-  runs forgets (statement.Update table sets cond) readable = binds forgets (statement.Update table sets cond) readable
-  runs forgets (statement.Delete table cond) readable = binds forgets (statement.Delete table cond) readable
-  runs forgets (statement.GdprForget table key) readable = binds forgets (statement.GdprForget table key) readable
-  runs forgets _ readable = tt
+  runs : (found : Statement) → IsReadable (Run found) → IfRuns db Left found
+  runs (statement.CreateTable table) readable = kept-create db table kept readable
+  runs (statement.CreateView view) readable = kept-create_view db view kept readable
+  runs (statement.Insert table columns tuples) readable = kept-binds (statement.Insert table columns tuples) readable
+  runs (statement.Update table sets cond) readable = kept-binds (statement.Update table sets cond) readable
+  runs (statement.Delete table cond) readable = kept-binds (statement.Delete table cond) readable
+  runs (statement.GdprForget table key) readable = kept-binds (statement.GdprForget table key) readable
+  runs _ readable = tt
 
-  -- each keeps the database, if FORGET does
-  pub kept-run_by : ((subject : RowName) → IsKept (forget db subject)) → (found : Statement) → IsReadable (Run found) → IsKept (run db found).db
-  kept-run_by forgets found readable = of-statement db Left same found (runs forgets found readable)
+  -- a statement that can be read keeps the database one that is kept
+  pub kept-run : (found : Statement) → IsReadable (Run found) → IsKept (run db found).db
+  kept-run found readable = of-statement db Left same found (runs found readable)
 
-  -- so does what binding gives
-  pub kept-bound_by : ((subject : RowName) → IsKept (forget db subject)) → (found : Statement) (meant : Bound) → IsReadable (Run found)
-      → bound_statement db.schema found ≡ Ok meant → IsKept (run_bound db meant).db
-  kept-bound_by forgets found meant readable is =
+  -- so does what binding gives for it
+  pub kept-run_bound : (found : Statement) (meant : Bound) → IsReadable (Run found) → bound_statement db.schema found ≡ Ok meant → IsKept (run_bound db meant).db
+  kept-run_bound found meant readable is =
       let own = bound-ok db.schema found meant is in
-      rw (← own.1) (of-bound db Left same (meaning db.schema found) (binds forgets found readable own.0))
+      rw (← own.1) (of-bound db Left same (meaning db.schema found) (kept-binds found readable own.0))

@@ -1,6 +1,6 @@
 -- The rows that an INSERT without faults puts: they may stand in its table, and have no more bytes of texts than its tuples.
 use Rattle.std.proofs.Common.{◌≡◌, ℕ, ◌+◌, ◌<◌, ◌≤◌, ℤ, List, [], ◌∷◌, ◌++◌, length, map, Bool, true, false, cond, refl, ap, arith, ◌==◌}
-use Rattle.std.specs.Prelude.{Option, Some, None, find, flat_map, slice_get, sum_by, zip}
+use Rattle.std.specs.Prelude.{Option, Some, None, flat_map, slice_get, sum_by, zip}
 use Rattle.std.specs.List.{AllByRecursion, enumerate_from}
 use Rattle.std.proofs.lemmas.Bool.{eqb-true, ne_eqb}
 use Rattle.std.proofs.lemmas.List.Sums.{sum_by-cons}
@@ -12,7 +12,7 @@ use Rattle.own_model.specs.declared.schema.Kind.{Kind}
 use Rattle.own_model.specs.declared.schema.Kind.TheVariants as kind
 use Rattle.own_model.specs.declared.schema.TableDef.{TableDef}
 use Rattle.own_model.specs.TextBytes.{text_bytes, tuple_bytes}
-use Rattle.schema_model.proofs.Places.{all-at, all-from_places, append-none, flat_map-none, slice_get-enumerate_from}
+use Rattle.schema_model.proofs.Places.{all-at, append-none, flat_map-none}
 use Rattle.query_model.specs.Kinds.{goes_with}
 use Rattle.query_model.specs.Scope.{NameBytes}
 use Rattle.query_model.specs.WriteFaults.{column_in, columns_for, columns_left, left_faults, numbered_columns, tuple_faults, value_faults, wrong_count}

@@ -1,9 +1,8 @@
 -- What an UPDATE sets a column to may stand there, where the UPDATE can be read and binding lets it through.
-use Rattle.std.proofs.Common.{◌≡◌, ℕ, zero, suc, ℤ, List, [], ◌∷◌, ◌++◌, map, Bool, true, false, refl}
+use Rattle.std.proofs.Common.{◌≡◌, ℕ, zero, suc, ℤ, List, [], ◌∷◌, ◌++◌, Bool, true, false, refl}
 use Rattle.std.specs.Prelude.{Option, Some, None, slice_get, unwrap_or, neg_ℤ, if◌then◌else◌}
 use Rattle.std.specs.List.{AllByRecursion}
 use Rattle.std.specs.Option.{option_map_or}
-use Rattle.own_base.specs.declared.number.ColNo.{ColNo}
 use Rattle.own_base.specs.declared.value.Value.{Value}
 use Rattle.own_base.specs.declared.value.Value.TheVariants as value
 use Rattle.own_base.specs.declared.value.Value.TheVariants.{Null}
@@ -16,17 +15,17 @@ use Rattle.own_model.specs.declared.schema.Kind.{Kind}
 use Rattle.own_model.specs.declared.schema.Kind.TheVariants as kind
 use Rattle.own_model.specs.declared.schema.TableDef.{TableDef}
 use Rattle.own_model.specs.Db.{Row}
-use Rattle.query_model.specs.Expression.{in_range, increased, value_of}
+use Rattle.query_model.specs.Expression.{increased, value_of}
 use Rattle.query_model.specs.Kinds.{are_compared, is_text}
 use Rattle.query_model.specs.Scope.{NameBytes}
 use Rattle.query_model.specs.Truth.{cell}
-use Rattle.query_model.specs.WriteFaults.{assigned_kind, column_in, expression_faults, key_write, not_a_column, set_faults, sum_faults}
+use Rattle.query_model.specs.WriteFaults.{assigned_kind, column_in, expression_faults, key_write, not_a_column, set_faults}
 use Rattle.query_model.specs.WriteMeaning.{bound_expression, bound_sets, column_number}
 use Rattle.schema_model.proofs.Places.{all-at}
 use Rattle.readable_model.proofs.NoFaults.{none-first, none-last}
 use Rattle.state_model.proofs.PlainKinds.{IsPlain, IsPlainColumn, IsPlainTable}
-use Rattle.state_model.specs.Rows.{AreOfKinds, IsOfKind, IsRowOf, IsShort}
-use Rattle.run_model.proofs.KeylessSets.{AreFaultless, IsColumnSet, Written, column_set}
+use Rattle.state_model.specs.Rows.{AreOfKinds, IsRowOf, IsShort}
+use Rattle.run_model.proofs.KeylessSets.{AreFaultless, Written, column_set}
 use Rattle.run_model.proofs.Numbered.{IfNumbered, numbered-found}
 use Rattle.run_model.proofs.PutRows.{IsGiven, IsNoSum, goes_step, of_kind}
 use Rattle.run_model.proofs.UpdatedRows.{AreSetsOf, IsSetOf}
@@ -143,7 +142,7 @@ set-of table set plain fit none row is column at =
     let there = column-at table set.0 own.0 own.1 own.2.found in
     let same : own.1 ≡ column = (let at : slice_get table.columns own.0 ≡ Some column = rw (← number) at in cc) in
     let faultless : expression_faults table set.0 (Some (own.0, own.1)) set.1 ≡ [] =
-        rw own.2.found at (none-last (not_a_column table set.0 ++ key_write table set.0) (expression_faults table set.0 (column_in table set.0) set.1) none) in
+    rw own.2.found at (none-last (not_a_column table set.0 ++ key_write table set.0) (expression_faults table set.0 (column_in table set.0) set.1) none) in
     rw (← same) (expression-given table plain set.0 own.0 own.1 there set.1 fit faultless row is)
 
 -- the sets of an UPDATE that has none

@@ -1,5 +1,5 @@
 -- What a row more does to a table's rows, and to those of a database.
-use Rattle.std.proofs.Common.{◌≡◌, ℕ, zero, suc, ◌+◌, List, [], ◌∷◌, ◌++◌, length, fold, Bool, true, false, refl, ap, arith}
+use Rattle.std.proofs.Common.{◌≡◌, ℕ, zero, suc, ◌+◌, List, [], ◌∷◌, length, fold, Bool, true, false, refl, ap, arith}
 use Rattle.std.specs.Prelude.{Some, Result, Ok, Err, slice_get, slice_set, sum_by}
 use Rattle.std.specs.List.{AllByRecursion, list_any}
 use Rattle.std.proofs.lemmas.List.Sums.{sum_by-cons}

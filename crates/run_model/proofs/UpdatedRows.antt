@@ -1,8 +1,7 @@
 -- The rows that an UPDATE and a DELETE leave may stand in their table.
 use Rattle.std.proofs.Common.{◌≡◌, ℕ, ◌+◌, List, [], ◌∷◌, map, filter, Bool, true, false, ◌==◌, refl}
-use Rattle.std.specs.Prelude.{Option, Some, None, find, slice_get, unwrap_or, if◌then◌else◌}
+use Rattle.std.specs.Prelude.{Option, Some, slice_get, unwrap_or, if◌then◌else◌}
 use Rattle.std.specs.List.{AllByRecursion, enumerate_from}
-use Rattle.std.specs.Option.{option_map_or}
 use Rattle.std.proofs.lemmas.Bool.{eqb-true}
 use Rattle.own_base.specs.declared.number.ColNo.{ColNo}
 use Rattle.own_base.specs.declared.value.Value.{Value}
