@@ -23,7 +23,7 @@ module _ {X : Type 0} (xs : List X) where
   IfNumbered (Some numbered) = IsNumbered numbered
 
   -- the elements with their numbers are such ones
-  numbered-each : AllByRecursion IsNumbered (enumerate_from 0 xs)
+  pub numbered-each : AllByRecursion IsNumbered (enumerate_from 0 xs)
   numbered-each = all-from_places IsNumbered (enumerate_from 0 xs) (λ place numbered is.
       let at = slice_get-enumerate_from 0 xs place numbered is in
       let number : numbered.0 ≡ place = (let n = at.0 in omega arith) in
