@@ -8,6 +8,7 @@ use Rattle.own_model.specs.declared.statement.Statement.{Statement}
 use Rattle.own_model.specs.declared.statement.Statement.TheVariants.{Delete, Insert, Select, Update}
 use Rattle.own_model.specs.Db.{Db}
 use Rattle.owner_model.specs.Joins.{row_of}
+use Rattle.schema_model.specs.Tables.{is_subject}
 use Rattle.grammar_model.specs.Readable.{IsWritten}
 use Rattle.subject_model.specs.Forget.{changed, forget, removed}
 use Rattle.subject_model.specs.Named.{is_name}
@@ -27,8 +28,8 @@ has_footprint _ = false
 pub record Facts : Type 0 where
   -- a statement leaves a kept database
   pub kept : (db : Db) (asked : Statement) → IsKept db → IsWritten STATEMENT_BYTES asked → IsKept (run db asked).db
-  -- a FORGET leaves a sound one sound
-  pub sound : (db : Db) (subject : RowName) → Sound db → Sound (forget db subject)
+  -- a FORGET of a row of a table of subjects leaves a sound one sound
+  pub sound : (db : Db) (subject : RowName) → Sound db → is_subject db.schema subject.table.0 ≡ true → Sound (forget db subject)
   -- and the row of a name that it neither removes nor changes
   pub unchanged : (db : Db) (subject name : RowName) → IsKept db → list_any (is_name name) (removed db subject ++ changed db subject) ≡ false
       → row_of (forget db subject) name ≡ row_of db name

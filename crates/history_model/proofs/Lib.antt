@@ -1,3 +1,4 @@
+pub mod Accepted
 pub mod AgreeLemmas
 pub mod ApartLemmas
 pub mod BlockLemmas
@@ -6,3 +7,4 @@ pub mod Facts
 pub mod GrantLemmas
 pub mod HistoryLemmas
 pub mod RowsByKey
+pub mod Worlds
