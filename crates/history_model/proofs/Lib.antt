@@ -2,9 +2,11 @@ pub mod Accepted
 pub mod AgreeLemmas
 pub mod ApartLemmas
 pub mod BlockLemmas
+pub mod ChangeLemmas
 pub mod DoomLemmas
 pub mod Facts
 pub mod GrantLemmas
 pub mod HistoryLemmas
 pub mod RowsByKey
+pub mod SubjectLemmas
 pub mod Worlds

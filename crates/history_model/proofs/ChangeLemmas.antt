@@ -1,0 +1,124 @@
+-- An accepted request leaves a sound database, which agrees with the one before on what each other open transaction holds,
+-- but for those that it dooms.
+use Rattle.std.proofs.Common.{◌≡◌, ℕ, ◌≤◌, List, [], ◌∷◌, ◌++◌, length, Bool, true, false, inl, inr, refl, ap, sym, subst, ◌∙◌}
+use Rattle.std.specs.Prelude.{◌⊎◌, ◌==◌, Option, None, Some, Err, not, ◌&&◌}
+use Rattle.std.specs.Option.{option_map_or}
+use Rattle.own_base.specs.declared.row_name.RowName.{RowName}
+use Rattle.own_model.specs.declared.history.Entry.{Entry}
+use Rattle.own_model.specs.declared.history.Verdict.{Verdict}
+use Rattle.own_model.specs.declared.limit.TheConstants.{STATEMENT_BYTES}
+use Rattle.own_model.specs.declared.refusal.Refusal.{Refusal}
+use Rattle.own_model.specs.declared.reply.Reply.{Reply}
+use Rattle.own_model.specs.declared.reply.Reply.TheVariants.{Refused}
+use Rattle.own_model.specs.declared.request.Request.{Request}
+use Rattle.own_model.specs.declared.request.Request.TheVariants.{Run, Syntax, Limit, End}
+use Rattle.own_model.specs.declared.statement.Statement.{Statement}
+use Rattle.own_model.specs.declared.statement.Statement.TheVariants as statement
+use Rattle.own_model.specs.Db.{Db}
+use Rattle.grammar_model.specs.Readable.{IsReadable, IsWritten}
+use Rattle.query_model.specs.BoundStatement.{bound_statement, faults, meaning}
+use Rattle.query_model.specs.SelectMeaning.{table_number}
+use Rattle.subject_model.specs.Forget.{changed, forget, removed}
+use Rattle.state_model.specs.Fault.{fault}
+use Rattle.state_model.specs.Settle.{settle}
+use Rattle.state_model.specs.Sound.{Sound}
+use Rattle.run_model.specs.Agree.{Agree, AgreeOn}
+use Rattle.run_model.specs.Items.{items_of, items_of_all}
+use Rattle.run_model.specs.Run.{Outcome, run}
+use Rattle.run_model.proofs.Outcomes.{of-statement}
+use Rattle.history_model.specs.Held.{held, is_open, lowest_other}
+use Rattle.history_model.specs.History.{History, dooms, is_struck_by, left_by, forgotten}
+use Rattle.history_model.specs.Reply.{changes, commit_reply, create_reply, forget_reply, is_refusal, reply_in, reply_inside, reply_outside, taking, unless_busy, write_reply}
+use Rattle.history_model.specs.World.{Block, Standing, Outside, Open, Doomed, World, after_block, statements_of}
+use Rattle.history_model.proofs.Accepted.{accepted-committing, no_conflict, settled-fault}
+use Rattle.history_model.proofs.AgreeLemmas.{agree-same, each_so}
+use Rattle.history_model.proofs.ApartLemmas.{AreApart, IsFree, apart-back, eqb_back}
+use Rattle.history_model.proofs.BlockLemmas.{kept-block, schema-block, spares-block}
+use Rattle.history_model.proofs.DoomLemmas.{agree-undoomed}
+use Rattle.history_model.proofs.Facts.{Facts, has_footprint}
+use Rattle.history_model.proofs.GrantLemmas.{IsGranted, IsOther, closed-lowest, granted-taking}
+use Rattle.history_model.proofs.SubjectLemmas.{subject-bound}
+use Rattle.history_model.proofs.Worlds.{IsSerialWorld, held-open, open-block}
+
+-- what an accepted entry leaves of the flat database
+pub record IsChange (world : World) (entry : Entry) (reply : Reply) (db : Db) : Type 0 where
+  pub sound : Sound db
+  pub others : (other : ℕ) → IsOther entry.session.0 other → is_open (world.standing other) ≡ true → dooms world entry reply other ≡ false
+      → Agree (held world other) world.flat db
+
+undoomed_step : (refused : Bool) (struck : RowName → Bool) (subject : RowName) (found : Option RowName) → found ≡ Some subject → refused ≡ false
+    → (not refused && option_map_or struck found false) ≡ false → struck subject ≡ false
+undoomed_step refused struck subject found is accepted none = rw (accepted, is) at none
+
+-- a session that an accepted FORGET doesn't doom
+undoomed : (world : World) (entry : Entry) (reply : Reply) (subject : RowName) (session : ℕ) → is_refusal reply ≡ false
+    → forgotten world.flat.schema entry.request ≡ Some subject → dooms world entry reply session ≡ false → is_struck_by world session subject ≡ false
+unfolding dooms
+undoomed world entry reply subject session accepted is none =
+    undoomed_step (is_refusal reply) (is_struck_by world session) subject (forgotten world.flat.schema entry.request) is accepted none
+
+module _ (facts : Facts) (base : Db) (history : History) (world : World) (is : IsSerialWorld base history world) (entry : Entry) (reply : Reply) where
+  abbrev session : ℕ
+  session = entry.session.0
+
+  abbrev Changes : Db → Type 0
+  Changes db = IsChange world entry reply db
+
+  -- nothing changes
+  pub change-same : IsChange world entry reply world.flat
+  change-same = record { sound = is.sound; others = λ other differs open' none. agree-same (held world other) world.flat }
+
+  -- a write that is granted and settled
+  change-write : (verdict : Verdict) (asked : Statement) → has_footprint asked ≡ true → IsWritten STATEMENT_BYTES asked
+      → is_refusal (taking world session asked (write_reply verdict world.flat (run world.flat asked))) ≡ false → Changes (run world.flat asked).db
+  change-write verdict asked has readable accepted = by granted.goes
+    where
+      own : Reply
+      own = write_reply verdict world.flat (run world.flat asked)
+
+      granted : IsGranted world session asked own
+      granted = granted-taking world session asked own (no_conflict _ accepted)
+
+      settled : is_refusal own ≡ false → Changes (run world.flat asked).db
+      settled accepted =
+          let none = accepted-committing verdict (changes world.flat (run world.flat asked).db) (settle world.flat (run world.flat asked).db) (run world.flat asked).reply accepted in
+          record {
+            sound = record { kept = facts.kept world.flat asked is.sound.kept readable; faultless = settled-fault world.flat (run world.flat asked).db none.1 };
+            others = λ other differs open' none. record {
+              schema = sym (facts.schema world.flat asked has);
+              on = each_so (IsFree (items_of world.flat.schema asked)) (AgreeOn world.flat (run world.flat asked).db)
+                  (facts.spares world.flat asked is.sound.kept readable has) (held world other)
+                  (apart-back (items_of world.flat.schema asked) (held world other) (granted.apart other differs));
+            };
+          }
+
+      by : (taking world session asked own ≡ own)
+          ⊎ ((why : Refusal) × (bound_statement world.flat.schema asked ≡ Err why) × (taking world session asked own ≡ Refused why))
+          → Changes (run world.flat asked).db
+      by (inl goes) = settled (ap is_refusal (sym goes) ∙ accepted)
+      by (inr (why, refused, told)) = let never : true ≡ false = ap is_refusal (sym told) ∙ accepted in absurd (cc)
+
+  -- a CREATE
+  change-create : (verdict : Verdict) (asked : Statement) → IsWritten STATEMENT_BYTES asked
+      → is_refusal (unless_busy (lowest_other world session) (create_reply verdict (run world.flat asked))) ≡ false → Changes (run world.flat asked).db
+  change-create verdict asked readable accepted = by (lowest_other world session) refl accepted
+    where
+      by : (found : Option ℕ) → lowest_other world session ≡ found → is_refusal (unless_busy found (create_reply verdict (run world.flat asked))) ≡ false
+          → Changes (run world.flat asked).db
+      by (Some other) busy accepted = absurd (cc)
+      by None free accepted =
+          let none = accepted-committing verdict true (fault (run world.flat asked).db) (run world.flat asked).reply accepted in
+          record {
+            sound = record { kept = facts.kept world.flat asked is.sound.kept readable; faultless = none.1 };
+            others = λ other differs open' none. let never : true ≡ false = sym open' ∙ closed-lowest world session free other differs in absurd (cc);
+          }
+
+  module _ (accepted : is_refusal reply ≡ false) where
+    -- a FORGET of a subject that is there
+    change-forgotten : (subject : RowName) → forgotten world.flat.schema entry.request ≡ Some subject → Sound (forget world.flat subject)
+        → Changes (forget world.flat subject)
+    change-forgotten subject names sound = record {
+      sound = sound;
+      others = λ other differs open' none.
+          agree-undoomed facts world.flat subject is.sound.kept sound.kept (held world other) (undoomed world entry reply subject other accepted names none);
+    }
