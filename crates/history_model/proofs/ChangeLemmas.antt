@@ -1,15 +1,16 @@
 -- An accepted request leaves a sound database, which agrees with the one before on what each other open transaction holds,
 -- but for those that it dooms.
-use Rattle.std.proofs.Common.{◌≡◌, ℕ, ◌≤◌, List, [], ◌∷◌, ◌++◌, length, Bool, true, false, inl, inr, refl, ap, sym, subst, ◌∙◌}
-use Rattle.std.specs.Prelude.{◌⊎◌, ◌==◌, Option, None, Some, Err, not, ◌&&◌}
+use Rattle.std.proofs.Common.{◌≡◌, ℕ, List, length, Bool, true, false, inl, inr, refl, ap, sym, subst, ◌∙◌}
+use Rattle.std.specs.Prelude.{◌⊎◌, Option, None, Some, Err, not, ◌&&◌}
 use Rattle.std.specs.Option.{option_map_or}
 use Rattle.own_base.specs.declared.row_name.RowName.{RowName}
+use Rattle.own_base.specs.declared.value.Key.{Key}
 use Rattle.own_model.specs.declared.history.Entry.{Entry}
 use Rattle.own_model.specs.declared.history.Verdict.{Verdict}
 use Rattle.own_model.specs.declared.limit.TheConstants.{STATEMENT_BYTES}
 use Rattle.own_model.specs.declared.refusal.Refusal.{Refusal}
 use Rattle.own_model.specs.declared.reply.Reply.{Reply}
-use Rattle.own_model.specs.declared.reply.Reply.TheVariants.{Refused}
+use Rattle.own_model.specs.declared.reply.Reply.TheVariants.{Done, Refused}
 use Rattle.own_model.specs.declared.request.Request.{Request}
 use Rattle.own_model.specs.declared.request.Request.TheVariants.{Run, Syntax, Limit, End}
 use Rattle.own_model.specs.declared.statement.Statement.{Statement}
@@ -18,13 +19,13 @@ use Rattle.own_model.specs.Db.{Db}
 use Rattle.grammar_model.specs.Readable.{IsReadable, IsWritten}
 use Rattle.query_model.specs.BoundStatement.{bound_statement, faults, meaning}
 use Rattle.query_model.specs.SelectMeaning.{table_number}
-use Rattle.subject_model.specs.Forget.{changed, forget, removed}
+use Rattle.subject_model.specs.Forget.{forget}
 use Rattle.state_model.specs.Fault.{fault}
 use Rattle.state_model.specs.Settle.{settle}
 use Rattle.state_model.specs.Sound.{Sound}
 use Rattle.run_model.specs.Agree.{Agree, AgreeOn}
 use Rattle.run_model.specs.Items.{items_of, items_of_all}
-use Rattle.run_model.specs.Run.{Outcome, run}
+use Rattle.run_model.specs.Run.{run}
 use Rattle.run_model.proofs.Outcomes.{of-statement}
 use Rattle.history_model.specs.Held.{held, is_open, lowest_other}
 use Rattle.history_model.specs.History.{History, dooms, is_struck_by, left_by, forgotten}
@@ -32,7 +33,7 @@ use Rattle.history_model.specs.Reply.{changes, commit_reply, create_reply, forge
 use Rattle.history_model.specs.World.{Block, Standing, Outside, Open, Doomed, World, after_block, statements_of}
 use Rattle.history_model.proofs.Accepted.{accepted-committing, no_conflict, settled-fault}
 use Rattle.history_model.proofs.AgreeLemmas.{agree-same, each_so}
-use Rattle.history_model.proofs.ApartLemmas.{AreApart, IsFree, apart-back, eqb_back}
+use Rattle.history_model.proofs.ApartLemmas.{AreApart, IsFree, apart-back}
 use Rattle.history_model.proofs.BlockLemmas.{kept-block, schema-block, spares-block}
 use Rattle.history_model.proofs.DoomLemmas.{agree-undoomed}
 use Rattle.history_model.proofs.Facts.{Facts, has_footprint}
@@ -122,3 +123,57 @@ module _ (facts : Facts) (base : Db) (history : History) (world : World) (is : I
       others = λ other differs open' none.
           agree-undoomed facts world.flat subject is.sound.kept sound.kept (held world other) (undoomed world entry reply subject other accepted names none);
     }
+
+    -- a FORGET
+    change-forget : (verdict : Verdict) (table : List ℕ) (key : Key) → entry.request ≡ Run (statement.GdprForget table key)
+        → is_refusal (forget_reply verdict (run world.flat (statement.GdprForget table key))) ≡ false → Changes (run world.flat (statement.GdprForget table key)).db
+    unfolding faults meaning
+    change-forget verdict table key asks told =
+        of-statement world.flat (λ outcome. is_refusal outcome.reply ≡ false → Changes outcome.db) (λ answer told. change-same) (statement.GdprForget table key)
+        (λ none there told.
+        change-forgotten (record { table = table_number world.flat.schema table; key = key }) (ap (forgotten world.flat.schema) asks)
+        (facts.sound world.flat (record { table = table_number world.flat.schema table; key = key }) is.sound (subject-bound world.flat.schema table key none)))
+        (accepted-committing verdict true None (run world.flat (statement.GdprForget table key)).reply told).0
+
+    -- a statement outside a transaction
+    change-outside : (verdict : Verdict) (asked : Statement) → entry.request ≡ Run asked → IsWritten STATEMENT_BYTES asked
+        → is_refusal (reply_outside world session verdict asked) ≡ false → Changes (run world.flat asked).db
+    change-outside verdict (statement.CreateTable table) asks readable told = change-create verdict (statement.CreateTable table) readable told
+    change-outside verdict (statement.CreateView view) asks readable told = change-create verdict (statement.CreateView view) readable told
+    change-outside verdict (statement.Insert table columns rows) asks readable told = change-write verdict (statement.Insert table columns rows) refl readable told
+    change-outside verdict (statement.Update table sets cond) asks readable told = change-write verdict (statement.Update table sets cond) refl readable told
+    change-outside verdict (statement.Delete table cond) asks readable told = change-write verdict (statement.Delete table cond) refl readable told
+    change-outside verdict (statement.GdprForget table key) asks readable told = change-forget verdict table key asks told
+    change-outside verdict asked asks readable told = of-statement world.flat (λ outcome. Changes outcome.db) (λ answer. change-same) asked tt
+
+    -- a COMMIT
+    change-commit : (verdict : Verdict) (begun : ℕ) (block : Block) → world.standing session ≡ Open begun block
+        → is_refusal (commit_reply verdict world.flat (after_block world.flat block)) ≡ false → Changes (after_block world.flat block)
+    change-commit verdict begun block opened told =
+        let own = open-block base history world is session begun block opened in
+        let none = accepted-committing verdict (changes world.flat (after_block world.flat block)) (settle world.flat (after_block world.flat block)) Done told in
+        record {
+          sound = record { kept = kept-block facts (length history) world.flat block is.sound.kept own.stated; faultless = settled-fault world.flat (after_block world.flat block) none.1 };
+          others = λ other differs open' none. record {
+            schema = sym (schema-block facts (length history) world.flat block own.stated);
+            on = each_so (IsFree (items_of_all world.flat.schema (statements_of block))) (AgreeOn world.flat (after_block world.flat block))
+                (spares-block facts (length history) world.flat block is.sound.kept own.stated) (held world other)
+                (subst (AreApart (held world other)) (held-open world session begun block opened) (is.apart other session differs.differs));
+          };
+        }
+
+    -- a statement in one
+    change-inside : (verdict : Verdict) (begun : ℕ) (block : Block) (asked : Statement) → world.standing session ≡ Open begun block
+        → is_refusal (reply_inside world session verdict block asked) ≡ false → Changes (left_by world.flat (Open begun block) (Run asked))
+    change-inside verdict begun block statement.Commit opened told = change-commit verdict begun block opened told
+    change-inside verdict begun block _ opened told = change-same
+
+    -- any request
+    pub change-accepted : (verdict : Verdict) (standing : Standing) (request : Request) → world.standing session ≡ standing → entry.request ≡ request → IsReadable request
+        → is_refusal (reply_in world session verdict standing request) ≡ false → Changes (left_by world.flat standing request)
+    change-accepted verdict (Doomed by) request stands asks readable told = change-same
+    change-accepted verdict Outside (Run asked) stands asks readable told = change-outside verdict asked asks readable told
+    change-accepted verdict (Open begun block) (Run asked) stands asks readable told = change-inside verdict begun block asked stands told
+    change-accepted verdict standing (Syntax byte) stands asks readable told = change-same
+    change-accepted verdict standing (Limit passed) stands asks readable told = change-same
+    change-accepted verdict standing End stands asks readable told = change-same
