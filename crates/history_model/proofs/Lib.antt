@@ -7,6 +7,7 @@ pub mod DoomLemmas
 pub mod Facts
 pub mod GrantLemmas
 pub mod HistoryLemmas
+pub mod OwnLemmas
 pub mod RowsByKey
 pub mod SubjectLemmas
 pub mod Worlds
