@@ -1,7 +1,7 @@
 -- How a session stands after a request of its own: its open transaction's statements still give the replies that were given,
 -- and what it holds is still apart from what each other session holds.
-use Rattle.std.proofs.Common.{◌≡◌, ℕ, ◌≤◌, ◌<◌, ◌+◌, List, [], ◌∷◌, ◌++◌, length, Bool, true, false, cond, inl, inr, refl, ap, sym, subst, ◌∙◌, arith}
-use Rattle.std.specs.Prelude.{◌⊎◌, Option, None, Some, Result, Ok, Err, if◌then◌else◌}
+use Rattle.std.proofs.Common.{◌≡◌, ℕ, ◌≤◌, ◌<◌, [], ◌∷◌, ◌++◌, length, Bool, true, false, cond, inl, inr, refl, ap, sym, subst, ◌∙◌, arith}
+use Rattle.std.specs.Prelude.{◌⊎◌, Some, Err, if◌then◌else◌}
 use Rattle.std.proofs.lemmas.List.{length-append}
 use Rattle.own_model.specs.declared.history.Entry.{Entry}
 use Rattle.own_model.specs.declared.history.Verdict.{Verdict}
@@ -19,7 +19,7 @@ use Rattle.query_model.specs.BoundStatement.{bound_statement}
 use Rattle.run_model.specs.Items.{items_of, items_of_all}
 use Rattle.run_model.specs.Run.{run}
 use Rattle.history_model.specs.Held.{held, items_held}
-use Rattle.history_model.specs.History.{History, after_request, is_conflict, is_failure, left_by, reply, with_stated}
+use Rattle.history_model.specs.History.{History, after_request, flat_after, is_conflict, is_failure, left_by, own_after, reply, with_stated}
 use Rattle.history_model.specs.Reply.{is_refusal, reply_in, reply_inside, reply_within, taking, unless_down}
 use Rattle.history_model.specs.World.{Block, Stated, Standing, Outside, Open, Doomed, World, after_block, statements_of}
 use Rattle.history_model.proofs.Accepted.{no_failure, working-down}
@@ -125,7 +125,7 @@ module _ (facts : Facts) (base : Db) (history : History) (world : World) (is : I
           };
           apart = λ other differs. rw (items-push world.flat.schema block stated)
               (apart-append (items_of_all world.flat.schema (statements_of block)) (items_of world.flat.schema asked) (held world other)
-                  (own_apart begun block opened other differs) (granted.apart other differs));
+              (own_apart begun block opened other differs) (granted.apart other differs));
         }
 
     -- what it is told is what its statement replies after those before
@@ -148,3 +148,59 @@ module _ (facts : Facts) (base : Db) (history : History) (world : World) (is : I
     own-stated false free told =
         let granted = granted-taking world session asked answered free in
         own-more granted (told ∙ ap Some (told_step granted))
+
+  own-either : (standing : Standing) → IsOwn world.flat standing → (refused : Bool) → IsOwn (if refused then world.flat else world.flat) standing
+  own-either standing own true = own
+  own-either standing own false = own
+
+  -- a statement in a transaction, whether it is refused or not
+  own-inside : (refused : Bool) (verdict : Verdict) (begun : ℕ) (block : Block) (asked : Statement) → world.standing session ≡ Open begun block
+      → IsWritten STATEMENT_BYTES asked → reply base more (length history) ≡ Some (reply_inside world session verdict block asked)
+      → IsOwn (if refused then world.flat else left_by world.flat (Open begun block) (Run asked))
+      (after_request world.place (Open begun block) (Run asked) (is_conflict (reply_inside world session verdict block asked)))
+  own-inside refused verdict begun block (statement.Select select) opened readable told =
+      own-either _ (own-stated begun block opened (statement.Select select) readable refl _ refl told) refused
+  own-inside refused verdict begun block (statement.Insert table columns rows) opened readable told =
+      own-either _ (own-stated begun block opened (statement.Insert table columns rows) readable refl _ refl told) refused
+  own-inside refused verdict begun block (statement.Update table sets cond) opened readable told =
+      own-either _ (own-stated begun block opened (statement.Update table sets cond) readable refl _ refl told) refused
+  own-inside refused verdict begun block (statement.Delete table cond) opened readable told =
+      own-either _ (own-stated begun block opened (statement.Delete table cond) readable refl _ refl told) refused
+  own-inside refused verdict begun block statement.Commit opened readable told = own-nothing _ Outside tt
+  own-inside refused verdict begun block statement.Rollback opened readable told = own-nothing _ Outside tt
+  own-inside refused verdict begun block _ opened readable told = own-either _ (own-open begun block opened) refused
+
+  -- any request
+  own-request : (refused : Bool) (verdict : Verdict) (standing : Standing) (request : Request) → world.standing session ≡ standing → IsReadable request
+      → reply base more (length history) ≡ Some (reply_in world session verdict standing request)
+      → IsOwn (if refused then world.flat else left_by world.flat standing request)
+      (after_request world.place standing request (is_conflict (reply_in world session verdict standing request)))
+  own-request refused verdict (Doomed by) request stands readable told = own-nothing _ Outside tt
+  own-request refused verdict Outside request stands readable told = own-nothing _ _ (outside-nothing world.place request _)
+  own-request refused verdict (Open begun block) (Run asked) stands readable told = own-inside refused verdict begun block asked stands readable told
+  own-request refused verdict (Open begun block) (Syntax byte) stands readable told = own-either _ (own-open begun block stands) refused
+  own-request refused verdict (Open begun block) (Limit passed) stands readable told = own-either _ (own-open begun block stands) refused
+  own-request refused verdict (Open begun block) End stands readable told = own-nothing _ Outside tt
+
+  module _ (given : Reply) (told : reply base (history ++ entry ∷ []) (length history) ≡ Some given)
+      (answered : given ≡ unless_down world.down (reply_in world entry.session.0 entry.verdict (world.standing entry.session.0) entry.request)) where
+    abbrev answer_in : Reply
+    answer_in = reply_in world session entry.verdict (world.standing session) entry.request
+
+    -- an answer for want of the disk changes nothing
+    own_failed : (refused : Bool) → is_refusal given ≡ refused → is_failure given ≡ true
+        → IsOwn (if refused then world.flat else left_by world.flat (world.standing session) entry.request) (world.standing session)
+    own_failed true is failed = own-same
+    own_failed false is failed = let never : true ≡ false = sym failed ∙ no_failure given is in absurd (cc)
+
+    own_by : (failed : Bool) → is_failure given ≡ failed → IsReadable entry.request
+        → IsOwn (flat_after world entry given) (if failed then world.standing session else after_request world.place (world.standing session) entry.request (is_conflict given))
+    own_by true is readable = own_failed _ refl is
+    own_by false is readable =
+        let same : given ≡ answer_in = answered ∙ working-down world.down answer_in (ap is_failure (sym answered) ∙ is) in
+        let own = own-request (is_refusal given) entry.verdict (world.standing session) entry.request refl readable (told ∙ ap Some same) in
+        subst (λ answer. IsOwn (flat_after world entry given) (after_request world.place (world.standing session) entry.request (is_conflict answer))) (sym same) own
+
+    -- how the session stands after its entry
+    pub own-after : IsReadable entry.request → IsOwn (flat_after world entry given) (own_after world entry given)
+    own-after readable = own_by _ refl readable
