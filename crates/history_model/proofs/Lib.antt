@@ -9,5 +9,6 @@ pub mod GrantLemmas
 pub mod HistoryLemmas
 pub mod OwnLemmas
 pub mod RowsByKey
+pub mod SerialLemmas
 pub mod SubjectLemmas
 pub mod Worlds
