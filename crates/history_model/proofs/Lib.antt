@@ -4,6 +4,7 @@ pub mod ApartLemmas
 pub mod BlockLemmas
 pub mod ChangeLemmas
 pub mod DoomLemmas
+pub mod EveryHistory
 pub mod Facts
 pub mod GrantLemmas
 pub mod HistoryLemmas
