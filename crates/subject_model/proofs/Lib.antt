@@ -1,0 +1,17 @@
+pub mod Members
+pub mod NamedLemmas
+pub mod JoinsLemmas
+pub mod TableRank
+pub mod PathLemmas
+pub mod ForgetEdges
+pub mod ForgetKeys
+pub mod ForgetRows
+pub mod ForgetOrder
+pub mod OwnerLemmas
+pub mod EdgeNumbers
+pub mod StayLemmas
+pub mod FirstSubject
+pub mod LocalLemmas
+pub mod ForgetJoins
+pub mod ForgetSpared
+pub mod ForgetPaths
