@@ -8,3 +8,4 @@ pub mod EdgeNumbers
 pub mod StayLemmas
 pub mod FirstSubject
 pub mod LocalLemmas
+pub mod NameOrderLemmas
