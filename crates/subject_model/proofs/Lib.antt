@@ -9,3 +9,4 @@ pub mod StayLemmas
 pub mod FirstSubject
 pub mod LocalLemmas
 pub mod NameOrderLemmas
+pub mod OwnerLists
