@@ -1,4 +1,4 @@
-pub mod AreJoined
+pub mod FirstSubject
 pub mod Forget
 pub mod Get
 pub mod LocalEquation
