@@ -1,7 +1,6 @@
 -- A path ends at the first subject row that it enters.
-use Rattle.std.proofs.Common.{◌≡◌, List, [], ◌∷◌, ◌++◌, Bool, true, false, refl, sym, ◌∙◌}
-use Rattle.std.specs.Prelude.{◌↔◌, IsFalse, IsTrue}
-use Rattle.std.specs.List.{AllByRecursion}
+use Rattle.std.proofs.Common.{◌≡◌, [], ◌∷◌, ◌++◌, true, false, refl, sym, ◌∙◌}
+use Rattle.std.specs.Prelude.{◌↔◌}
 use Rattle.std.proofs.lemmas.Bool.{false_from_ne_true}
 use Rattle.own_base.specs.declared.row_name.RowName.{RowName}
 use Rattle.own_model.specs.Db.{Db}

@@ -1,8 +1,8 @@
 -- The lists of subjects, of a row's owners, and of those that reach it.
-use Rattle.std.proofs.Common.{◌≡◌, List, [], ◌∷◌, map, Bool, true, ap, sym, ◌∙◌, subst}
-use Rattle.std.specs.Prelude.{◌↔◌, Contains, IsTrue, filter}
+use Rattle.std.proofs.Common.{◌≡◌, [], ◌∷◌, map, true, subst}
+use Rattle.std.specs.Prelude.{◌↔◌, Contains, IsTrue}
 use Rattle.std.specs.List.Sorted.{IsStrictlySortedBy}
-use Rattle.std.proofs.lemmas.Bool.{and_from, and_parts}
+use Rattle.std.proofs.lemmas.Bool.{and_parts}
 use Rattle.std.proofs.lemmas.List.Kept.{IsStrictlySortedBy-filter}
 use Rattle.own_base.specs.declared.row_name.RowName.{RowName}
 use Rattle.own_model.specs.Db.{Db, IsOrdered}
@@ -48,9 +48,9 @@ subjects_rise db ordered = IsStrictlySortedBy-filter name_cmp (is_subject_row db
 pub owners-iff_Owns : (db : Db) (name subject : RowName) → IsOrdered db → IsOwnerSchema db.schema → Contains (owners db name) subject ↔ Owns db subject name
 unfolding owners
 owners-iff_Owns db name subject ordered owner = (
-    (λ among. owns_from db subject name (contains_of_filter (λ u. owns db u name) (subjects db) subject among).1),
-    (λ is. contains_filter (λ u. owns db u name) (subjects db) subject (subjects_contain db subject ordered (subject_row-ends db name is.path subject is.leads)) (from_owns db subject name ordered owner is)),
-  )
+  (λ among. owns_from db subject name (contains_of_filter (λ u. owns db u name) (subjects db) subject among).1),
+  (λ is. contains_filter (λ u. owns db u name) (subjects db) subject (subjects_contain db subject ordered (subject_row-ends db name is.path subject is.leads)) (from_owns db subject name ordered owner is)),
+)
 
 pub owners_rise : (db : Db) (name : RowName) → IsOrdered db → IsStrictlySortedBy name_cmp (owners db name)
 unfolding owners
@@ -60,9 +60,9 @@ owners_rise db name ordered = IsStrictlySortedBy-filter name_cmp (λ u. owns db 
 pub reach-iff_Reaches : (db : Db) (name subject : RowName) → IsOrdered db → IsOwnerSchema db.schema → Contains (reach db name) subject ↔ Reaches db subject name
 unfolding reach
 reach-iff_Reaches db name subject ordered owner = (
-    (λ among. reaches_from db subject name (contains_of_filter (λ u. reaches db u name) (subjects db) subject among).1),
-    (λ is. contains_filter (λ u. reaches db u name) (subjects db) subject (subjects_contain db subject ordered (subject_row-ends db name is.path subject is.leads)) (from_reaches db subject name ordered owner is)),
-  )
+  (λ among. reaches_from db subject name (contains_of_filter (λ u. reaches db u name) (subjects db) subject among).1),
+  (λ is. contains_filter (λ u. reaches db u name) (subjects db) subject (subjects_contain db subject ordered (subject_row-ends db name is.path subject is.leads)) (from_reaches db subject name ordered owner is)),
+)
 
 pub reach_rise : (db : Db) (name : RowName) → IsOrdered db → IsStrictlySortedBy name_cmp (reach db name)
 unfolding reach

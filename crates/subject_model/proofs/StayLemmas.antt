@@ -1,6 +1,6 @@
 -- Which rows are struck and which stay, as facts.
-use Rattle.std.proofs.Common.{◌≡◌, List, [], ◌∷◌, Bool, true, false, not, inl, inr, refl, ap, sym, ◌∙◌}
-use Rattle.std.specs.Prelude.{◌≢◌, ◌⊎◌, ◌↔◌, ◌&&◌, ◌||◌, Contains, IsTrue}
+use Rattle.std.proofs.Common.{◌≡◌, [], ◌∷◌, Bool, true, false, not, inl, inr, sym, ◌∙◌}
+use Rattle.std.specs.Prelude.{◌≢◌, ◌⊎◌, ◌↔◌, ◌&&◌, ◌||◌, IsTrue}
 use Rattle.std.specs.List.{AllByRecursion, list_all, list_any}
 use Rattle.std.proofs.lemmas.Bool.{and_from, and_parts, false_from_ne_true, not-true, not_from_false, or_cases, or_left, or_right}
 use Rattle.own_base.specs.declared.row_name.RowName.{RowName}
