@@ -8,5 +8,6 @@ pub mod NamedLemmas
 pub mod OwnerLemmas
 pub mod OwnerLists
 pub mod PathLemmas
+pub mod RisingNames
 pub mod StayLemmas
 pub mod TableRank

@@ -87,7 +87,7 @@ one_solution db counts Has Had owner meets also subject name there =
     (within db counts Has Had subject most name owner meets also (omega arith) there, within db counts Had Has subject most name owner also meets (omega arith) there)
 
 -- what is the same as a solution at each row is one
-meets_same : (db : Db) (counts : Edge → Bool) (Has Had : RowName → RowName → Type 0) → ((subject name : RowName) → Has subject name ↔ Had subject name)
+pub meets_same : (db : Db) (counts : Edge → Bool) (Has Had : RowName → RowName → Type 0) → ((subject name : RowName) → Has subject name ↔ Had subject name)
     → MeetsLocalEquation db counts Has → MeetsLocalEquation db counts Had
 meets_same db counts Has Had same meets =
     record {

@@ -72,6 +72,16 @@ pub fn local_equation_has_one_solution()
         → (subject name : RowName) → IsTrue (is_there db name) → (IsTrue (has subject name)) ↔ (Reaches db subject name) }
 {}
 
+/// So rising lists, one for each row, whose members meet the local equation are the rows' owners, or their reach.
+pub fn rising_lists_that_meet_it_are_the_owners()
+    ensures owners { (db : Db) (given : RowName → List RowName) → IsOrdered db → IsOwnerSchema db.schema
+        → MeetsLocalEquation db counts_for_owners (λ subject name. Contains (given name) subject)
+        → (name : RowName) → IsTrue (is_there db name) → IsStrictlySortedBy name_cmp (given name) → given name ≡ owners db name }
+    ensures reach { (db : Db) (given : RowName → List RowName) → IsOrdered db → IsOwnerSchema db.schema
+        → MeetsLocalEquation db counts_for_reach (λ subject name. Contains (given name) subject)
+        → (name : RowName) → IsTrue (is_there db name) → IsStrictlySortedBy name_cmp (given name) → given name ≡ reach db name }
+{}
+
 /// The owners of a row are exactly those that own it, and they stand by table, then by key, each once.
 pub fn owners_are_those_that_own()
     ensures members { (db : Db) (name subject : RowName) → IsOrdered db → IsOwnerSchema db.schema → (Contains (owners db name) subject) ↔ (Owns db subject name) }
