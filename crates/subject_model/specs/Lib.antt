@@ -6,4 +6,5 @@ pub mod NameOrder
 pub mod Named
 pub mod Owners
 pub mod Paths
+pub mod Staying
 pub mod Stays

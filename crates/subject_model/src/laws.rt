@@ -13,6 +13,8 @@ ghost use Rattle.subject_model.specs.NameOrder.{name_cmp};
 ghost use Rattle.subject_model.specs.Named.{NamedRow, is_there, named_rows};
 ghost use Rattle.subject_model.specs.Owners.{By, Owns, Reaches, by, owners, owns, reach, reaches};
 ghost use Rattle.subject_model.specs.Paths.{IsPath, Path, Step, end_of, is_subject_row, paths, steps_of};
+ghost use Rattle.subject_model.specs.Staying.{Stays, Struck};
+ghost use Rattle.subject_model.specs.Stays.{stays, struck};
 
 /// The named rows of a database are exactly those that their names find, and they stand by table, then by key.
 pub fn named_rows_are_those_that_names_find()
@@ -53,6 +55,12 @@ pub fn tests_say_what_they_test()
     ensures reaches { (db : Db) (subject name : RowName) → IsOrdered db → IsOwnerSchema db.schema → (IsTrue (reaches db subject name)) ↔ (Reaches db subject name) }
     ensures by { (db : Db) (subject name : RowName) (edge : Edge) → IsOrdered db → IsOwnerSchema db.schema → Contains db.schema.edges edge
         → (Contains (by db subject name) edge.number) ↔ (By db subject name edge) }
+{}
+
+/// They say whether a row is struck for a subject, and whether it stays when the subject is forgotten.
+pub fn tests_say_what_stays()
+    ensures struck { (db : Db) (subject name : RowName) → IsOrdered db → IsOwnerSchema db.schema → (IsTrue (struck db subject name)) ↔ (Struck db subject name) }
+    ensures stays { (db : Db) (subject name : RowName) → IsOrdered db → IsOwnerSchema db.schema → (IsTrue (stays db subject name)) ↔ (Stays db subject name) }
 {}
 
 /// Owning meets the local equation over the owner edges, and reaching the one over all edges.
