@@ -8,4 +8,5 @@ pub mod MayBeUnmade
 pub mod Named
 pub mod Reply
 pub mod Serial
+pub mod Since
 pub mod World
