@@ -1,0 +1,13 @@
+pub mod EdgeNumbers
+pub mod FirstSubject
+pub mod JoinsLemmas
+pub mod LocalLemmas
+pub mod Members
+pub mod NameOrderLemmas
+pub mod NamedLemmas
+pub mod OwnerLemmas
+pub mod OwnerLists
+pub mod PathLemmas
+pub mod RisingNames
+pub mod StayLemmas
+pub mod TableRank
