@@ -13,10 +13,10 @@ use Rattle.own_model.specs.declared.statement.Statement.{Statement}
 use Rattle.own_model.specs.declared.statement.Statement.TheVariants as statement
 use Rattle.own_model.specs.Db.{Db}
 use Rattle.run_model.specs.Run.{run}
-use Rattle.history_model.specs.History.{History, after_request, doomed_at, after_stated, happens, is_conflict, is_failure, other_after, own_after, reply, standing, with_stated, world}
+use Rattle.history_model.specs.History.{History, after_request, doomed_at, after_stated, happens, is_conflict, is_failure, reply, standing, with_stated, world}
 use Rattle.history_model.specs.Reply.{answer}
 use Rattle.history_model.specs.Since.{IsBegun, is_left_out, is_of_block, row_statement, stated_at, stated_since}
-use Rattle.history_model.specs.World.{Block, Stated, Standing, Outside, Open, Doomed, World, start}
+use Rattle.history_model.specs.World.{Block, Stated, Standing, Outside, Open, Doomed, World}
 use Rattle.history_model.proofs.HistoryLemmas.{place-world, reply-append, reply-last, slice_get-append, slice_get-last, standing-append, standing-world}
 
 -- numbered entries, one more
@@ -64,12 +64,12 @@ since-append base history entry session begun =
     let before = λ (numbered : ℕ × Entry). stated_at session begun numbered.0 numbered.1 (reply base history numbered.0) in
     let after = λ (numbered : ℕ × Entry). stated_at session begun numbered.0 numbered.1 (reply base longer numbered.0) in
     let same : filter_map after (enumerate_from 0 history) ≡ filter_map before (enumerate_from 0 history) =
-        filter_map-same after before (length history) 0 history (omega arith)
-        (λ place x lt. ap (stated_at session begun place x) (reply-append base history (entry ∷ []) place lt)) in
+    filter_map-same after before (length history) 0 history (omega arith)
+    (λ place x lt. ap (stated_at session begun place x) (reply-append base history (entry ∷ []) place lt)) in
     let last : after (length history, entry) ≡ stated_at session begun (length history) entry (Some (answer (world base history) entry)) =
-        ap (stated_at session begun (length history) entry) (reply-last base history entry) in
+    ap (stated_at session begun (length history) entry) (reply-last base history entry) in
     let numbered : enumerate_from 0 longer ≡ enumerate_from 0 history ++ (length history, entry) ∷ [] =
-        enumerate-last 0 history entry ∙ ap (λ n. enumerate_from 0 history ++ (n, entry) ∷ []) (omega arith) in
+    enumerate-last 0 history entry ∙ ap (λ n. enumerate_from 0 history ++ (n, entry) ∷ []) (omega arith) in
     ap (filter_map after) numbered
     ∙ (filter_map-last after (enumerate_from 0 history) (length history, entry) ∙ (ap (λ front. front ++ listed (after (length history, entry))) same
     ∙ ap (λ o. filter_map before (enumerate_from 0 history) ++ listed o) last))
@@ -162,7 +162,7 @@ module _ (base : Db) (history : History) (entry : Entry) (session : ℕ) where
       → IsTold base (history ++ entry ∷ []) session begun (block ++ record { place = length history; statement = asked } ∷ [])
   told-more begun block asked is some = record {
     statements = ap (λ front. front ++ record { place = length history; statement = asked } ∷ []) is.statements
-    ∙ (ap (λ o. stated_since base history session begun ++ listed o) (sym some) ∙ sym (since-append base history entry session begun));
+        ∙ (ap (λ o. stated_since base history session begun ++ listed o) (sym some) ∙ sym (since-append base history entry session begun));
     begins = begun-append begun is.begins;
   }
 

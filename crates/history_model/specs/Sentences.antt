@@ -1,15 +1,10 @@
 -- What the definitions of a history say, in sentences that a reader can hold against them.
-use Rattle.std.specs.Prelude.{◌≡◌, ℕ, ◌<◌, ◌≤◌, List, Option, None, Some, Contains, false, length, take, find}
-use Rattle.std.specs.List.{list_any}
+use Rattle.std.specs.Prelude.{◌≡◌, ℕ, ◌<◌, ◌≤◌, List, None, Some, Contains}
 use Rattle.own_model.specs.declared.footprint.FootItem.{FootItem}
 use Rattle.own_model.specs.declared.limit.TheConstants.{SESSIONS}
 use Rattle.own_model.specs.declared.schema.Schema.{Schema}
-use Rattle.own_model.specs.declared.statement.Statement.{Statement}
-use Rattle.own_model.specs.Db.{Db}
-use Rattle.query_model.specs.BoundStatement.{bound_statement}
-use Rattle.run_model.specs.Agree.{overlaps}
 use Rattle.run_model.specs.Items.{items_of}
-use Rattle.history_model.specs.Held.{Holding, first_overlap, held, holder, is_open, lowest_other}
+use Rattle.history_model.specs.Held.{Holding, first_overlap, held}
 use Rattle.history_model.specs.World.{Block, Stated, World}
 
 -- another session, of those that there are
