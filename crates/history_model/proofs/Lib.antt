@@ -1,1 +1,5 @@
-
+pub mod HistoryLemmas
+pub mod HolderLemmas
+pub mod NamedLemmas
+pub mod RefusalLemmas
+pub mod SinceLemmas
