@@ -1,3 +1,4 @@
 pub mod FaultLemmas
+pub mod ForgetFaults
 pub mod ForgetReferences
 pub mod ForgetUnique
