@@ -1,5 +1,5 @@
 -- A FORGET leaves no fault of a UNIQUE column, of a reference or of an owner where there was none.
-use Rattle.std.proofs.Common.{◌≡◌, ℕ, List, [], ◌∷◌, Bool, true, false, refl, ap, sym, ◌∙◌, subst}
+use Rattle.std.proofs.Common.{◌≡◌, ℕ, List, [], ◌∷◌, Bool, true, false, refl, ap, sym, subst}
 use Rattle.std.specs.Prelude.{◌&&◌, not, Some, Contains, IsTrue, slice_get, if◌then◌else◌}
 use Rattle.std.proofs.lemmas.Bool.{and_parts, not_from_true}
 use Rattle.own_base.specs.declared.row_name.RowName.{RowName}

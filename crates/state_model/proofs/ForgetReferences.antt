@@ -1,12 +1,11 @@
 -- A FORGET leaves no reference to a row that isn't there.
-use Rattle.std.proofs.Common.{◌≡◌, ℕ, List, [], ◌∷◌, Bool, true, false, refl, ap, sym, ◌∙◌, subst}
-use Rattle.std.specs.Prelude.{◌&&◌, ◌||◌, not, Option, Some, None, slice_get, if◌then◌else◌}
+use Rattle.std.proofs.Common.{◌≡◌, ℕ, List, [], Bool, true, false, refl, sym, ◌∙◌, subst}
+use Rattle.std.specs.Prelude.{◌&&◌, not, Option, Some, None, slice_get}
 use Rattle.std.proofs.lemmas.Bool.{and_from, not-false, not_from_true, or_parts}
 use Rattle.own_base.specs.declared.number.TableNo.{TableNo}
 use Rattle.own_base.specs.declared.row_name.RowName.{RowName}
 use Rattle.own_base.specs.declared.value.Key.{Key}
 use Rattle.own_base.specs.declared.value.Value.{Value}
-use Rattle.own_base.specs.declared.value.Value.TheVariants.{Null}
 use Rattle.own_model.specs.declared.refusal.Refusal.TheVariants.{Reference}
 use Rattle.own_model.specs.declared.schema.Column.{Column}
 use Rattle.own_model.specs.declared.schema.RefKind.{RefKind}
@@ -16,14 +15,14 @@ use Rattle.owner_model.specs.RuledColumns.{is_blanked}
 use Rattle.query_model.specs.Footprints.{literal_key}
 use Rattle.query_model.specs.Truth.{cell}
 use Rattle.schema_model.specs.OwnerSchema.{IsOwnerSchema}
-use Rattle.subject_model.specs.Forget.{dangles_at, forget, left_of, loses, names_going}
+use Rattle.subject_model.specs.Forget.{dangles_at, forget, loses, names_going}
 use Rattle.subject_model.specs.Named.{is_there, name_of}
 use Rattle.subject_model.specs.Owners.{by}
 use Rattle.subject_model.specs.Stays.{stays}
 use Rattle.subject_model.proofs.ForgetKeys.{cell_left, kept_value}
 use Rattle.subject_model.proofs.ForgetRows.{is_there-forget, named_in, row_left}
-use Rattle.state_model.specs.Fault.{Held, breaks_reference, names_a_row, reference_faults, reference_rule}
-use Rattle.state_model.proofs.FaultLemmas.{columns_pass, held_at, pass_columns}
+use Rattle.state_model.specs.Fault.{breaks_reference, names_a_row, reference_rule}
+use Rattle.state_model.proofs.FaultLemmas.{columns_pass, pass_columns}
 
 module _ (db : Db) (subject : RowName) (owner : IsOwnerSchema db.schema) where
   -- a row that is there, and isn't going, is there after

@@ -1,23 +1,20 @@
 -- A FORGET leaves no value twice in a UNIQUE column: values only go.
-use Rattle.std.proofs.Common.{◌≡◌, ℕ, List, [], ◌∷◌, Bool, true, false, refl, ap, sym, ◌∙◌, subst}
-use Rattle.std.specs.Prelude.{◌&&◌, not, Some, Contains, slice_get, if◌then◌else◌}
-use Rattle.std.proofs.lemmas.Bool.{and_from, and_left, and_parts, and_right, false_from_ne_true, not-true}
+use Rattle.std.proofs.Common.{◌≡◌, ℕ, List, [], Bool, true, false, refl, sym, ◌∙◌, subst}
+use Rattle.std.specs.Prelude.{◌&&◌, not, Some, slice_get}
+use Rattle.std.proofs.lemmas.Bool.{and_from, and_parts, false_from_ne_true, not-true}
 use Rattle.own_base.specs.declared.row_name.RowName.{RowName}
 use Rattle.own_base.specs.declared.value.Value.{Value}
 use Rattle.own_base.specs.declared.value.Value.TheVariants.{Null, Int, Text, Sum}
 use Rattle.own_model.specs.declared.refusal.Refusal.TheVariants.{Unique}
-use Rattle.own_model.specs.declared.schema.Column.{Column}
 use Rattle.own_model.specs.declared.schema.TableDef.{TableDef}
 use Rattle.own_model.specs.Db.{Db, Row, key_of}
 use Rattle.own_model.specs.Stored.{has_key, is_equal}
 use Rattle.own_base.specs.Key.{key_cmp}
-use Rattle.own_base.specs.declared.value.Key.{Key}
 use Rattle.query_model.specs.Truth.{cell, is_null}
 use Rattle.schema_model.specs.OwnerSchema.{IsOwnerSchema}
-use Rattle.subject_model.specs.Forget.{left_in, loses}
-use Rattle.subject_model.specs.Named.{name_of}
+use Rattle.subject_model.specs.Forget.{left_in}
 use Rattle.subject_model.proofs.ForgetKeys.{cell_left, kept_value, key_left}
-use Rattle.subject_model.proofs.ForgetRows.{IsLeftIn, contains_left_in, named_in, row_left}
+use Rattle.subject_model.proofs.ForgetRows.{contains_left_in, named_in, row_left}
 use Rattle.subject_model.proofs.Members.{any_contained, contains_any}
 use Rattle.state_model.specs.Fault.{breaks_unique, is_shared, unique_rule}
 use Rattle.state_model.specs.Same.{is_same_value}

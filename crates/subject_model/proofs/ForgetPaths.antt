@@ -1,17 +1,14 @@
 -- Owner paths of rows that stay, after a FORGET.
-use Rattle.std.proofs.Common.{◌≡◌, ◌≢◌, ℕ, List, [], ◌∷◌, Bool, true, false, cond, eqb, inl, inr, refl, ap, sym, ◌∙◌, subst}
-use Rattle.std.specs.Prelude.{◌⊎◌, ◌&&◌, ◌||◌, not, Option, Some, None, Contains, IsTrue, is_some, slice_get, if◌then◌else◌}
+use Rattle.std.proofs.Common.{◌≡◌, ◌≢◌, ℕ, [], ◌∷◌, Bool, true, false, cond, eqb, inl, inr, refl, ap, sym, ◌∙◌, subst}
+use Rattle.std.specs.Prelude.{◌⊎◌, Option, Some, None, IsTrue, is_some, slice_get}
 use Rattle.std.specs.List.{AllByRecursion}
-use Rattle.std.specs.Option.{option_and_then, option_map, option_map_or}
-use Rattle.std.proofs.lemmas.Bool.{and_from, and_parts, and_right, cond-false, cond-true, eq-eqb, eqb-true, eqb-false, false_from_ne_true, ne_eqb, or_from, or_cases}
+use Rattle.std.specs.Option.{option_and_then, option_map}
+use Rattle.std.proofs.lemmas.Bool.{and_from, and_right, cond-true, eq-eqb, eqb-true, eqb-false, false_from_ne_true, or_from}
 use Rattle.own_base.specs.declared.number.TableNo.{TableNo}
 use Rattle.own_base.specs.declared.row_name.RowName.{RowName}
 use Rattle.own_base.specs.declared.value.Key.{Key}
 use Rattle.own_base.specs.declared.value.Key.TheVariants as keyed
-use Rattle.own_base.specs.declared.value.Value.{Value}
-use Rattle.own_model.specs.declared.schema.Column.{Column}
 use Rattle.own_model.specs.declared.schema.Edge.{Edge}
-use Rattle.own_model.specs.declared.schema.Schema.{Schema}
 use Rattle.own_model.specs.declared.schema.TableDef.{TableDef}
 use Rattle.own_model.specs.Db.{Db, IsOrdered, Row}
 use Rattle.owner_model.specs.Joins.{Joins, holder_of, other_of, row_of, value_at, value_of}
@@ -29,11 +26,10 @@ use Rattle.subject_model.proofs.ForgetJoins.{subject_after, subject_there, there
 use Rattle.subject_model.proofs.ForgetKeys.{get_left, kept_value}
 use Rattle.subject_model.proofs.ForgetOrder.{ordered-forget}
 use Rattle.subject_model.proofs.ForgetRows.{left-stays, schema-forget}
-use Rattle.subject_model.proofs.JoinsLemmas.{step_joins}
 use Rattle.subject_model.proofs.Members.{all_contained}
 use Rattle.subject_model.proofs.NamedLemmas.{table-there}
 use Rattle.subject_model.proofs.OwnerLemmas.{from_owner}
-use Rattle.subject_model.proofs.StayLemmas.{Held, IsFree, Stays, from_stays, stays_from}
+use Rattle.subject_model.proofs.StayLemmas.{Held, IsFree, from_stays, stays_from}
 
 -- the key of a key's value is it
 key_of_own : (key : Key) → literal_key (value_of key) ≡ Some key
@@ -157,8 +153,8 @@ module _ (db : Db) (subject : RowName) (owner : IsOwnerSchema db.schema) where
         let lost : loses db subject table (holder_of edge lower upper) (edge.column.0, value_of key) ≡ false = unlost table at in
         let kept : slice_get (left_of db subject table named) edge.column.0 ≡ Some (value_of key) =
         get_left db subject table named edge.column.0
-            ∙ (ap (option_map (λ value. kept_value (loses db subject table (holder_of edge lower upper) (edge.column.0, value)) value)) before
-            ∙ ap (λ b. Some (kept_value b (value_of key))) lost) in
+        ∙ (ap (option_map (λ value. kept_value (loses db subject table (holder_of edge lower upper) (edge.column.0, value)) value)) before
+        ∙ ap (λ b. Some (kept_value b (value_of key))) lost) in
         ap (option_and_then (λ row. slice_get row edge.column.0)) (left-stays db subject (holder_of edge lower upper) table row owner table_is there holder_stays) ∙ kept
 
     holder_there : is_there db (holder_of edge lower upper) ≡ true

@@ -1,18 +1,17 @@
 -- Which rows a FORGET leaves, by name.
 use Rattle.std.proofs.Common.{◌≡◌, ℕ, zero, suc, ◌+◌, List, [], ◌∷◌, map, Bool, true, false, cond, refl, ap, sym, ◌∙◌, subst, arith}
-use Rattle.std.specs.Prelude.{◌&&◌, Option, Some, None, Contains, IsSome, filter, find, is_some, slice_get, if◌then◌else◌}
+use Rattle.std.specs.Prelude.{◌&&◌, Option, Some, None, Contains, filter, find, is_some, slice_get, if◌then◌else◌}
 use Rattle.std.specs.Option.{option_and_then}
 use Rattle.own_base.specs.declared.row_name.RowName.{RowName}
 use Rattle.own_base.specs.declared.value.Key.{Key}
-use Rattle.own_model.specs.declared.schema.Schema.{Schema}
 use Rattle.own_model.specs.declared.schema.TableDef.{TableDef}
-use Rattle.own_model.specs.Db.{AreRising, Db, IsOrdered, IsRising, Row, key_of}
+use Rattle.own_model.specs.Db.{Db, Row, key_of}
 use Rattle.own_model.specs.Stored.{has_key, is_equal, row_named, rows_at}
 use Rattle.own_base.specs.Key.{key_cmp}
 use Rattle.owner_model.specs.Joins.{row_of}
 use Rattle.schema_model.specs.OwnerSchema.{IsOwnerSchema}
 use Rattle.subject_model.specs.Forget.{forget, left_from, left_in, left_of}
-use Rattle.subject_model.specs.Named.{NamedRow, is_there, name_of, rows_in}
+use Rattle.subject_model.specs.Named.{NamedRow, is_there, name_of}
 use Rattle.subject_model.specs.Stays.{stays}
 use Rattle.subject_model.proofs.ForgetKeys.{key_left}
 use Rattle.subject_model.proofs.Members.{contains_of_filter, contains_of_map}
