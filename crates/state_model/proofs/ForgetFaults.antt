@@ -1,7 +1,7 @@
 -- A FORGET leaves no fault of a UNIQUE column, of a reference or of an owner where there was none.
 use Rattle.std.proofs.Common.{◌≡◌, ℕ, List, [], ◌∷◌, Bool, true, false, refl, ap, sym, subst}
 use Rattle.std.specs.Prelude.{◌&&◌, not, Some, Contains, IsTrue, slice_get, if◌then◌else◌}
-use Rattle.std.proofs.lemmas.Bool.{and_parts, not_from_true}
+use Rattle.std.proofs.lemmas.Bool.{not_from_true}
 use Rattle.own_base.specs.declared.row_name.RowName.{RowName}
 use Rattle.own_base.specs.declared.value.Key.{Key}
 use Rattle.own_model.specs.declared.refusal.Refusal.{Refusal}
@@ -11,9 +11,8 @@ use Rattle.own_model.specs.Db.{Db, IsOrdered, Row, key_of}
 use Rattle.schema_model.specs.OwnerSchema.{IsOwnerSchema}
 use Rattle.schema_model.specs.Tables.{is_private, is_subject}
 use Rattle.subject_model.specs.Forget.{forget, left_in}
-use Rattle.subject_model.specs.Named.{is_there, name_of}
+use Rattle.subject_model.specs.Named.{name_of}
 use Rattle.subject_model.specs.Owners.{has_owner}
-use Rattle.subject_model.specs.Paths.{is_subject_row}
 use Rattle.subject_model.specs.Stays.{stays}
 use Rattle.subject_model.proofs.ForgetKeys.{key_left}
 use Rattle.subject_model.proofs.ForgetPaths.{has_owner-forget}
@@ -76,11 +75,10 @@ pub record IsWhole (db : Db) : Type 0 where
   pub references : reference_faults db ≡ []
   pub owners : owner_faults db ≡ []
 
--- A FORGET of a data subject keeps references and owners whole.
-pub whole-forget : (db : Db) (subject : RowName) → IsOwnerSchema db.schema → IsOrdered db → IsTrue (is_subject_row db subject) → IsWhole db → IsWhole (forget db subject)
-unfolding is_subject_row
+-- A FORGET of a row of a subject table keeps references and owners whole.
+pub whole-forget : (db : Db) (subject : RowName) → IsOwnerSchema db.schema → IsOrdered db → IsTrue (is_subject db.schema subject.table.0) → IsWhole db → IsWhole (forget db subject)
 whole-forget db subject owner ordered of_subjects whole = record {
   unique = unique_faults-forget db subject owner whole.unique;
   references = reference_faults-forget db subject owner whole.references;
-  owners = owner_faults-forget db subject owner ordered (and_parts (is_subject db.schema subject.table.0) (is_there db subject) of_subjects).0;
+  owners = owner_faults-forget db subject owner ordered of_subjects;
 }

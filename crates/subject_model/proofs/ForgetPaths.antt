@@ -41,10 +41,12 @@ one_value : (one other : Key) → value_of one ≡ value_of other → one ≡ ot
 one_value one other same =
     let both : Some one ≡ Some other = sym (key_of_own one) ∙ (ap literal_key same ∙ key_of_own other) in cc
 
+-- what is there is some row
 found_row : (found : Option Row) → is_some found ≡ true → (row : Row) × (found ≡ Some row)
 found_row None there = let never : false ≡ true = there in cc
 found_row (Some row) there = (row, refl)
 
+-- a table is told by its number, and a name by table and key
 same_table : (one other : TableNo) → one.0 ≡ other.0 → one ≡ other
 same_table one other same = ap (λ (n : ℕ). record { 0 = n }) same
 
@@ -113,6 +115,7 @@ module _ (db : Db) (subject : RowName) (owner : IsOwnerSchema db.schema) where
             let reaches : By db subject lower edge = subst (λ n. By db subject n edge) holder (subst (By db subject (holder_of edge lower upper)) (sym alone.0) made.reaches) in
             (stays_from db subject upper up).other (reached_alone lower edge upper held to_subject is reaches)
 
+    -- both rows stay
     other_stays : stays db subject (other_of edge lower upper) ≡ true
     other_stays = by (eqb edge.holder.0 edge.lower.0)
       where
