@@ -20,6 +20,7 @@ use Rattle.subject_model.specs.Forget.{dangles_at, forget, left_of, loses}
 use Rattle.subject_model.specs.Named.{NamedRow, is_there}
 use Rattle.subject_model.specs.Owners.{By, IsOwnerPath, Owns, by, has_owner}
 use Rattle.subject_model.specs.Paths.{IsPath, Path, Step, is_subject_row}
+use Rattle.subject_model.specs.Staying.{Held, IsFree}
 use Rattle.subject_model.specs.Stays.{stays}
 use Rattle.subject_model.proofs.ForgetEdges.{Blanks, blanked_by}
 use Rattle.subject_model.proofs.ForgetJoins.{subject_after, subject_there, there_after, was_subject}
@@ -29,7 +30,7 @@ use Rattle.subject_model.proofs.ForgetRows.{left-stays, schema-forget}
 use Rattle.subject_model.proofs.Members.{all_contained}
 use Rattle.subject_model.proofs.NamedLemmas.{table-there}
 use Rattle.subject_model.proofs.OwnerLemmas.{from_owner}
-use Rattle.subject_model.proofs.StayLemmas.{Held, IsFree, from_stays, stays_from}
+use Rattle.subject_model.proofs.StayLemmas.{from_stays, stays_from}
 
 -- the key of a key's value is it
 key_of_own : (key : Key) → literal_key (value_of key) ≡ Some key
