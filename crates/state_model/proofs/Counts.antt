@@ -1,5 +1,5 @@
 -- A list that is filtered has no more elements and sums to no more.
-use Rattle.std.proofs.Common.{◌≡◌, ℕ, ◌+◌, ◌≤◌, ◌<◌, zero, List, [], ◌∷◌, length, map, Bool, true, false, not, cond, refl, ap, ◌∙◌, arith}
+use Rattle.std.proofs.Common.{◌≡◌, ℕ, ◌+◌, ◌≤◌, ◌<◌, List, [], ◌∷◌, length, map, Bool, true, false, not, cond, refl, ap, ◌∙◌, arith}
 use Rattle.std.specs.Prelude.{◌&&◌, Contains, filter, sum_by}
 use Rattle.std.specs.List.{AllByRecursion}
 use Rattle.std.proofs.lemmas.List.Sums.{sum_by-cons}

@@ -1,13 +1,16 @@
 pub mod Counts
 pub mod CreatedLemmas
 pub mod CreatedSchema
+pub mod Faultless
 pub mod ForgetCounts
 pub mod ForgetKept
 pub mod ForgetLimits
 pub mod ForgetNamed
 pub mod ForgetSizes
+pub mod ForgetSound
 pub mod ForgetWeight
 pub mod KeptLemmas
 pub mod Languages
 pub mod OwnerCounts
+pub mod OwnersLeft
 pub mod PlainKinds
