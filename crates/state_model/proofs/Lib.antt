@@ -1,13 +1,17 @@
 pub mod Counts
 pub mod CreatedLemmas
 pub mod CreatedSchema
+pub mod FaultLemmas
 pub mod Faultless
 pub mod ForgetCounts
+pub mod ForgetFaults
 pub mod ForgetKept
 pub mod ForgetLimits
 pub mod ForgetNamed
+pub mod ForgetReferences
 pub mod ForgetSizes
 pub mod ForgetSound
+pub mod ForgetUnique
 pub mod ForgetWeight
 pub mod KeptLemmas
 pub mod Languages
