@@ -1,29 +1,25 @@
 -- The keys of each table rise strictly, whatever statements run.
-use Rattle.std.proofs.Common.{◌≡◌, ℕ, zero, suc, List, [], ◌∷◌, ◌++◌, length, map, fold, Bool, true, false, refl, subst, sym}
-use Rattle.std.specs.Prelude.{Result, Ok, Err, Option, Some, None, slice_get, slice_set}
-use Rattle.std.specs.List.{AllByRecursion, list_any}
+use Rattle.std.proofs.Common.{◌≡◌, ℕ, zero, suc, ◌+◌, List, [], ◌∷◌, map, filter, fold, find, Bool, true, false, not, ◌==◌, refl, ap, subst, sym, arith}
+use Rattle.std.specs.Prelude.{if◌then◌else◌, Result, Ok, Err, Option, Some, None, slice_get, slice_index_or, slice_set}
+use Rattle.std.specs.List.{AllByRecursion, enumerate_from, list_any}
 use Rattle.std.specs.List.Sorted.{IsStrictlySortedBy}
 use Rattle.std.specs.declared.cmp.Ordering.{Ordering}
 use Rattle.std.specs.declared.cmp.Ordering.TheVariants.{Less, Equal, Greater}
 use Rattle.own_base.specs.Key.{key_cmp}
+use Rattle.own_base.specs.declared.number.ColNo.{ColNo}
 use Rattle.own_base.specs.declared.value.Key.{Key}
-use Rattle.own_model.specs.declared.create.CreateTable.{CreateTable}
-use Rattle.own_model.specs.declared.refusal.Refusal.{Refusal}
+use Rattle.own_base.specs.declared.value.Value.{Value}
+use Rattle.own_base.specs.declared.value.Value.TheVariants.{Null}
+use Rattle.own_model.specs.declared.bound.BoundCond.{BoundCond}
+use Rattle.own_model.specs.declared.bound.BoundExpr.{BoundExpr}
 use Rattle.own_model.specs.declared.schema.TableDef.{TableDef}
-use Rattle.own_model.specs.declared.request.Request.{Request}
-use Rattle.own_model.specs.declared.request.Request.TheVariants.{Run, Syntax, Limit, End}
-use Rattle.own_model.specs.declared.statement.Statement.{Statement}
-use Rattle.history_model.specs.Create.{create}
-use Rattle.own_model.specs.Db.{Db, Row, empty, AreRising, IsOrdered, IsRising, key_of}
+use Rattle.own_model.specs.Db.{Row, AreRising, IsRising, as_key, key_of}
 use Rattle.own_model.specs.Stored.{has_key, rows_at}
-use Rattle.schema_model.specs.NewTable.{new_table}
-use Rattle.schema_model.specs.WithTable.{with_table}
-use Rattle.history_model.specs.History.{History, World, flat, happens, left_by, world}
-use Rattle.history_model.specs.Insert.{and_tuple, with_row, with_tuple, with_tuples}
-use Rattle.history_model.specs.Run.{create_table, create_unless, insert, insert_into, put, run}
-use Rattle.history_model.proofs.Outcomes.{of-run}
-use Rattle.history_model.proofs.TableLemmas.{IfRows}
 use Rattle.own_model.proofs.KeyOrder.{key_order}
+use Rattle.query_model.specs.Truth.{keeps}
+use Rattle.run_model.specs.Insert.{and_tuple, with_row, with_tuple, with_tuples}
+use Rattle.run_model.specs.Update.{Sets, rows_left, set_value, updated, updated_rows}
+use Rattle.run_model.proofs.TableLemmas.{IfRows}
 
 -- the other way round
 greater_is_less : (x y : Key) → key_cmp x y ≡ Greater → key_cmp y x ≡ Less
@@ -85,7 +81,7 @@ module _ (table : TableDef) (row : Row) where
   pub rising-with_tuple : (rows new : List Row) → IsRising table rows → with_tuple table rows row ≡ Ok new → IsRising table new
   rising-with_tuple rows new rising by = tuple_step rows new rising _ refl by
 
-pub rising_next : (table : TableDef) (before : Result (List Row) Key) (tuple : Row) → IfRows (IsRising table) before
+rising_next : (table : TableDef) (before : Result (List Row) Key) (tuple : Row) → IfRows (IsRising table) before
     → (r : Result (List Row) Key) → and_tuple table before tuple ≡ r → IfRows (IsRising table) r
 rising_next table (Ok rows) tuple rising (Ok new) is = rising-with_tuple table tuple rows new rising is
 rising_next table (Err key) tuple rising (Ok new) is = cc
@@ -118,63 +114,81 @@ rising-set (first ∷ tables) (one ∷ rows) zero table new rising is news =
     let same : first ≡ table = cc in (subst (λ table. IsRising table new) (sym same) news, rising.1)
 rising-set (first ∷ tables) (one ∷ rows) (suc number) table new rising is news = (rising.0, rising-set tables rows number table new rising.1 is news)
 
--- a table more, without rows
-pub rising-append : (tables : List TableDef) (rows : List (List Row)) (new : TableDef) → AreRising tables rows → AreRising (tables ++ new ∷ []) (rows ++ [] ∷ [])
-unfolding IsStrictlySortedBy
-rising-append [] [] new rising = (tt, tt)
-rising-append [] (row ∷ rows) new rising = absurd rising
-rising-append (table ∷ tables) [] new rising = absurd rising
-rising-append (table ∷ tables) (row ∷ rows) new rising = (rising.0, rising-append tables rows new rising.1)
+-- rows that are changed where they stand, in such a way that any rows that rise still do
+pub rising-change : (change : List Row → List Row) → ((table : TableDef) (rows : List Row) → IsRising table rows → IsRising table (change rows))
+    → (tables : List TableDef) (rows : List (List Row)) (number : ℕ) → AreRising tables rows → AreRising tables (slice_set rows number (change (rows_at rows number)))
+rising-change change keeps [] [] number rising = tt
+rising-change change keeps [] (one ∷ rows) number rising = absurd rising
+rising-change change keeps (first ∷ tables) [] number rising = absurd rising
+rising-change change keeps (first ∷ tables) (one ∷ rows) zero rising = (keeps first one rising.0, rising.1)
+rising-change change keeps (first ∷ tables) (one ∷ rows) (suc number) rising = (rising.0, rising-change change keeps tables rows number rising.1)
 
-put_step : (db : Db) (number : ℕ) (table : TableDef) (count : ℕ) → IsOrdered db → slice_get db.schema.tables number ≡ Some table
-    → (r : Result (List Row) Key) → IfRows (IsRising table) r → IsOrdered (put db number table count r).db
-put_step db number table count ordered is (Ok new) rising =
-    record { rising = rising-set db.schema.tables db.rows number table new ordered.rising is rising }
-put_step db number table count ordered is (Err key) rising = ordered
+-- some of the rows
+module _ (table : TableDef) (test : Row → Bool) where
+  below_filter_step : (P : Key → Type 0) (first : Row) (rest : List Row) → P (key_of table first) → AllByRecursion P (map (key_of table) (filter test rest))
+      → (b : Bool) → test first ≡ b → AllByRecursion P (map (key_of table) (filter test (first ∷ rest)))
+  below_filter_step P first rest one all true is = rw is (one, all)
+  below_filter_step P first rest one all false is = rw is all
 
-insert_step : (db : Db) (number : ℕ) (tuples : List Row) → IsOrdered db → (found : Option TableDef) → slice_get db.schema.tables number ≡ found
-    → IsOrdered (insert_into db number tuples found).db
-insert_step db number tuples ordered None is = ordered
-insert_step db number tuples ordered (Some table) is =
-    put_step db number table (length tuples) ordered is _
-    (rising-with_tuples table (rows_at db.rows number) tuples (rising-at db.schema.tables db.rows number table ordered.rising is))
+  -- what holds of each key holds of those of the rows left
+  below_filter : (P : Key → Type 0) (rows : List Row) → AllByRecursion P (map (key_of table) rows) → AllByRecursion P (map (key_of table) (filter test rows))
+  below_filter P [] all = tt
+  below_filter P (first ∷ rest) all = below_filter_step P first rest all.0 (below_filter P rest all.1) _ refl
 
-ordered-insert : (db : Db) (number : ℕ) (tuples : List Row) → IsOrdered db → IsOrdered (insert db number tuples).db
-unfolding insert
-ordered-insert db number tuples ordered = insert_step db number tuples ordered _ refl
+  filter_step : (first : Row) (rest : List Row) → IsRising table (first ∷ rest) → IsRising table (filter test rest) → (b : Bool) → test first ≡ b
+      → IsRising table (filter test (first ∷ rest))
+  unfolding IsStrictlySortedBy
+  filter_step first rest rising left true is = rw is (below_filter (λ y. key_cmp (key_of table first) y ≡ Less) rest rising.0, left)
+  filter_step first rest rising left false is = rw is left
 
-create_step : (db : Db) (table : CreateTable) → IsOrdered db → (why : Option Refusal) → IsOrdered (create_unless db table why).db
-unfolding create with_table
-create_step db table ordered None = record { rising = rising-append db.schema.tables db.rows (new_table db.schema table) ordered.rising }
-create_step db table ordered (Some why) = ordered
+  -- their keys rise
+  pub rising-filter : (rows : List Row) → IsRising table rows → IsRising table (filter test rows)
+  unfolding IsStrictlySortedBy
+  rising-filter [] rising = tt
+  rising-filter (first ∷ rest) rising = filter_step first rest rising (rising-filter rest rising.1) _ refl
 
-ordered-create : (db : Db) (table : CreateTable) → IsOrdered db → IsOrdered (create_table db table).db
-unfolding create_table
-ordered-create db table ordered = create_step db table ordered _
+-- so do those of the rows that a DELETE leaves
+pub rising-rows_left : (table : TableDef) (cond : Option BoundCond) (rows : List Row) → IsRising table rows → IsRising table (rows_left cond rows)
+unfolding rows_left
+rising-rows_left table cond rows rising = rising-filter table (λ row. not (keeps cond row)) rows rising
 
--- a statement leaves the keys rising
-ordered-run : (db : Db) (statement : Statement) → IsOrdered db → IsOrdered (run db statement).db
-ordered-run db statement ordered =
-    of-run db (λ outcome. IsOrdered outcome.db) (λ reply. ordered) (λ number tuples. ordered-insert db number tuples ordered)
-    (λ table. ordered-create db table ordered) statement
+-- a change of values that leaves the value of one place
+kept_place : (change : ℕ × Value → Value) (number : ℕ) (row : Row) (place : ℕ) → ((value : Value) → change (number + place, value) ≡ value)
+    → slice_index_or (map change (enumerate_from number row)) place Null ≡ slice_index_or row place Null
+kept_place change number [] place keeps = refl
+kept_place change number (value ∷ row) zero keeps =
+    let same : number + 0 ≡ number = omega arith in subst (λ n. change (n, value) ≡ value) same (keeps value)
+kept_place change number (value ∷ row) (suc place) keeps =
+    kept_place change (number + 1) row place
+    (λ value. let same : number + suc place ≡ number + 1 + place = omega arith in subst (λ n. change (n, value) ≡ value) same (keeps value))
 
--- so does a request
-ordered-left_by : (db : Db) (request : Request) → IsOrdered db → IsOrdered (left_by db request)
-unfolding left_by
-ordered-left_by db (Run statement) ordered = ordered-run db statement ordered
-ordered-left_by db (Syntax byte) ordered = ordered
-ordered-left_by db (Limit limit) ordered = ordered
-ordered-left_by db End ordered = ordered
+-- no set is of a table's primary key
+abbrev pub AreKeyless : TableDef → Sets → Type 0
+AreKeyless table sets = AllByRecursion (λ (set : ColNo × BoundExpr). (set.0.0 == table.key.0) ≡ false) sets
 
-ordered-fold : (before : World) (history : History) → IsOrdered before.flat → IsOrdered (fold happens before history).flat
-ordered-fold before [] ordered = ordered
-ordered-fold before (entry ∷ history) ordered = ordered-fold (happens before entry) history (ordered-left_by before.flat entry.request ordered)
+-- so none is found
+none_found : (table : TableDef) (sets : Sets) → AreKeyless table sets → find (λ (set : ColNo × BoundExpr). set.0.0 == table.key.0) sets ≡ None
+none_found table [] keyless = refl
+none_found table (set ∷ sets) keyless = rw (keyless.0) (none_found table sets keyless.1)
 
--- the flat database of every history is ordered
-pub ordered-flat : (base : Db) (history : History) → IsOrdered base → IsOrdered (flat base history)
-unfolding flat world
-ordered-flat base history ordered = ordered-fold _ history ordered
+module _ (table : TableDef) (sets : Sets) (keyless : AreKeyless table sets) where
+  -- an UPDATE leaves the key of a row
+  pub key-updated : (row : Row) → key_of table (updated sets row) ≡ key_of table row
+  unfolding key_of updated
+  key-updated row =
+      ap as_key (kept_place (set_value sets row) 0 row table.key.0
+      (λ value. let same : 0 + table.key.0 ≡ table.key.0 = omega arith in rw same (rw (none_found table sets keyless) refl)))
 
--- the empty database is ordered
-pub ordered-empty : IsOrdered empty
-ordered-empty = record { rising = tt }
+  keys_step : (cond : Option BoundCond) (row : Row) → (b : Bool) → keeps cond row ≡ b
+      → key_of table (if keeps cond row then updated sets row else row) ≡ key_of table row
+  keys_step cond row true is = rw is (key-updated row)
+  keys_step cond row false is = rw is refl
+
+  -- and those of all rows
+  pub keys-updated : (cond : Option BoundCond) (rows : List Row) → map (key_of table) (updated_rows sets cond rows) ≡ map (key_of table) rows
+  unfolding updated_rows
+  keys-updated cond [] = refl
+  keys-updated cond (row ∷ rows) = let first = keys_step cond row _ refl in let rest = keys-updated cond rows in cc
+
+  pub rising-updated_rows : (cond : Option BoundCond) (rows : List Row) → IsRising table rows → IsRising table (updated_rows sets cond rows)
+  rising-updated_rows cond rows rising = rw (keys-updated cond rows) rising
