@@ -1,4 +1,5 @@
 pub mod Agree
 pub mod Insert
+pub mod Items
 pub mod Run
 pub mod Update
