@@ -1,2 +1,4 @@
 pub mod FoundRows
+pub mod PinnedRows
+pub mod SelectLookups
 pub mod TableRows
