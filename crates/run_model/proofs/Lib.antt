@@ -1,4 +1,6 @@
 pub mod FoundRows
+pub mod InsertItems
+pub mod InsertLookups
 pub mod PinnedRows
 pub mod SelectLookups
 pub mod TableRows
