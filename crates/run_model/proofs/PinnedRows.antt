@@ -10,9 +10,11 @@ use Rattle.own_model.specs.declared.schema.TableDef.{TableDef}
 use Rattle.own_model.specs.Db.{Db, Row}
 use Rattle.own_model.specs.Stored.{has_key, rows_at}
 use Rattle.query_model.specs.Footprints.{item, key_column, pinned_by, pinned_key}
-use Rattle.query_model.specs.Truth.{keeps}
-use Rattle.query_model.proofs.KeptByKey.{kept_of_rising}
-use Rattle.run_model.specs.Agree.{AgreeOn}
+use Rattle.query_model.specs.Stored.{IsStored}
+use Rattle.query_model.specs.Truth.{cell, keeps}
+use Rattle.query_model.proofs.KeptByKey.{kept_of_rising, not_kept}
+use Rattle.run_model.specs.Agree.{AgreeOn, keys_meet}
+use Rattle.run_model.proofs.FoundRows.{found_has, has_one_key}
 use Rattle.run_model.proofs.TableRows.{AreInPlace, AreSame, no_rows, rising_rows, same_from_agree, stored_keys}
 
 -- what a condition pins in a table that is there
@@ -57,3 +59,22 @@ module _ (db other : Db) (schema : db.schema ≡ other.schema) (place : AreInPla
       → filter (keeps cond) (rows_at db.rows number.0) ≡ filter (keeps cond) (rows_at other.rows number.0)
   same-kept number cond write agree =
       by_pin number cond _ refl (same_from_agree db other schema (item number (pinned_key (key_column db.schema number) cond) write) agree)
+
+-- A condition that pins a key, and another key: the row of that one isn't kept.
+module _ (db : Db) (place : AreInPlace db) (number : TableNo) (key : Key) (table : TableDef) (is : slice_get db.schema.tables number.0 ≡ Some table)
+    (row : Row) (found : find (has_key table key) (rows_at db.rows number.0) ≡ Some row) where
+  other_key : (condition : BoundCond) (pin : Option Key) → pinned_by table.key.0 condition ≡ pin → keys_meet pin (Some key) ≡ false → keeps (Some condition) row ≡ false
+  other_key condition None pins apart = cc
+  other_key condition (Some own) pins apart =
+      let both = found_has (has_key table key) (λ row. IsStored (cell row table.key.0)) (rows_at db.rows number.0) (stored_keys db number.0 table place is) row found in
+      not_kept table condition own pins row both.1 (has_one_key table key own row both.0 ∙ apart)
+
+  pub not-kept : (cond : Option BoundCond) → keys_meet (pinned_key (key_column db.schema number) cond) (Some key) ≡ false → keeps cond row ≡ false
+  not-kept None apart = cc
+  not-kept (Some condition) apart =
+      other_key condition _ refl (ap (λ pin. keys_meet pin (Some key)) (sym (pinned_in db number table (Some condition) is)) ∙ apart)
+
+-- a whole table meets each item of it
+pub whole_meets : (pin : Option Key) → keys_meet pin None ≡ true
+whole_meets None = refl
+whole_meets (Some key) = refl
