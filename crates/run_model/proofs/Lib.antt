@@ -1,7 +1,10 @@
+pub mod BoundFootprints
 pub mod DeleteLookups
 pub mod FoundRows
+pub mod InsertFootprint
 pub mod InsertItems
 pub mod InsertLookups
+pub mod Overlaps
 pub mod PinnedRows
 pub mod SelectLookups
 pub mod TableRows

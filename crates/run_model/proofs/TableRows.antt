@@ -26,6 +26,10 @@ pub record AreInPlace (db : Db) : Type 0 where
   pub ordered : IsOrdered db
   pub rows : AreRowsOf db.schema.tables db.rows
 
+-- what is found is one
+pub one_found : {X : Type 0} {found : Option X} (x y : X) → found ≡ Some x → found ≡ Some y → x ≡ y
+one_found x y is also = cc
+
 -- a table that isn't there has no rows
 pub no_rows : (tables : List TableDef) (rows : List (List Row)) (number : ℕ) → AreRising tables rows → slice_get tables number ≡ None → rows_at rows number ≡ []
 no_rows [] [] number rising is = refl
@@ -138,17 +142,22 @@ module _ (db other : Db) (schema : db.schema ≡ other.schema) where
           let name : RowName = record { table = item.table; key = key } in
           named_same db.schema db.rows other.rows name same ∙ ap (λ schema. row_named schema other.rows name) schema
 
--- New rows in a table of each: the databases agree on an item where they did, if the new rows are the same on one of that table.
+-- a database agrees with itself
+pub agree_itself : (db : Db) (item : FootItem) → AgreeOn db db item
+agree_itself db item = agree_from_same db db refl item (same_from_rows db.schema item.table.0 item.key refl)
+
+-- New rows in a table of each, the same where the rows before were: the databases agree on an item where they did.
 pub agree-stored : (db other : Db) (schema : db.schema ≡ other.schema) (number : ℕ) (new news : List Row) (count counts : ℕ)
     → rows_at (slice_set db.rows number new) number ≡ new → rows_at (slice_set other.rows number news) number ≡ news
-    → (item : FootItem) → AgreeOn db other item → (item.table.0 ≡ number → AreSame db.schema number item.key new news)
-    → AgreeOn (stored db number new count).db (stored other number news counts).db item
-agree-stored db other schema number new news count counts here there item agree same = by (item.table.0 == number) refl
+    → ((key : Option Key) → AreSame db.schema number key (rows_at db.rows number) (rows_at other.rows number) → AreSame db.schema number key new news)
+    → (item : FootItem) → AgreeOn db other item → AgreeOn (stored db number new count).db (stored other number news counts).db item
+agree-stored db other schema number new news count counts here there same item agree = by (item.table.0 == number) refl
   where
     by : (b : Bool) → (item.table.0 == number) ≡ b → AgreeOn (stored db number new count).db (stored other number news counts).db item
     by true is =
         let at : item.table.0 ≡ number = eqb-true _ _ is in
-        agree_from_same (stored db number new count).db (stored other number news counts).db schema item (rw (at, here, there) (same at))
+        agree_from_same (stored db number new count).db (stored other number news counts).db schema item
+        (rw (at, here, there) (same item.key (subst (λ n. AreSame db.schema n item.key (rows_at db.rows n) (rows_at other.rows n)) at (same_from_agree db other schema item agree))))
     by false is =
         let off : item.table.0 ≢ number = eqb-false _ _ is in
         agree_from_same (stored db number new count).db (stored other number news counts).db schema item
