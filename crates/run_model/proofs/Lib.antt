@@ -1,4 +1,5 @@
 pub mod BoundFootprints
+pub mod DeleteFootprint
 pub mod DeleteLookups
 pub mod FoundRows
 pub mod InsertFootprint
@@ -8,4 +9,5 @@ pub mod Overlaps
 pub mod PinnedRows
 pub mod SelectLookups
 pub mod TableRows
+pub mod UpdateFootprint
 pub mod UpdateLookups
