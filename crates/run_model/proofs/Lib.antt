@@ -8,6 +8,7 @@ pub mod InsertLookups
 pub mod Overlaps
 pub mod PinnedRows
 pub mod SelectLookups
+pub mod SparedKeys
 pub mod TableRows
 pub mod UpdateFootprint
 pub mod UpdateLookups
