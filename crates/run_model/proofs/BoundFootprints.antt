@@ -38,7 +38,7 @@ pub record IsSchemaKept (db : Db) (left : Db) : Type 0 where
   pub schema : left.schema ≡ db.schema
   pub creates : left.creates ≡ db.creates
 
-abbrev same_schema : (db : Db) → IsSchemaKept db db
+abbrev pub same_schema : (db : Db) → IsSchemaKept db db
 same_schema db = record { schema = refl; creates = refl }
 
 kept_put : (db : Db) (number : ℕ) (table : TableDef) (count : ℕ) (r : Result (List Row) Key) → IsSchemaKept db (put db number table count r).db

@@ -1,3 +1,4 @@
+pub mod BlockFootprints
 pub mod BoundFootprints
 pub mod DeleteFootprint
 pub mod DeleteLookups
@@ -9,6 +10,7 @@ pub mod Overlaps
 pub mod PinnedRows
 pub mod SelectLookups
 pub mod SparedKeys
+pub mod StatementFootprints
 pub mod TableRows
 pub mod UpdateFootprint
 pub mod UpdateLookups
