@@ -1,8 +1,5 @@
-pub mod CreatedLemmas
 pub mod HistoryLemmas
+pub mod HolderLemmas
 pub mod NamedLemmas
-pub mod Outcomes
 pub mod RefusalLemmas
-pub mod RisingKeys
-pub mod TableLemmas
-pub mod UnmadeLemmas
+pub mod SinceLemmas

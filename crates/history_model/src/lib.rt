@@ -1,4 +1,4 @@
-//! What calls do: the definitions of a database's statements, of a history and of what it leaves and answers, in
+//! What histories of calls mean: the definitions of the flat database, transactions, replies and serial histories, in
 //! `specs/`, and the laws that hold of them, in `laws`.
 #![tactic(auto)]
 

@@ -1,72 +1,32 @@
 -- The law of footprints on bound statements: a SELECT, an INSERT, an UPDATE or a DELETE answers and writes by the rows of its
 -- footprint alone, and it writes no others.
-use Rattle.std.proofs.Common.{◌≡◌, ℕ, List, Bool, false, Option, Some, None, refl, ap}
-use Rattle.std.specs.Prelude.{Result, Ok, Err, slice_get}
-use Rattle.std.specs.List.{AllByRecursion as Each, list_any}
-use Rattle.own_base.specs.declared.number.TableNo.{TableNo}
-use Rattle.own_base.specs.declared.value.Key.{Key}
+use Rattle.std.proofs.Common.{◌≡◌, false, Some, ap}
+use Rattle.std.specs.Prelude.{slice_get}
+use Rattle.std.specs.List.{list_any}
 use Rattle.own_model.specs.declared.bound.Bound.{Bound}
 use Rattle.own_model.specs.declared.bound.Bound.TheVariants.{Delete, Explain, Forget, Get, Insert, Select, Update}
-use Rattle.own_model.specs.declared.bound.BoundCond.{BoundCond}
 use Rattle.own_model.specs.declared.footprint.FootItem.{FootItem}
-use Rattle.own_model.specs.declared.refusal.Refusal.{Refusal}
 use Rattle.own_model.specs.declared.schema.Schema.{Schema}
 use Rattle.own_model.specs.declared.schema.TableDef.{TableDef}
-use Rattle.own_model.specs.Db.{Db, Row}
+use Rattle.own_model.specs.Db.{Db}
 use Rattle.query_model.specs.Footprints.{footprint_of}
 use Rattle.query_model.specs.Query.{reply_of}
 use Rattle.run_model.specs.Agree.{Agree, AgreeOn, overlaps}
-use Rattle.run_model.specs.Run.{Outcome, delete, insert, insert_into, put, run_bound, stored_unless, update, update_in}
-use Rattle.run_model.specs.Update.{Sets}
+use Rattle.run_model.specs.Run.{run_bound}
 use Rattle.run_model.proofs.DeleteFootprint.{same_left-delete, same_reply-delete, still-delete}
 use Rattle.run_model.proofs.InsertFootprint.{same_left-insert, same_reply-insert, still-insert}
+use Rattle.run_model.proofs.RisingKeys.{AreKeyless}
 use Rattle.run_model.proofs.SelectLookups.{same-query}
 use Rattle.run_model.proofs.TableRows.{AreInPlace, agree_itself}
 use Rattle.run_model.proofs.UpdateFootprint.{same_left-update, same_reply-update, still-update}
-use Rattle.run_model.proofs.UpdateLookups.{sets_column}
 
 -- one of the four that have a footprint, where an UPDATE sets no primary key
 abbrev pub IsFootprinted : Schema → Bound → Type 0
 IsFootprinted schema (Select query) = Unit {0}
 IsFootprinted schema (Insert number tuples) = Unit {0}
-IsFootprinted schema (Update number sets cond) = (table : TableDef) → slice_get schema.tables number.0 ≡ Some table → sets_column table.key.0 sets ≡ false
+IsFootprinted schema (Update number sets cond) = (table : TableDef) → slice_get schema.tables number.0 ≡ Some table → AreKeyless table sets
 IsFootprinted schema (Delete number cond) = Unit {0}
 IsFootprinted schema _ = ⊥
-
--- the schema and the creates are as they were
-pub record IsSchemaKept (db : Db) (left : Db) : Type 0 where
-  pub schema : left.schema ≡ db.schema
-  pub creates : left.creates ≡ db.creates
-
-abbrev pub same_schema : (db : Db) → IsSchemaKept db db
-same_schema db = record { schema = refl; creates = refl }
-
-kept_put : (db : Db) (number : ℕ) (table : TableDef) (count : ℕ) (r : Result (List Row) Key) → IsSchemaKept db (put db number table count r).db
-kept_put db number table count (Ok rows) = record { schema = refl; creates = refl }
-kept_put db number table count (Err key) = same_schema db
-
-kept_insert : (db : Db) (number : ℕ) (tuples : List Row) (found : Option TableDef) → IsSchemaKept db (insert_into db number tuples found).db
-kept_insert db number tuples None = same_schema db
-kept_insert db number tuples (Some table) = kept_put db number table _ _
-
-kept_unless : (db : Db) (number : ℕ) (rows : List Row) (count : ℕ) (why : Option Refusal) → IsSchemaKept db (stored_unless db number rows count why).db
-kept_unless db number rows count None = record { schema = refl; creates = refl }
-kept_unless db number rows count (Some why) = same_schema db
-
-kept_update : (db : Db) (number : ℕ) (sets : Sets) (cond : Option BoundCond) (found : Option TableDef) → IsSchemaKept db (update_in db number sets cond found).db
-kept_update db number sets cond None = same_schema db
-kept_update db number sets cond (Some table) = kept_unless db number _ _ _
-
--- one of the four leaves the schema and the creates
-pub schema_kept-run_bound : (db : Db) (bound : Bound) → IsFootprinted db.schema bound → IsSchemaKept db (run_bound db bound).db
-unfolding run_bound insert update delete
-schema_kept-run_bound db (Select query) has = same_schema db
-schema_kept-run_bound db (Insert number tuples) has = kept_insert db number.0 tuples _
-schema_kept-run_bound db (Update number sets cond) has = kept_update db number.0 sets cond _
-schema_kept-run_bound db (Delete number cond) has = record { schema = refl; creates = refl }
-schema_kept-run_bound db (Get subject) has = absurd has
-schema_kept-run_bound db (Forget subject) has = absurd has
-schema_kept-run_bound db Explain has = absurd has
 
 module _ (db other : Db) (place : AreInPlace db) (places : AreInPlace other) where
   -- Databases that agree on the footprint give the same reply.

@@ -1,6 +1,6 @@
 -- The footprint of a DELETE: its reply and what it writes depend on the rows of its item, and it writes no others.
-use Rattle.std.proofs.Common.{◌≡◌, ℕ, List, [], ◌∷◌, Bool, true, false, Option, Some, None, length, refl, ap, sym, ◌∙◌, subst}
-use Rattle.std.specs.Prelude.{filter, slice_get, slice_set}
+use Rattle.std.proofs.Common.{◌≡◌, List, [], true, false, Option, Some, None, length, refl, ap, sym, subst}
+use Rattle.std.specs.Prelude.{slice_get, slice_set}
 use Rattle.std.specs.List.{list_any}
 use Rattle.own_base.specs.declared.number.TableNo.{TableNo}
 use Rattle.own_model.specs.declared.bound.BoundCond.{BoundCond}
@@ -10,7 +10,6 @@ use Rattle.own_model.specs.declared.schema.TableDef.{TableDef}
 use Rattle.own_model.specs.Db.{Db, Row}
 use Rattle.own_model.specs.Stored.{rows_at}
 use Rattle.query_model.specs.Footprints.{by_condition, item, key_column, pinned_key}
-use Rattle.query_model.specs.Truth.{keeps}
 use Rattle.run_model.specs.Agree.{AgreeOn, overlaps}
 use Rattle.run_model.specs.Run.{delete}
 use Rattle.run_model.specs.Update.{rows_left}

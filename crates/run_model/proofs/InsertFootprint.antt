@@ -1,18 +1,15 @@
 -- The footprint of an INSERT: its reply and what it writes depend on the rows of its items, and it writes no others.
-use Rattle.std.proofs.Common.{◌≡◌, ℕ, ◌==◌, ◌&&◌, List, [], ◌∷◌, Bool, true, false, map, Option, Some, None, length, refl, sym, ap, ◌∙◌, subst}
+use Rattle.std.proofs.Common.{◌≡◌, ℕ, ◌==◌, ◌&&◌, List, [], ◌∷◌, true, false, map, Option, Some, None, length, refl, sym, ap, ◌∙◌, subst}
 use Rattle.std.specs.Prelude.{Result, Ok, Err, slice_get}
 use Rattle.std.specs.declared.cmp.Ordering.TheVariants.{Equal}
-use Rattle.std.specs.List.{AllByRecursion as Each, find, list_any}
-use Rattle.std.specs.Ordering.{ordering_reverse}
-use Rattle.std.proofs.lemmas.Cmp.{alike_right}
+use Rattle.std.specs.List.{AllByRecursion as Each, list_any}
 use Rattle.own_base.specs.Key.{key_cmp}
 use Rattle.own_base.specs.declared.number.TableNo.{TableNo}
 use Rattle.own_base.specs.declared.value.Key.{Key}
 use Rattle.own_model.specs.declared.footprint.FootItem.{FootItem}
 use Rattle.own_model.specs.declared.schema.TableDef.{TableDef}
 use Rattle.own_model.specs.Db.{Db, Row, key_of}
-use Rattle.own_model.specs.Stored.{has_key, is_equal, rows_at}
-use Rattle.own_model.proofs.KeyOrder.{key_order}
+use Rattle.own_model.specs.Stored.{has_key, rows_at}
 use Rattle.query_model.specs.Footprints.{item, keys_of}
 use Rattle.run_model.specs.Agree.{AgreeOn, keys_meet, overlaps}
 use Rattle.run_model.specs.Insert.{with_tuples}
@@ -129,8 +126,8 @@ module _ (db : Db) (place : AreInPlace db) (number : TableNo) (tuples : List Row
   still_at table (Some key) tuples is apart new taken = λ found also.
       let one : table ≡ found = one_found table found is also in
       let still = still-with_tuples table (rows_at db.rows number.0) key tuples
-          (each_weaker (λ tuple. keys_meet (Some (key_of table tuple)) (Some key) ≡ false) (λ tuple. has_key table key tuple ≡ false)
-          (λ tuple apart. named_key table key tuple ∙ apart) tuples apart) in
+      (each_weaker (λ tuple. keys_meet (Some (key_of table tuple)) (Some key) ≡ false) (λ tuple. has_key table key tuple ≡ false)
+      (λ tuple apart. named_key table key tuple ∙ apart) tuples apart) in
       subst (λ table. IsSameAt table (rows_at db.rows number.0) new key) one (subst (IsStill table (rows_at db.rows number.0) key) taken still)
 
   still_put : (table : TableDef) (count : ℕ) → slice_get db.schema.tables number.0 ≡ Some table → (r : Result (List Row) Key)

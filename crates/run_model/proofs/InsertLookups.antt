@@ -1,5 +1,5 @@
 -- What an INSERT does to a table, by look-ups: it depends on the rows of its tuples' keys, and other keys keep their rows.
-use Rattle.std.proofs.Common.{◌≡◌, List, [], ◌∷◌, Bool, true, false, cond, fold, Option, Some, None, refl, sym, ap, ◌∙◌, ◌||◌}
+use Rattle.std.proofs.Common.{◌≡◌, List, [], ◌∷◌, Bool, true, false, cond, fold, Some, refl, sym, ap, ◌∙◌, ◌||◌}
 use Rattle.std.specs.Prelude.{Result, Ok, Err}
 use Rattle.std.specs.declared.cmp.Ordering.TheVariants.{Equal}
 use Rattle.std.specs.List.{AllByRecursion as Each, find, list_any}

@@ -1,5 +1,5 @@
 -- Items that don't overlap.
-use Rattle.std.proofs.Common.{◌≡◌, ℕ, ◌==◌, List, [], ◌∷◌, Bool, true, false, ◌&&◌, ◌||◌, map, Option, Some, None, refl, sym, ap, ◌∙◌}
+use Rattle.std.proofs.Common.{◌≡◌, ◌==◌, List, [], ◌∷◌, Bool, true, false, ◌&&◌, ◌||◌, map, Option, Some, None, refl, sym, ap, ◌∙◌}
 use Rattle.std.specs.List.{AllByRecursion as Each, list_any}
 use Rattle.std.specs.Ordering.{ordering_reverse}
 use Rattle.std.specs.declared.cmp.Ordering.{Ordering}
@@ -58,4 +58,3 @@ named_key table key row = ap is_equal (key_order.antisymm (key_of table row) key
 pub tied_meet : (key tie : Key) → key_cmp key tie ≡ Equal → (other : Option Key) → keys_meet (Some key) other ≡ keys_meet (Some tie) other
 tied_meet key tie tied None = refl
 tied_meet key tie tied (Some own) = ap is_equal (alike_right key_order key tie own tied)
-

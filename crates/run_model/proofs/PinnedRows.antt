@@ -1,7 +1,7 @@
 -- The rows that a condition keeps depend on the rows of its item alone.
-use Rattle.std.proofs.Common.{◌≡◌, ℕ, List, [], Bool, true, false, Option, Some, None, refl, sym, ap, ◌∙◌}
+use Rattle.std.proofs.Common.{◌≡◌, ℕ, Bool, true, false, Option, Some, None, refl, sym, ap, ◌∙◌}
 use Rattle.std.specs.Prelude.{slice_get}
-use Rattle.std.specs.List.{AllByRecursion as Each, filter, find}
+use Rattle.std.specs.List.{filter, find}
 use Rattle.std.specs.Option.{option_map_or, option_to_list}
 use Rattle.own_base.specs.declared.number.TableNo.{TableNo}
 use Rattle.own_base.specs.declared.value.Key.{Key}
@@ -15,7 +15,8 @@ use Rattle.query_model.specs.Truth.{cell, keeps}
 use Rattle.query_model.proofs.KeptByKey.{kept_of_rising, not_kept}
 use Rattle.run_model.specs.Agree.{AgreeOn, keys_meet}
 use Rattle.run_model.proofs.FoundRows.{found_has, has_one_key}
-use Rattle.run_model.proofs.TableRows.{AreInPlace, AreSame, no_rows, rising_rows, same_from_agree, stored_keys}
+use Rattle.run_model.proofs.RisingKeys.{rising-at}
+use Rattle.run_model.proofs.TableRows.{AreInPlace, AreSame, no_rows, same_from_agree, stored_keys}
 
 -- what a condition pins in a table that is there
 pub pinned_in : (db : Db) (number : TableNo) (table : TableDef) (cond : Option BoundCond) → slice_get db.schema.tables number.0 ≡ Some table
@@ -27,7 +28,7 @@ kept_of_key : (db : Db) (number : ℕ) (table : TableDef) (condition : BoundCond
     → pinned_by table.key.0 condition ≡ Some key
     → filter (keeps (Some condition)) (rows_at db.rows number) ≡ filter (keeps (Some condition)) (option_to_list (find (has_key table key) (rows_at db.rows number)))
 kept_of_key db number table condition key place is pins =
-    kept_of_rising table condition key pins (rows_at db.rows number) (rising_rows db.schema.tables db.rows number table place.ordered.rising is)
+    kept_of_rising table condition key pins (rows_at db.rows number) (rising-at db.schema.tables db.rows number table place.ordered.rising is)
     (stored_keys db number table place is)
 
 module _ (db other : Db) (schema : db.schema ≡ other.schema) (place : AreInPlace db) (places : AreInPlace other) where

@@ -1,5 +1,5 @@
 -- What a SELECT shows depends on the rows of its items alone.
-use Rattle.std.proofs.Common.{◌≡◌, ℕ, List, [], ◌∷◌, Bool, true, false, Option, Some, None, refl, ap}
+use Rattle.std.proofs.Common.{◌≡◌, List, [], ◌∷◌, Bool, true, false, Option, Some, None, refl, ap}
 use Rattle.std.specs.Prelude.{slice_get, nat_lt, if◌then◌else◌}
 use Rattle.std.specs.List.{AllByRecursion as Each, filter}
 use Rattle.std.specs.Option.{option_map_or}
@@ -7,12 +7,11 @@ use Rattle.own_base.specs.declared.number.TableNo.{TableNo}
 use Rattle.own_model.specs.declared.bound.BoundSelect.{BoundSelect}
 use Rattle.own_model.specs.declared.bound.Source1.{Source1}
 use Rattle.own_model.specs.declared.bound.Source1.TheVariants.{Pair, Table, View}
-use Rattle.own_model.specs.declared.footprint.FootItem.{FootItem}
 use Rattle.own_model.specs.declared.schema.ViewDef.{ViewDef}
 use Rattle.own_model.specs.Db.{Db, Row}
 use Rattle.own_model.specs.Stored.{rows_at}
 use Rattle.query_model.specs.Footprints.{base_items, both, item, select_items}
-use Rattle.query_model.specs.Query.{base_rows, joined, query_rows, selected, source_rows, view_rows}
+use Rattle.query_model.specs.Query.{base_rows, query_rows, selected, source_rows, view_rows}
 use Rattle.query_model.specs.Truth.{keeps}
 use Rattle.run_model.specs.Agree.{AgreeOn}
 use Rattle.run_model.proofs.PinnedRows.{same-kept}

@@ -13,18 +13,24 @@ use Rattle.own_model.specs.declared.footprint.FootItem.{FootItem}
 use Rattle.own_model.specs.declared.schema.Column.{Column}
 use Rattle.own_model.specs.declared.schema.Schema.{Schema}
 use Rattle.own_model.specs.declared.schema.TableDef.{TableDef}
-use Rattle.own_model.specs.Db.{AreRising, Db, IsOrdered, IsRising, Row}
+use Rattle.own_model.specs.Db.{AreRising, Db, IsOrdered, Row}
 use Rattle.own_model.specs.Stored.{has_key, row_named, rows_at}
 use Rattle.query_model.specs.Stored.{IsStored}
 use Rattle.query_model.specs.Truth.{cell}
 use Rattle.state_model.specs.Rows.{AreOfKinds, AreRowsOf, IsOfKind, IsRowOf}
+use Rattle.state_model.specs.Sound.{IsKept}
 use Rattle.run_model.specs.Agree.{AgreeOn}
 use Rattle.run_model.specs.Run.{stored}
+use Rattle.run_model.proofs.TableLemmas.{rows-at}
 
 -- the rows of a database rise by key in each table, and may stand there
 pub record AreInPlace (db : Db) : Type 0 where
   pub ordered : IsOrdered db
   pub rows : AreRowsOf db.schema.tables db.rows
+
+-- those of a kept database are in place
+pub in_place : (db : Db) → IsKept db → AreInPlace db
+in_place db kept = record { ordered = kept.ordered; rows = kept.rows }
 
 -- what is found is one
 pub one_found : {X : Type 0} {found : Option X} (x y : X) → found ≡ Some x → found ≡ Some y → x ≡ y
@@ -38,23 +44,7 @@ no_rows (first ∷ tables) [] number rising is = refl
 no_rows (first ∷ tables) (one ∷ rows) zero rising is = cc
 no_rows (first ∷ tables) (one ∷ rows) (suc number) rising is = no_rows tables rows number rising.1 is
 
--- the rows of one that is there rise
-pub rising_rows : (tables : List TableDef) (rows : List (List Row)) (number : ℕ) (table : TableDef) → AreRising tables rows
-    → slice_get tables number ≡ Some table → IsRising table (rows_at rows number)
-rising_rows [] rows number table rising is = cc
-rising_rows (first ∷ tables) [] number table rising is = absurd rising
-rising_rows (first ∷ tables) (one ∷ rows) zero table rising is = let same : first ≡ table = cc in subst (λ table. IsRising table one) same rising.0
-rising_rows (first ∷ tables) (one ∷ rows) (suc number) table rising is = rising_rows tables rows number table rising.1 is
-
--- and may stand in it
-rows_of : (tables : List TableDef) (rows : List (List Row)) (number : ℕ) (table : TableDef) → AreRowsOf tables rows
-    → slice_get tables number ≡ Some table → Each (IsRowOf table) (rows_at rows number)
-rows_of [] rows number table all is = cc
-rows_of (first ∷ tables) [] number table all is = absurd all
-rows_of (first ∷ tables) (one ∷ rows) zero table all is = let same : first ≡ table = cc in subst (λ table. Each (IsRowOf table) one) same all.0
-rows_of (first ∷ tables) (one ∷ rows) (suc number) table all is = rows_of tables rows number table all.1 is
-
--- so that no sum stands in a column
+-- no sum stands in a column
 stored_value : (column : Column) (value : Value) → IsOfKind column.kind value → IsStored value
 stored_value column Null is = tt
 stored_value column (Int number) is = tt
@@ -73,7 +63,7 @@ stored_cells table (first ∷ rest) column all = (stored_cell table.columns firs
 
 pub stored_keys : (db : Db) (number : ℕ) (table : TableDef) → AreInPlace db → slice_get db.schema.tables number ≡ Some table
     → Each (λ row. IsStored (cell row table.key.0)) (rows_at db.rows number)
-stored_keys db number table place is = stored_cells table (rows_at db.rows number) table.key.0 (rows_of db.schema.tables db.rows number table place.rows is)
+stored_keys db number table place is = stored_cells table (rows_at db.rows number) table.key.0 (rows-at db.schema.tables db.rows number table place.rows is)
 
 -- other rows in a table that is there
 pub rows_put : (tables : List TableDef) (rows : List (List Row)) (number : ℕ) (table : TableDef) (new : List Row) → AreRising tables rows

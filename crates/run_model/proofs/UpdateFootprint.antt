@@ -1,6 +1,6 @@
 -- The footprint of an UPDATE: its reply and what it writes depend on the rows of its item, and it writes no others.
-use Rattle.std.proofs.Common.{◌≡◌, ℕ, List, [], ◌∷◌, Bool, true, false, Option, Some, None, length, refl, ap, subst}
-use Rattle.std.specs.Prelude.{filter, slice_get, slice_set}
+use Rattle.std.proofs.Common.{◌≡◌, ℕ, List, true, false, Option, Some, None, refl, ap, subst}
+use Rattle.std.specs.Prelude.{filter, slice_get}
 use Rattle.std.specs.List.{list_any}
 use Rattle.own_base.specs.declared.number.TableNo.{TableNo}
 use Rattle.own_model.specs.declared.bound.BoundCond.{BoundCond}
@@ -11,14 +11,14 @@ use Rattle.own_model.specs.Db.{Db, Row}
 use Rattle.own_model.specs.Stored.{rows_at}
 use Rattle.query_model.specs.Footprints.{by_condition, item, key_column, pinned_key}
 use Rattle.query_model.specs.Truth.{keeps}
-use Rattle.state_model.specs.Fault.{first_of}
 use Rattle.run_model.specs.Agree.{AgreeOn, overlaps}
 use Rattle.run_model.specs.Run.{stored_unless, update, update_in}
-use Rattle.run_model.specs.Update.{Sets, update_faults, updated_rows}
+use Rattle.run_model.specs.Update.{Sets, updated_rows}
 use Rattle.run_model.proofs.Overlaps.{apart_key, none_passes}
 use Rattle.run_model.proofs.PinnedRows.{same-kept}
+use Rattle.run_model.proofs.RisingKeys.{AreKeyless}
 use Rattle.run_model.proofs.TableRows.{AreInPlace, agree-stored, agree_itself, rows_put, still-stored}
-use Rattle.run_model.proofs.UpdateLookups.{same-updated, sets_column, still-updated}
+use Rattle.run_model.proofs.UpdateLookups.{same-updated, still-updated}
 
 module _ (db other : Db) (schema : db.schema ≡ other.schema) (place : AreInPlace db) (places : AreInPlace other)
     (number : TableNo) (sets : Sets) (cond : Option BoundCond) (agree : AgreeOn db other (item number (pinned_key (key_column db.schema number) cond) true)) where
@@ -41,7 +41,7 @@ module _ (db other : Db) (schema : db.schema ≡ other.schema) (place : AreInPla
       subst (λ tables. (update db number.0 sets cond).reply ≡ (update_in other number.0 sets cond (slice_get tables number.0)).reply)
       (ap (λ schema. schema.tables) schema) (reply_update _)
 
-  module _ (spared : (table : TableDef) → slice_get db.schema.tables number.0 ≡ Some table → sets_column table.key.0 sets ≡ false)
+  module _ (spared : (table : TableDef) → slice_get db.schema.tables number.0 ≡ Some table → AreKeyless table sets)
       (own : FootItem) (before : AgreeOn db other own) where
     agree_unless : (table : TableDef) → slice_get db.schema.tables number.0 ≡ Some table → (count : ℕ) (why : Option Refusal)
         → AgreeOn (stored_unless db number.0 (updated_rows sets cond (rows_at db.rows number.0)) count why).db
@@ -65,7 +65,7 @@ module _ (db other : Db) (schema : db.schema ≡ other.schema) (place : AreInPla
 
 -- An item that the UPDATE's doesn't overlap.
 module _ (db : Db) (place : AreInPlace db) (number : TableNo) (sets : Sets) (cond : Option BoundCond)
-    (spared : (table : TableDef) → slice_get db.schema.tables number.0 ≡ Some table → sets_column table.key.0 sets ≡ false)
+    (spared : (table : TableDef) → slice_get db.schema.tables number.0 ≡ Some table → AreKeyless table sets)
     (other : FootItem) (apart : list_any (λ own. overlaps own other) (by_condition db.schema number cond true) ≡ false) where
   still_unless : (table : TableDef) → slice_get db.schema.tables number.0 ≡ Some table → (count : ℕ) (why : Option Refusal)
       → AgreeOn db (stored_unless db number.0 (updated_rows sets cond (rows_at db.rows number.0)) count why).db other

@@ -1,5 +1,5 @@
 -- Databases that are the same on some rows.
-use Rattle.std.specs.Prelude.{◌≡◌, List, [], ◌∷◌, Bool, true, false, not, ◌&&◌, ◌||◌, ◌==◌, Option, None, Some}
+use Rattle.std.specs.Prelude.{◌≡◌, List, Bool, true, ◌&&◌, ◌||◌, ◌==◌, Option, None, Some}
 use Rattle.std.specs.List.{AllByRecursion}
 use Rattle.own_base.specs.Key.{key_cmp}
 use Rattle.own_base.specs.declared.row_name.RowName.{RowName}

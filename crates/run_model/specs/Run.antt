@@ -1,5 +1,5 @@
 -- What a statement does to a database, and what it answers.
-use Rattle.std.specs.Prelude.{ℕ, List, length, Bool, Option, None, Some, Result, Ok, Err, filter, slice_get, slice_set, if◌then◌else◌}
+use Rattle.std.specs.Prelude.{ℕ, List, length, Option, None, Some, Result, Ok, Err, filter, slice_get, slice_set, if◌then◌else◌}
 use Rattle.own_base.specs.declared.row_name.RowName.{RowName}
 use Rattle.own_base.specs.declared.value.Key.{Key}
 use Rattle.own_model.specs.declared.bound.Bound.{Bound}

@@ -1,7 +1,6 @@
 -- What is wrong with a database as a whole.
 use Rattle.std.specs.Prelude.{ℕ, ◌+◌, List, [], ◌∷◌, ◌++◌, Bool, true, false, not, ◌&&◌, Option, None, Some, flat_map, nat_lt, if◌then◌else◌}
-use Rattle.std.specs.List.{enumerate_from, list_any, zip}
-use Rattle.own_base.specs.Key.{key_cmp}
+use Rattle.std.specs.List.{list_any}
 use Rattle.own_base.specs.declared.number.TableNo.{TableNo}
 use Rattle.own_base.specs.declared.value.Key.{Key}
 use Rattle.own_base.specs.declared.value.Value.{Value}

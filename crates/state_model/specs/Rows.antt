@@ -8,7 +8,7 @@ use Rattle.own_model.specs.declared.schema.Column.{Column}
 use Rattle.own_model.specs.declared.schema.Kind.{Kind}
 use Rattle.own_model.specs.declared.schema.Kind.TheVariants as kind
 use Rattle.own_model.specs.declared.schema.TableDef.{TableDef}
-use Rattle.own_model.specs.Db.{Db, Row}
+use Rattle.own_model.specs.Db.{Row}
 
 -- the kind of a value; NULL is of each, and a sum stands in no table
 abbrev pub IsOfKind : Kind → Value → Type 0

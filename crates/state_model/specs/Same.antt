@@ -1,5 +1,5 @@
 -- Whether two values, or two rows, are the same.
-use Rattle.std.specs.Prelude.{List, [], ◌∷◌, Bool, true, false, ◌&&◌, Option, None, Some, bytes_eq}
+use Rattle.std.specs.Prelude.{[], ◌∷◌, Bool, true, false, ◌&&◌, Option, None, Some, bytes_eq}
 use Rattle.std.specs.Ordering.{int_cmp}
 use Rattle.own_base.specs.declared.value.Value.{Value}
 use Rattle.own_base.specs.declared.value.Value.TheVariants.{Null, Int, Text, Sum}

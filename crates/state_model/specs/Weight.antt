@@ -1,5 +1,5 @@
 -- What a database weighs.
-use Rattle.std.specs.Prelude.{ℕ, ◌+◌, ◌*◌, Bool, not, ◌&&◌, ◌==◌, filter, length, sum_by, if◌then◌else◌}
+use Rattle.std.specs.Prelude.{ℕ, ◌+◌, ◌*◌, not, ◌&&◌, ◌==◌, filter, length, sum_by, if◌then◌else◌}
 use Rattle.own_base.specs.Row.{row_size, value_size}
 use Rattle.own_base.specs.declared.row.TheConstants.{ROW_SIZE}
 use Rattle.own_base.specs.declared.row_name.RowName.{RowName}

@@ -1,12 +1,12 @@
 -- Which data subjects own a row, and which reach it.
-use Rattle.std.specs.Prelude.{◌≡◌, List, [], ◌∷◌, Bool, true, false, ◌&&◌, ◌==◌, filter, map, IsTrue}
+use Rattle.std.specs.Prelude.{List, [], ◌∷◌, Bool, false, ◌&&◌, ◌==◌, filter, map, IsTrue}
 use Rattle.std.specs.List.{AllByRecursion, list_all, list_any}
 use Rattle.own_base.specs.declared.number.EdgeNo.{EdgeNo}
 use Rattle.own_base.specs.declared.row_name.RowName.{RowName}
 use Rattle.own_model.specs.declared.schema.Edge.{Edge}
 use Rattle.own_model.specs.Db.{Db}
 use Rattle.subject_model.specs.Named.{is_name, named_rows}
-use Rattle.subject_model.specs.Paths.{IsPath, Path, Step, end_of, is_subject_row, paths}
+use Rattle.subject_model.specs.Paths.{IsPath, Path, end_of, is_subject_row, paths}
 
 -- a path of owner edges alone
 abbrev pub IsOwnerPath : Path → Type 0

@@ -1,0 +1,13 @@
+pub mod Counts
+pub mod CreatedLemmas
+pub mod CreatedSchema
+pub mod ForgetCounts
+pub mod ForgetKept
+pub mod ForgetLimits
+pub mod ForgetNamed
+pub mod ForgetSizes
+pub mod ForgetWeight
+pub mod KeptLemmas
+pub mod Languages
+pub mod OwnerCounts
+pub mod PlainKinds
