@@ -8,8 +8,12 @@ pub mod EveryHistory
 pub mod Facts
 pub mod GrantLemmas
 pub mod HistoryLemmas
+pub mod HolderLemmas
+pub mod NamedLemmas
 pub mod OwnLemmas
+pub mod RefusalLemmas
 pub mod RowsByKey
 pub mod SerialLemmas
+pub mod SinceLemmas
 pub mod SubjectLemmas
 pub mod Worlds

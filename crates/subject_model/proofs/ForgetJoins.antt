@@ -1,6 +1,6 @@
 -- Joins and paths that a FORGET leaves were there before.
-use Rattle.std.proofs.Common.{◌≡◌, ℕ, List, [], ◌∷◌, Bool, true, false, refl, ap, sym, ◌∙◌, subst}
-use Rattle.std.specs.Prelude.{◌&&◌, Option, Some, None, IsTrue, is_some, slice_get, if◌then◌else◌}
+use Rattle.std.proofs.Common.{◌≡◌, ℕ, [], ◌∷◌, Bool, true, false, refl, ap, sym, ◌∙◌}
+use Rattle.std.specs.Prelude.{Option, Some, None, slice_get}
 use Rattle.std.specs.List.{AllByRecursion}
 use Rattle.std.specs.Option.{option_and_then, option_map}
 use Rattle.std.proofs.lemmas.Bool.{and_from, and_parts}
@@ -8,7 +8,6 @@ use Rattle.own_base.specs.declared.row_name.RowName.{RowName}
 use Rattle.own_base.specs.declared.value.Key.{Key}
 use Rattle.own_base.specs.declared.value.Key.TheVariants as keyed
 use Rattle.own_base.specs.declared.value.Value.{Value}
-use Rattle.own_base.specs.declared.value.Value.TheVariants.{Null, Int, Text}
 use Rattle.own_model.specs.declared.schema.Edge.{Edge}
 use Rattle.own_model.specs.Db.{Db, Row}
 use Rattle.owner_model.specs.Joins.{Joins, holder_of, other_of, row_of, value_at, value_of}
@@ -19,7 +18,7 @@ use Rattle.subject_model.specs.Named.{is_there}
 use Rattle.subject_model.specs.Paths.{IsPath, Path, Step, is_subject_row}
 use Rattle.subject_model.specs.Stays.{stays}
 use Rattle.subject_model.proofs.ForgetKeys.{get_left, kept_value}
-use Rattle.subject_model.proofs.ForgetRows.{IsLeft, is_left, is_there-forget, schema-forget}
+use Rattle.subject_model.proofs.ForgetRows.{is_left, is_there-forget}
 
 -- a value that is kept and is a key's was that value
 was_key : (lost : Bool) (value : Value) (key : Key) → kept_value lost value ≡ value_of key → value ≡ value_of key

@@ -1,17 +1,14 @@
 -- Owner paths of rows that stay, after a FORGET.
-use Rattle.std.proofs.Common.{◌≡◌, ◌≢◌, ℕ, List, [], ◌∷◌, Bool, true, false, cond, eqb, inl, inr, refl, ap, sym, ◌∙◌, subst}
-use Rattle.std.specs.Prelude.{◌⊎◌, ◌&&◌, ◌||◌, not, Option, Some, None, Contains, IsTrue, is_some, slice_get, if◌then◌else◌}
+use Rattle.std.proofs.Common.{◌≡◌, ◌≢◌, ℕ, [], ◌∷◌, Bool, true, false, cond, eqb, inl, inr, refl, ap, sym, ◌∙◌, subst}
+use Rattle.std.specs.Prelude.{◌⊎◌, Option, Some, None, IsTrue, is_some, slice_get}
 use Rattle.std.specs.List.{AllByRecursion}
-use Rattle.std.specs.Option.{option_and_then, option_map, option_map_or}
-use Rattle.std.proofs.lemmas.Bool.{and_from, and_parts, and_right, cond-false, cond-true, eq-eqb, eqb-true, eqb-false, false_from_ne_true, ne_eqb, or_from, or_cases}
+use Rattle.std.specs.Option.{option_and_then, option_map}
+use Rattle.std.proofs.lemmas.Bool.{and_from, and_right, cond-true, eq-eqb, eqb-true, eqb-false, false_from_ne_true, or_from}
 use Rattle.own_base.specs.declared.number.TableNo.{TableNo}
 use Rattle.own_base.specs.declared.row_name.RowName.{RowName}
 use Rattle.own_base.specs.declared.value.Key.{Key}
 use Rattle.own_base.specs.declared.value.Key.TheVariants as keyed
-use Rattle.own_base.specs.declared.value.Value.{Value}
-use Rattle.own_model.specs.declared.schema.Column.{Column}
 use Rattle.own_model.specs.declared.schema.Edge.{Edge}
-use Rattle.own_model.specs.declared.schema.Schema.{Schema}
 use Rattle.own_model.specs.declared.schema.TableDef.{TableDef}
 use Rattle.own_model.specs.Db.{Db, IsOrdered, Row}
 use Rattle.owner_model.specs.Joins.{Joins, holder_of, other_of, row_of, value_at, value_of}
@@ -23,17 +20,17 @@ use Rattle.subject_model.specs.Forget.{dangles_at, forget, left_of, loses}
 use Rattle.subject_model.specs.Named.{NamedRow, is_there}
 use Rattle.subject_model.specs.Owners.{By, IsOwnerPath, Owns, by, has_owner}
 use Rattle.subject_model.specs.Paths.{IsPath, Path, Step, is_subject_row}
+use Rattle.subject_model.specs.Staying.{Held, IsFree}
 use Rattle.subject_model.specs.Stays.{stays}
 use Rattle.subject_model.proofs.ForgetEdges.{Blanks, blanked_by}
 use Rattle.subject_model.proofs.ForgetJoins.{subject_after, subject_there, there_after, was_subject}
 use Rattle.subject_model.proofs.ForgetKeys.{get_left, kept_value}
 use Rattle.subject_model.proofs.ForgetOrder.{ordered-forget}
 use Rattle.subject_model.proofs.ForgetRows.{left-stays, schema-forget}
-use Rattle.subject_model.proofs.JoinsLemmas.{step_joins}
 use Rattle.subject_model.proofs.Members.{all_contained}
 use Rattle.subject_model.proofs.NamedLemmas.{table-there}
 use Rattle.subject_model.proofs.OwnerLemmas.{from_owner}
-use Rattle.subject_model.proofs.StayLemmas.{Held, IsFree, Stays, from_stays, stays_from}
+use Rattle.subject_model.proofs.StayLemmas.{from_stays, stays_from}
 
 -- the key of a key's value is it
 key_of_own : (key : Key) → literal_key (value_of key) ≡ Some key
@@ -45,10 +42,12 @@ one_value : (one other : Key) → value_of one ≡ value_of other → one ≡ ot
 one_value one other same =
     let both : Some one ≡ Some other = sym (key_of_own one) ∙ (ap literal_key same ∙ key_of_own other) in cc
 
+-- what is there is some row
 found_row : (found : Option Row) → is_some found ≡ true → (row : Row) × (found ≡ Some row)
 found_row None there = let never : false ≡ true = there in cc
 found_row (Some row) there = (row, refl)
 
+-- a table is told by its number, and a name by table and key
 same_table : (one other : TableNo) → one.0 ≡ other.0 → one ≡ other
 same_table one other same = ap (λ (n : ℕ). record { 0 = n }) same
 
@@ -117,6 +116,7 @@ module _ (db : Db) (subject : RowName) (owner : IsOwnerSchema db.schema) where
             let reaches : By db subject lower edge = subst (λ n. By db subject n edge) holder (subst (By db subject (holder_of edge lower upper)) (sym alone.0) made.reaches) in
             (stays_from db subject upper up).other (reached_alone lower edge upper held to_subject is reaches)
 
+    -- both rows stay
     other_stays : stays db subject (other_of edge lower upper) ≡ true
     other_stays = by (eqb edge.holder.0 edge.lower.0)
       where
@@ -157,8 +157,8 @@ module _ (db : Db) (subject : RowName) (owner : IsOwnerSchema db.schema) where
         let lost : loses db subject table (holder_of edge lower upper) (edge.column.0, value_of key) ≡ false = unlost table at in
         let kept : slice_get (left_of db subject table named) edge.column.0 ≡ Some (value_of key) =
         get_left db subject table named edge.column.0
-            ∙ (ap (option_map (λ value. kept_value (loses db subject table (holder_of edge lower upper) (edge.column.0, value)) value)) before
-            ∙ ap (λ b. Some (kept_value b (value_of key))) lost) in
+        ∙ (ap (option_map (λ value. kept_value (loses db subject table (holder_of edge lower upper) (edge.column.0, value)) value)) before
+        ∙ ap (λ b. Some (kept_value b (value_of key))) lost) in
         ap (option_and_then (λ row. slice_get row edge.column.0)) (left-stays db subject (holder_of edge lower upper) table row owner table_is there holder_stays) ∙ kept
 
     holder_there : is_there db (holder_of edge lower upper) ≡ true

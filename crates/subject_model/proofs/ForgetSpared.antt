@@ -1,8 +1,7 @@
 -- What a FORGET neither removes nor changes stays as it is.
-use Rattle.std.proofs.Common.{◌≡◌, ℕ, suc, ◌+◌, List, [], ◌∷◌, ◌++◌, map, Bool, true, false, not, refl, ap, sym, ◌∙◌, subst, arith}
-use Rattle.std.specs.Prelude.{◌&&◌, ◌||◌, Option, Some, None, Contains, filter, slice_get, if◌then◌else◌}
+use Rattle.std.proofs.Common.{◌≡◌, ℕ, ◌+◌, [], ◌∷◌, ◌++◌, map, Bool, true, false, not, refl, ap, sym, ◌∙◌}
+use Rattle.std.specs.Prelude.{◌&&◌, Option, Some, None, filter, slice_get, if◌then◌else◌}
 use Rattle.std.specs.List.{enumerate_from, list_any}
-use Rattle.std.specs.Option.{option_map_or}
 use Rattle.std.proofs.lemmas.Bool.{and_from, false_from_ne_true, or_parts, not_from_false}
 use Rattle.std.proofs.lemmas.List.Folds.{list_any-append}
 use Rattle.own_base.specs.declared.row_name.RowName.{RowName}
@@ -18,9 +17,9 @@ use Rattle.subject_model.specs.Forget.{changed, forget, is_changed, left_of, los
 use Rattle.subject_model.specs.Named.{NamedRow, is_name, named_rows}
 use Rattle.subject_model.specs.Stays.{stays}
 use Rattle.subject_model.proofs.ForgetKeys.{kept_value}
-use Rattle.subject_model.proofs.ForgetRows.{left_named, row_of-forget}
+use Rattle.subject_model.proofs.ForgetRows.{row_of-forget}
 use Rattle.subject_model.proofs.Members.{any_contained, contains_filter, contains_map}
-use Rattle.subject_model.proofs.NamedLemmas.{name_is, named-row_of, table-there}
+use Rattle.subject_model.proofs.NamedLemmas.{name_is, named-row_of}
 
 -- a value that isn't lost, or is NULL, is kept
 keeps_value : (lost : Bool) (value : Value) → (lost && not (is_null value)) ≡ false → kept_value lost value ≡ value
@@ -49,7 +48,7 @@ module _ (db : Db) (subject name : RowName) (ordered : IsOrdered db) where
       let goes : NamedRow → Bool = λ named. not (stays db subject named.name) in
       any_contained (is_name name) (removed db subject) name
       (contains_map (λ (named : NamedRow). named.name) (filter goes (named_rows db)) named
-          (contains_filter goes (named_rows db) named (named-row_of db named ordered there) (not_from_false _ gone)))
+      (contains_filter goes (named_rows db) named (named-row_of db named ordered there) (not_from_false _ gone)))
       (name_is name name refl)
 
   -- and one that stays and loses a value among those changed
@@ -61,7 +60,7 @@ module _ (db : Db) (subject name : RowName) (ordered : IsOrdered db) where
       let passes : NamedRow → Bool = λ named. stays db subject named.name && is_changed db subject named in
       any_contained (is_name name) (changed db subject) name
       (contains_map (λ (named : NamedRow). named.name) (filter passes (named_rows db)) named
-          (contains_filter passes (named_rows db) named (named-row_of db named ordered there) (and_from _ _ stay loses)))
+      (contains_filter passes (named_rows db) named (named-row_of db named ordered there) (and_from _ _ stay loses)))
       (name_is name name refl)
 
   module _ (owner : IsOwnerSchema db.schema) (not_removed : list_any (is_name name) (removed db subject) ≡ false) (not_changed : list_any (is_name name) (changed db subject) ≡ false) where

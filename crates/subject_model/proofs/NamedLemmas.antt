@@ -1,6 +1,6 @@
 -- The rows of a database with their names.
-use Rattle.std.proofs.Common.{◌≡◌, ℕ, zero, suc, ◌+◌, List, [], ◌∷◌, map, Bool, true, false, cond, inl, inr, refl, ap, sym, ◌∙◌, subst, arith, eq-eqb}
-use Rattle.std.specs.Prelude.{◌⊎◌, ◌==◌, ◌↔◌, Contains, IsSome, IsTrue, Option, Some, None, find, is_some, slice_get, slice_index_or}
+use Rattle.std.proofs.Common.{◌≡◌, ℕ, zero, suc, ◌+◌, List, [], ◌∷◌, map, Bool, true, false, cond, inl, inr, refl, ap, ◌∙◌, subst, arith, eq-eqb}
+use Rattle.std.specs.Prelude.{◌⊎◌, ◌==◌, ◌↔◌, Contains, IsTrue, Option, Some, None, find, is_some, slice_get}
 use Rattle.std.specs.Option.{option_and_then}
 use Rattle.std.specs.List.Sorted.{IsStrictlySortedBy}
 use Rattle.std.specs.declared.cmp.Ordering.{Ordering}
@@ -90,7 +90,7 @@ pub record IsAt (number : ℕ) (tables : List TableDef) (rows : List (List Row))
   pub table_is : named.name.table.0 ≡ number + place
   pub row_is : row_at tables rows place named.name.key ≡ Some named.row
 
-at_from : (number : ℕ) (tables : List TableDef) (rows : List (List Row)) (named : NamedRow) → AreRising tables rows → Contains (rows_from number tables rows) named → IsAt number tables rows named
+pub at_from : (number : ℕ) (tables : List TableDef) (rows : List (List Row)) (named : NamedRow) → AreRising tables rows → Contains (rows_from number tables rows) named → IsAt number tables rows named
 unfolding rows_from
 at_from number [] rows named rising among = absurd (contains_none named among)
 at_from number (table ∷ tables) [] named rising among = absurd (contains_none named among)

@@ -1,8 +1,10 @@
-pub mod AreJoined
+pub mod FirstSubject
 pub mod Forget
 pub mod Get
 pub mod LocalEquation
+pub mod NameOrder
 pub mod Named
 pub mod Owners
 pub mod Paths
+pub mod Staying
 pub mod Stays
