@@ -12,10 +12,10 @@ use Rattle.own_model.specs.declared.footprint.FootItem.{FootItem}
 use Rattle.own_model.specs.Stored.{is_equal}
 use Rattle.own_model.proofs.KeyOrder.{key_order}
 use Rattle.run_model.specs.Agree.{keys_meet, overlaps}
-use Rattle.history_model.proofs.AgreeLemmas.{each_append}
+use Rattle.schema_model.proofs.Places.{all-append}
 
 -- whether two numbers are one, whichever is named first
-pub eqb_back : (one other : ℕ) → (one == other) ≡ (other == one)
+eqb_back : (one other : ℕ) → (one == other) ≡ (other == one)
 eqb_back one other = by (one == other) refl
   where
     by : (b : Bool) → (one == other) ≡ b → (one == other) ≡ (other == one)
@@ -51,6 +51,13 @@ overlaps-back item other =
 abbrev pub IsFree : List FootItem → FootItem → Type 0
 IsFree others item = list_any (overlaps item) others ≡ false
 
+-- nor does one of those overlap it
+pub free-back : (item : FootItem) (others : List FootItem) → IsFree others item → list_any (λ own. overlaps own item) others ≡ false
+free-back item [] free = refl
+free-back item (other ∷ others) free =
+    let both = or_parts _ _ free in
+    or_from _ _ (overlaps-back other item ∙ both.0) (free-back item others both.1)
+
 -- and none of some overlaps one of others
 abbrev pub AreApart : List FootItem → List FootItem → Type 0
 AreApart items others = AllByRecursion (IsFree others) items
@@ -78,4 +85,4 @@ apart-back (item ∷ items) others apart = apart-cons item items others (free-ea
 
 -- with more items on one side
 pub apart-append : (items more others : List FootItem) → AreApart items others → AreApart more others → AreApart (items ++ more) others
-apart-append items more others = each_append (IsFree others) items more
+apart-append items more others = all-append (IsFree others) items more

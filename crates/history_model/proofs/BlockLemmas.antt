@@ -1,32 +1,38 @@
--- What a transaction's statements reply and write depends on the rows of their footprints alone.
-use Rattle.std.proofs.Common.{◌≡◌, ℕ, ◌<◌, ◌≤◌, List, [], ◌∷◌, ◌++◌, true, false, refl, ap, sym, ◌∙◌, arith}
+-- The statements of a transaction: what they reply and write depends on the rows of their items alone.
+use Rattle.std.proofs.Common.{◌≡◌, ℕ, ◌<◌, ◌≤◌, [], ◌∷◌, ◌++◌, false, refl, ap, ◌∙◌, arith}
 use Rattle.std.specs.Prelude.{Some, length}
 use Rattle.std.specs.List.{AllByRecursion, list_any}
-use Rattle.std.proofs.lemmas.Bool.{or_parts}
 use Rattle.std.proofs.lemmas.List.{append-nil, map-append}
 use Rattle.std.proofs.lemmas.List.Concat.{flat_map-append}
-use Rattle.std.proofs.lemmas.List.Folds.{list_any-append}
 use Rattle.std.proofs.lemmas.List.Sums.{fold-append}
 use Rattle.own_model.specs.declared.footprint.FootItem.{FootItem}
 use Rattle.own_model.specs.declared.limit.TheConstants.{STATEMENT_BYTES}
 use Rattle.own_model.specs.declared.schema.Schema.{Schema}
+use Rattle.own_model.specs.declared.statement.Statement.{Statement}
 use Rattle.own_model.specs.Db.{Db}
 use Rattle.grammar_model.specs.Readable.{IsWritten}
 use Rattle.state_model.specs.Sound.{IsKept}
 use Rattle.run_model.specs.Agree.{Agree, AgreeOn, overlaps}
 use Rattle.run_model.specs.Items.{items_of, items_of_all}
 use Rattle.run_model.specs.Run.{run}
+use Rattle.run_model.proofs.BlockFootprints as footprints
+use Rattle.run_model.proofs.BlockFootprints.{block_replies}
+use Rattle.run_model.proofs.KeptRuns.{kept-run}
+use Rattle.run_model.proofs.Overlaps.{each_weaker}
+use Rattle.run_model.proofs.SparedKeys.{TakesRows}
 use Rattle.history_model.specs.History.{History, reply}
 use Rattle.history_model.specs.Serial.{AreGiven}
 use Rattle.history_model.specs.World.{Block, Stated, after_all, after_block, statements_of}
-use Rattle.history_model.proofs.AgreeLemmas.{agree-left, agree-right, agree_on-over, agree_on-same, each_so}
-use Rattle.history_model.proofs.Facts.{Facts, has_footprint}
 use Rattle.history_model.proofs.HistoryLemmas.{reply-append}
 
--- a statement of a block: the grammar gives it, it has a footprint, and it came before
+-- a statement that the grammar gives, one of the four that take rows
+pub record IsTaking (asked : Statement) : Type 0 where
+  pub readable : IsWritten STATEMENT_BYTES asked
+  pub takes : TakesRows asked
+
+-- a statement of a block, which came before
 pub record IsOfBlock (places : ℕ) (stated : Stated) : Type 0 where
-  pub readable : IsWritten STATEMENT_BYTES stated.statement
-  pub has : has_footprint stated.statement ≡ true
+  pub taking : IsTaking stated.statement
   pub before : stated.place < places
 
 abbrev pub AreOfBlock : ℕ → Block → Type 0
@@ -34,23 +40,9 @@ AreOfBlock places block = AllByRecursion (IsOfBlock places) block
 
 -- a block of a shorter history is one of a longer
 pub later-of_block : (places more : ℕ) → places ≤ more → (block : Block) → AreOfBlock places block → AreOfBlock more block
-later-of_block places more le = each_so (IsOfBlock places) (IsOfBlock more)
-    (λ stated is. record { readable = is.readable; has = is.has; before = let lt = is.before in omega arith })
+later-of_block places more le = each_weaker (IsOfBlock places) (IsOfBlock more) (λ stated is. record { taking = is.taking; before = let lt = is.before in omega arith })
 
--- the first statement, and then the others
-pub after-cons : (db : Db) (stated : Stated) (block : Block) → after_block db (stated ∷ block) ≡ after_block (run db stated.statement).db block
-unfolding after_all
-after-cons db stated block = refl
-
-pub after-nil : (db : Db) → after_block db [] ≡ db
-unfolding after_all
-after-nil db = refl
-
-pub items-cons : (schema : Schema) (stated : Stated) (block : Block)
-    → items_of_all schema (statements_of (stated ∷ block)) ≡ items_of schema stated.statement ++ items_of_all schema (statements_of block)
-unfolding items_of_all
-items-cons schema stated block = refl
-
+-- no statement
 pub items-nil : (schema : Schema) → items_of_all schema (statements_of []) ≡ []
 unfolding items_of_all
 items-nil schema = refl
@@ -85,69 +77,42 @@ module _ (base : Db) (history : History) where
   given-push db [] last given more = (more, tt)
   given-push db (stated ∷ block) last given more = (given.0, given-push (run db stated.statement).db block last given.1 more)
 
-module _ (facts : Facts) (places : ℕ) where
+module _ (places : ℕ) where
+  taking_each : (block : Block) → AreOfBlock places block → AllByRecursion IsTaking (statements_of block)
+  taking_each [] are = tt
+  taking_each (stated ∷ block) are = (are.0.taking, taking_each block are.1)
+
+  takes : (asked : Statement) → IsTaking asked → TakesRows asked
+  takes asked is = is.takes
+
+  keeps : (db : Db) (asked : Statement) → IsTaking asked → IsKept db → IsKept (run db asked).db
+  keeps db asked is kept = kept-run db kept asked is.readable
+
   -- a block leaves a kept database
   pub kept-block : (db : Db) (block : Block) → IsKept db → AreOfBlock places block → IsKept (after_block db block)
   unfolding after_all
-  kept-block db [] kept are = kept
-  kept-block db (stated ∷ block) kept are = kept-block (run db stated.statement).db block (facts.kept db stated.statement kept are.0.readable) are.1
+  kept-block db block kept are = footprints.kept-block IsTaking takes keeps db (statements_of block) (taking_each block are) kept
 
   -- of the same schema
   pub schema-block : (db : Db) (block : Block) → AreOfBlock places block → (after_block db block).schema ≡ db.schema
   unfolding after_all
-  schema-block db [] are = refl
-  schema-block db (stated ∷ block) are = schema-block (run db stated.statement).db block are.1 ∙ facts.schema db stated.statement are.0.has
+  schema-block db block are = (footprints.same_schema-block IsTaking takes keeps db (statements_of block) (taking_each block are)).schema
 
-  -- databases that agree on a block's items agree, after its first statement, on those of the others
-  module _ (db other : Db) (stated : Stated) (block : Block) (kept : IsKept db) (kept_other : IsKept other) (is : IsOfBlock places stated)
-      (agree : Agree (items_of_all db.schema (statements_of (stated ∷ block))) db other) where
-    agree_first : Agree (items_of db.schema stated.statement) db other
-    unfolding items_of_all
-    agree_first = agree-left (items_of db.schema stated.statement) (items_of_all db.schema (statements_of block)) db other agree
+  -- an item that no item of a block overlaps keeps its rows
+  pub still-block : (db : Db) (block : Block) → IsKept db → AreOfBlock places block → (item : FootItem)
+      → list_any (λ own. overlaps own item) (items_of_all db.schema (statements_of block)) ≡ false → AgreeOn db (after_block db block) item
+  unfolding after_all
+  still-block db block kept are = footprints.still-block IsTaking takes keeps db (statements_of block) (taking_each block are) kept
 
-    agree_rest : Agree (items_of_all (run db stated.statement).db.schema (statements_of block)) (run db stated.statement).db (run other stated.statement).db
-    unfolding items_of_all
-    agree_rest =
-        let rest = agree-right (items_of db.schema stated.statement) (items_of_all db.schema (statements_of block)) db other agree in
-        let left : (run db stated.statement).db.schema ≡ db.schema = facts.schema db stated.statement is.has in
-        let right : (run other stated.statement).db.schema ≡ other.schema = facts.schema other stated.statement is.has in
-        rw left record {
-          schema = left ∙ (rest.schema ∙ sym right);
-          on = each_so (AgreeOn db other) (AgreeOn (run db stated.statement).db (run other stated.statement).db)
-              (facts.carries db other stated.statement kept kept_other is.readable is.has agree_first) (items_of_all db.schema (statements_of block)) rest.on;
-        }
+  given_replies : (base : Db) (history : History) (db other : Db) (block : Block) → block_replies db (statements_of block) ≡ block_replies other (statements_of block)
+      → AreGiven base history db block → AreGiven base history other block
+  given_replies base history db other [] same given = tt
+  given_replies base history db other (stated ∷ block) same given =
+      let first : (run db stated.statement).reply ≡ (run other stated.statement).reply = cc in
+      (given.0 ∙ ap Some first, given_replies base history (run db stated.statement).db (run other stated.statement).db block (cc) given.1)
 
   -- a block's replies are the same where the rows of its items are
   pub given-agree : (base : Db) (history : History) (db other : Db) (block : Block) → IsKept db → IsKept other → AreOfBlock places block
       → Agree (items_of_all db.schema (statements_of block)) db other → AreGiven base history db block → AreGiven base history other block
-  given-agree base history db other [] kept kept_other are agree given = tt
-  given-agree base history db other (stated ∷ block) kept kept_other are agree given = (
-    given.0 ∙ ap Some (facts.replies db other stated.statement kept kept_other are.0.readable are.0.has (agree_first db other stated block kept kept_other are.0 agree)),
-    given-agree base history (run db stated.statement).db (run other stated.statement).db block (facts.kept db stated.statement kept are.0.readable)
-        (facts.kept other stated.statement kept_other are.0.readable) are.1 (agree_rest db other stated block kept kept_other are.0 agree) given.1,
-  )
-
-  -- and so are the rows that it leaves, where they were the same
-  pub carries-block : (db other : Db) (block : Block) → IsKept db → IsKept other → AreOfBlock places block
-      → Agree (items_of_all db.schema (statements_of block)) db other → (item : FootItem) → AgreeOn db other item
-      → AgreeOn (after_block db block) (after_block other block) item
-  unfolding after_all
-  carries-block db other [] kept kept_other are agree item same = same
-  carries-block db other (stated ∷ block) kept kept_other are agree item same =
-      carries-block (run db stated.statement).db (run other stated.statement).db block (facts.kept db stated.statement kept are.0.readable)
-      (facts.kept other stated.statement kept_other are.0.readable) are.1 (agree_rest db other stated block kept kept_other are.0 agree) item
-      (facts.carries db other stated.statement kept kept_other are.0.readable are.0.has (agree_first db other stated block kept kept_other are.0 agree) item same)
-
-  -- an item that no item of a block overlaps keeps its rows
-  pub spares-block : (db : Db) (block : Block) → IsKept db → AreOfBlock places block → (item : FootItem)
-      → list_any (overlaps item) (items_of_all db.schema (statements_of block)) ≡ false → AgreeOn db (after_block db block) item
-  unfolding after_all items_of_all
-  spares-block db [] kept are item none = agree_on-same db item
-  spares-block db (stated ∷ block) kept are item none =
-      let own : Schema → List FootItem = λ schema. items_of_all schema (statements_of block) in
-      let both = or_parts _ _ (sym (list_any-append (overlaps item) (items_of db.schema stated.statement) (own db.schema)) ∙ none) in
-      let later : list_any (overlaps item) (own (run db stated.statement).db.schema) ≡ false =
-      ap (λ schema. list_any (overlaps item) (own schema)) (facts.schema db stated.statement are.0.has) ∙ both.1 in
-      agree_on-over db (run db stated.statement).db (after_block (run db stated.statement).db block) item
-      (facts.spares db stated.statement kept are.0.readable are.0.has item both.0)
-      (spares-block (run db stated.statement).db block (facts.kept db stated.statement kept are.0.readable) are.1 item later)
+  given-agree base history db other block kept kept_other are agree =
+      given_replies base history db other block (footprints.same_replies-block IsTaking takes keeps (statements_of block) db other (taking_each block are) kept kept_other agree)

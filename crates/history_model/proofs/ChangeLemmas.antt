@@ -23,21 +23,27 @@ use Rattle.subject_model.specs.Forget.{forget}
 use Rattle.state_model.specs.Fault.{fault}
 use Rattle.state_model.specs.Settle.{settle}
 use Rattle.state_model.specs.Sound.{Sound}
+use Rattle.state_model.proofs.ForgetSound.{sound-forget}
 use Rattle.run_model.specs.Agree.{Agree, AgreeOn}
 use Rattle.run_model.specs.Items.{items_of, items_of_all}
 use Rattle.run_model.specs.Run.{run}
+use Rattle.run_model.proofs.KeptRuns.{kept-run}
 use Rattle.run_model.proofs.Outcomes.{of-statement}
+use Rattle.run_model.proofs.Overlaps.{each_weaker}
+use Rattle.run_model.proofs.SparedKeys.{TakesRows}
+use Rattle.run_model.proofs.StatementFootprints.{same_schema-taking, still-run}
+use Rattle.run_model.proofs.TableRows.{in_place}
 use Rattle.history_model.specs.Held.{held, is_open, lowest_other}
 use Rattle.history_model.specs.History.{History, dooms, is_struck_by, left_by, forgotten}
 use Rattle.history_model.specs.Reply.{changes, commit_reply, create_reply, forget_reply, is_refusal, reply_in, reply_inside, reply_outside, taking, unless_busy, write_reply}
+use Rattle.history_model.specs.Sentences.{IsOther}
 use Rattle.history_model.specs.World.{Block, Standing, Outside, Open, Doomed, World, after_block, statements_of}
 use Rattle.history_model.proofs.Accepted.{accepted-committing, no_conflict, settled-fault}
-use Rattle.history_model.proofs.AgreeLemmas.{agree-same, each_so}
-use Rattle.history_model.proofs.ApartLemmas.{AreApart, IsFree, apart-back}
-use Rattle.history_model.proofs.BlockLemmas.{kept-block, schema-block, spares-block}
+use Rattle.history_model.proofs.AgreeLemmas.{agree-same}
+use Rattle.history_model.proofs.ApartLemmas.{AreApart, IsFree, apart-back, free-back}
+use Rattle.history_model.proofs.BlockLemmas.{kept-block, schema-block, still-block}
 use Rattle.history_model.proofs.DoomLemmas.{agree-undoomed}
-use Rattle.history_model.proofs.Facts.{Facts, has_footprint}
-use Rattle.history_model.proofs.GrantLemmas.{IsGranted, IsOther, closed-lowest, granted-taking}
+use Rattle.history_model.proofs.GrantLemmas.{IsGranted, closed-lowest, granted-taking}
 use Rattle.history_model.proofs.SubjectLemmas.{subject-bound}
 use Rattle.history_model.proofs.Worlds.{IsSerialWorld, held-open, open-block}
 
@@ -58,7 +64,7 @@ unfolding dooms
 undoomed world entry reply subject session accepted is none =
     undoomed_step (is_refusal reply) (is_struck_by world session) subject (forgotten world.flat.schema entry.request) is accepted none
 
-module _ (facts : Facts) (base : Db) (history : History) (world : World) (is : IsSerialWorld base history world) (entry : Entry) (reply : Reply) where
+module _ (base : Db) (history : History) (world : World) (is : IsSerialWorld base history world) (entry : Entry) (reply : Reply) where
   abbrev session : ℕ
   session = entry.session.0
 
@@ -70,9 +76,9 @@ module _ (facts : Facts) (base : Db) (history : History) (world : World) (is : I
   change-same = record { sound = is.sound; others = λ other differs open' none. agree-same (held world other) world.flat }
 
   -- a write that is granted and settled
-  change-write : (verdict : Verdict) (asked : Statement) → has_footprint asked ≡ true → IsWritten STATEMENT_BYTES asked
+  change-write : (verdict : Verdict) (asked : Statement) → TakesRows asked → IsWritten STATEMENT_BYTES asked
       → is_refusal (taking world session asked (write_reply verdict world.flat (run world.flat asked))) ≡ false → Changes (run world.flat asked).db
-  change-write verdict asked has readable accepted = by granted.goes
+  change-write verdict asked takes readable accepted = by granted.goes
     where
       own : Reply
       own = write_reply verdict world.flat (run world.flat asked)
@@ -84,11 +90,11 @@ module _ (facts : Facts) (base : Db) (history : History) (world : World) (is : I
       settled accepted =
           let none = accepted-committing verdict (changes world.flat (run world.flat asked).db) (settle world.flat (run world.flat asked).db) (run world.flat asked).reply accepted in
           record {
-            sound = record { kept = facts.kept world.flat asked is.sound.kept readable; faultless = settled-fault world.flat (run world.flat asked).db none.1 };
+            sound = record { kept = kept-run world.flat is.sound.kept asked readable; faultless = settled-fault world.flat (run world.flat asked).db none.1 };
             others = λ other differs open' none. record {
-              schema = sym (facts.schema world.flat asked has);
-              on = each_so (IsFree (items_of world.flat.schema asked)) (AgreeOn world.flat (run world.flat asked).db)
-                  (facts.spares world.flat asked is.sound.kept readable has) (held world other)
+              schema = sym ((same_schema-taking world.flat asked takes).schema);
+              on = each_weaker (IsFree (items_of world.flat.schema asked)) (AgreeOn world.flat (run world.flat asked).db)
+                  (λ item free. still-run world.flat asked takes (in_place world.flat is.sound.kept) item (free-back item (items_of world.flat.schema asked) free)) (held world other)
                   (apart-back (items_of world.flat.schema asked) (held world other) (granted.apart other differs));
             };
           }
@@ -110,7 +116,7 @@ module _ (facts : Facts) (base : Db) (history : History) (world : World) (is : I
       by None free accepted =
           let none = accepted-committing verdict true (fault (run world.flat asked).db) (run world.flat asked).reply accepted in
           record {
-            sound = record { kept = facts.kept world.flat asked is.sound.kept readable; faultless = none.1 };
+            sound = record { kept = kept-run world.flat is.sound.kept asked readable; faultless = none.1 };
             others = λ other differs open' none. let never : true ≡ false = sym open' ∙ closed-lowest world session free other differs in absurd (cc);
           }
 
@@ -121,7 +127,7 @@ module _ (facts : Facts) (base : Db) (history : History) (world : World) (is : I
     change-forgotten subject names sound = record {
       sound = sound;
       others = λ other differs open' none.
-          agree-undoomed facts world.flat subject is.sound.kept sound.kept (held world other) (undoomed world entry reply subject other accepted names none);
+          agree-undoomed world.flat subject is.sound.kept sound.kept (held world other) (undoomed world entry reply subject other accepted names none);
     }
 
     -- a FORGET
@@ -132,7 +138,7 @@ module _ (facts : Facts) (base : Db) (history : History) (world : World) (is : I
         of-statement world.flat (λ outcome. is_refusal outcome.reply ≡ false → Changes outcome.db) (λ answer told. change-same) (statement.GdprForget table key)
         (λ none there told.
         change-forgotten (record { table = table_number world.flat.schema table; key = key }) (ap (forgotten world.flat.schema) asks)
-        (facts.sound world.flat (record { table = table_number world.flat.schema table; key = key }) is.sound (subject-bound world.flat.schema table key none)))
+        (sound-forget world.flat (record { table = table_number world.flat.schema table; key = key }) (subject-bound world.flat.schema table key none) is.sound))
         (accepted-committing verdict true None (run world.flat (statement.GdprForget table key)).reply told).0
 
     -- a statement outside a transaction
@@ -140,9 +146,9 @@ module _ (facts : Facts) (base : Db) (history : History) (world : World) (is : I
         → is_refusal (reply_outside world session verdict asked) ≡ false → Changes (run world.flat asked).db
     change-outside verdict (statement.CreateTable table) asks readable told = change-create verdict (statement.CreateTable table) readable told
     change-outside verdict (statement.CreateView view) asks readable told = change-create verdict (statement.CreateView view) readable told
-    change-outside verdict (statement.Insert table columns rows) asks readable told = change-write verdict (statement.Insert table columns rows) refl readable told
-    change-outside verdict (statement.Update table sets cond) asks readable told = change-write verdict (statement.Update table sets cond) refl readable told
-    change-outside verdict (statement.Delete table cond) asks readable told = change-write verdict (statement.Delete table cond) refl readable told
+    change-outside verdict (statement.Insert table columns rows) asks readable told = change-write verdict (statement.Insert table columns rows) tt readable told
+    change-outside verdict (statement.Update table sets cond) asks readable told = change-write verdict (statement.Update table sets cond) tt readable told
+    change-outside verdict (statement.Delete table cond) asks readable told = change-write verdict (statement.Delete table cond) tt readable told
     change-outside verdict (statement.GdprForget table key) asks readable told = change-forget verdict table key asks told
     change-outside verdict asked asks readable told = of-statement world.flat (λ outcome. Changes outcome.db) (λ answer. change-same) asked tt
 
@@ -153,11 +159,11 @@ module _ (facts : Facts) (base : Db) (history : History) (world : World) (is : I
         let own = open-block base history world is session begun block opened in
         let none = accepted-committing verdict (changes world.flat (after_block world.flat block)) (settle world.flat (after_block world.flat block)) Done told in
         record {
-          sound = record { kept = kept-block facts (length history) world.flat block is.sound.kept own.stated; faultless = settled-fault world.flat (after_block world.flat block) none.1 };
+          sound = record { kept = kept-block (length history) world.flat block is.sound.kept own.stated; faultless = settled-fault world.flat (after_block world.flat block) none.1 };
           others = λ other differs open' none. record {
-            schema = sym (schema-block facts (length history) world.flat block own.stated);
-            on = each_so (IsFree (items_of_all world.flat.schema (statements_of block))) (AgreeOn world.flat (after_block world.flat block))
-                (spares-block facts (length history) world.flat block is.sound.kept own.stated) (held world other)
+            schema = sym (schema-block (length history) world.flat block own.stated);
+            on = each_weaker (IsFree (items_of_all world.flat.schema (statements_of block))) (AgreeOn world.flat (after_block world.flat block))
+                (λ item free. still-block (length history) world.flat block is.sound.kept own.stated item (free-back item (items_of_all world.flat.schema (statements_of block)) free)) (held world other)
                 (subst (AreApart (held world other)) (held-open world session begun block opened) (is.apart other session differs.differs));
           };
         }

@@ -13,12 +13,16 @@ use Rattle.own_model.specs.Stored.{has_key, row_named, rows_at}
 use Rattle.owner_model.specs.Joins.{row_of}
 use Rattle.subject_model.specs.Forget.{changed, forget, removed}
 use Rattle.subject_model.specs.Named.{is_name}
+use Rattle.subject_model.proofs.ForgetSpared.{row_of-spared}
 use Rattle.state_model.specs.Sound.{IsKept}
+use Rattle.state_model.proofs.CreatedSchema.{owner_schema-created}
 use Rattle.run_model.specs.Agree.{Agree, AgreeOn, lies_on}
+use Rattle.run_model.proofs.Overlaps.{each_weaker}
+use Rattle.run_model.proofs.TableRows.{no_rows}
+use Rattle.run_model.proofs.RisingKeys.{rising-at}
 use Rattle.history_model.specs.History.{lie_on}
-use Rattle.history_model.proofs.AgreeLemmas.{each_of, each_so}
-use Rattle.history_model.proofs.Facts.{Facts}
-use Rattle.history_model.proofs.RowsByKey.{no_rows, rising_rows, rows_by_key}
+use Rattle.history_model.proofs.AgreeLemmas.{each_of}
+use Rattle.history_model.proofs.RowsByKey.{rows_by_key}
 
 module _ {X Y : Type 0} (test : X → Y → Bool) where
   no_first : (x : X) (xs : List X) (ys : List Y) → list_any (test x) ys ≡ false → AllByRecursion (λ y. list_any (λ x. test x y) xs ≡ false) ys
@@ -53,7 +57,7 @@ row_of-table : (db : Db) (name : RowName) (table : TableDef) → slice_get db.sc
 unfolding row_named
 row_of-table db name table is = rw is refl
 
-module _ (facts : Facts) (db : Db) (subject : RowName) (kept : IsKept db) (kept_left : IsKept (forget db subject)) where
+module _ (db : Db) (subject : RowName) (kept : IsKept db) (kept_left : IsKept (forget db subject)) where
   schema_left : db.schema ≡ (forget db subject).schema
   unfolding forget
   schema_left = refl
@@ -63,6 +67,10 @@ module _ (facts : Facts) (db : Db) (subject : RowName) (kept : IsKept db) (kept_
 
   abbrev struck : List RowName
   struck = removed db subject ++ changed db subject
+
+  -- the row of a name that is neither removed nor changed
+  unchanged : (name : RowName) → list_any (is_name name) struck ≡ false → row_of left name ≡ row_of db name
+  unchanged name none = row_of-spared db subject name kept.ordered (owner_schema-created db kept.created) none
 
   -- the rows of a table of which none is removed or changed
   table_left : (table : TableNo) → list_any (λ (name : RowName). (table.0 == name.table.0) && true) struck ≡ false
@@ -76,18 +84,18 @@ module _ (facts : Facts) (db : Db) (subject : RowName) (kept : IsKept db) (kept_
       let own : (key : Key) → list_any (is_name (name key)) struck ≡ false =
       λ key. none_weaker _ (is_name (name key)) (λ other is. and_left _ _ (and-true _ is)) struck none in
       rows_by_key definition (rows_at db.rows table.0) (rows_at left.rows table.0)
-      (rising_rows db.schema.tables db.rows table.0 definition kept.ordered.rising is)
-      (rising_rows left.schema.tables left.rows table.0 definition kept_left.ordered.rising is_left)
-      (λ key. sym (row_of-table db (name key) definition is) ∙ (sym (facts.unchanged db subject (name key) kept (own key)) ∙ row_of-table left (name key) definition is_left))
+      (rising-at db.schema.tables db.rows table.0 definition kept.ordered.rising is)
+      (rising-at left.schema.tables left.rows table.0 definition kept_left.ordered.rising is_left)
+      (λ key. sym (row_of-table db (name key) definition is) ∙ (sym (unchanged (name key) (own key)) ∙ row_of-table left (name key) definition is_left))
 
   item_left : (table : TableNo) (key : Option Key) (write : Bool) → list_any (λ name. lies_on name (record { table = table; key = key; write = write })) struck ≡ false
       → AgreeOn db left (record { table = table; key = key; write = write })
   item_left table None write none = table_left table none _ refl
-  item_left table (Some key) write none = sym (facts.unchanged db subject (record { table = table; key = key }) kept none)
+  item_left table (Some key) write none = sym (unchanged (record { table = table; key = key }) none)
 
   -- the rows of items on which none lies that is removed or changed
   pub agree-undoomed : (items : List FootItem) → lie_on (removed db subject ++ changed db subject) items ≡ false → Agree items db (forget db subject)
   agree-undoomed items none = record {
     schema = schema_left;
-    on = each_so (λ item. list_any (λ name. lies_on name item) struck ≡ false) (AgreeOn db left) (λ item. item_left item.table item.key item.write) items (none_together lies_on struck items none);
+    on = each_weaker (λ item. list_any (λ name. lies_on name item) struck ≡ false) (AgreeOn db left) (λ item. item_left item.table item.key item.write) items (none_together lies_on struck items none);
   }

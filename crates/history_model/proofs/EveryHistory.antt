@@ -11,7 +11,6 @@ use Rattle.history_model.specs.Reply.{answer}
 use Rattle.history_model.specs.Serial.{AreGiven, IsEntry, IsHistory, Serial}
 use Rattle.history_model.specs.World.{Block, Open, World, start}
 use Rattle.history_model.proofs.BlockLemmas.{given-later}
-use Rattle.history_model.proofs.Facts.{Facts}
 use Rattle.history_model.proofs.HistoryLemmas.{reply-last, world-append, world-empty}
 use Rattle.history_model.proofs.SerialLemmas.{serial-step}
 use Rattle.history_model.proofs.Worlds.{IsSerialWorld, open-block}
@@ -26,13 +25,13 @@ serial-start : (base : Db) → Sound base → IsSerialWorld base [] (start base)
 unfolding held
 serial-start base sound = record { sound = sound; stands = λ session. tt; apart = λ session other differs. tt; place = refl }
 
-module _ (facts : Facts) (base : Db) where
+module _ (base : Db) where
   -- after entries more
   serial-entries : (before more : History) → IsSerialWorld base before (world base before) → IsHistory more → IsSerialWorld base (before ++ more) (world base (before ++ more))
   serial-entries before [] is entered = rw append-nil is
   serial-entries before (entry ∷ more) is entered =
       let now : World = world base before in
-      let step = serial-step facts base before now is entry entered.0 (answer now entry) (reply-last base before entry) refl in
+      let step = serial-step base before now is entry entered.0 (answer now entry) (reply-last base before entry) refl in
       let after : IsSerialWorld base (before ++ entry ∷ []) (world base (before ++ entry ∷ [])) =
       subst (IsSerialWorld base (before ++ entry ∷ [])) (sym (world-append base before entry)) step in
       subst (λ history. IsSerialWorld base history (world base history)) (append_assoc before (entry ∷ []) more)

@@ -1,9 +1,8 @@
 -- What is granted to a session overlaps nothing that another session holds.
 use Rattle.std.proofs.Common.{◌≡◌, ℕ, zero, suc, ◌+◌, ◌<◌, ◌≤◌, List, [], ◌∷◌, Bool, true, false, cond, inl, inr, refl, ap, subst, arith}
-use Rattle.std.specs.Prelude.{◌⊎◌, ◌==◌, Option, None, Some, Result, Ok, Err, filter, filter_map, find, not}
-use Rattle.std.specs.List.{AllByRecursion, cons_option, list_any, range_with_len}
-use Rattle.std.specs.Option.{option_map}
-use Rattle.std.proofs.lemmas.Bool.{cases_eq}
+use Rattle.std.specs.Prelude.{◌⊎◌, ◌==◌, Option, None, Some, Result, Ok, Err, filter, find, not}
+use Rattle.std.specs.List.{AllByRecursion, list_any, range_with_len}
+use Rattle.std.proofs.lemmas.Bool.{cases_eq, ne_eqb}
 use Rattle.own_model.specs.declared.bound.Bound.{Bound}
 use Rattle.own_model.specs.declared.footprint.FootItem.{FootItem}
 use Rattle.own_model.specs.declared.limit.TheConstants.{SESSIONS}
@@ -15,11 +14,13 @@ use Rattle.query_model.specs.BoundStatement.{bound_statement}
 use Rattle.query_model.specs.Footprints.{footprint_of}
 use Rattle.run_model.specs.Agree.{overlaps}
 use Rattle.run_model.specs.Items.{items_of}
-use Rattle.history_model.specs.Held.{Holding, first_holding, first_overlap, held, holder, holding, is_open, lowest_other, others}
+use Rattle.history_model.specs.Held.{Holding, held, holder, holding, is_open, lowest_other, others}
 use Rattle.history_model.specs.History.{is_conflict}
 use Rattle.history_model.specs.Reply.{granted, taking, unless_held}
+use Rattle.history_model.specs.Sentences.{IsOther}
 use Rattle.history_model.specs.World.{World}
 use Rattle.history_model.proofs.ApartLemmas.{AreApart}
+use Rattle.history_model.proofs.HolderLemmas.{holder-none}
 
 module _ {X : Type 0} where
   -- where none is found, none passes
@@ -31,21 +32,6 @@ module _ {X : Type 0} where
           → AllByRecursion (λ x. test x ≡ false) (x ∷ xs)
       by more true is none = let never : ◌≡◌ {A = Option X} (Some x) None = none in absurd (cc)
       by more false is none = (is, more none)
-
-  module _ {Y : Type 0} where
-    -- where no image is kept, each is none
-    none_kept : (f : X → Option Y) (xs : List X) → filter_map f xs ≡ [] → AllByRecursion (λ x. f x ≡ None) xs
-    none_kept f [] none = tt
-    none_kept f (x ∷ xs) none = by (none_kept f xs) (f x) refl none
-      where
-        by : (filter_map f xs ≡ [] → AllByRecursion (λ x. f x ≡ None) xs) → (found : Option Y) → f x ≡ found → cons_option found (filter_map f xs) ≡ []
-            → AllByRecursion (λ x. f x ≡ None) (x ∷ xs)
-        by more None is none = (is, more none)
-        by more (Some y) is none = absurd (cc)
-
-    none_mapped : (f : X → Y) (found : Option X) → option_map f found ≡ None → found ≡ None
-    none_mapped f None none = refl
-    none_mapped f (Some x) none = absurd (cc)
 
 -- what holds of each number of a range that passes
 each_in_range : (P : ℕ → Type 0) (test : ℕ → Bool) (from many : ℕ) → AllByRecursion P (filter test (range_with_len from many))
@@ -63,30 +49,17 @@ each_in_range P test from (suc many) all number above below passes = by (each_in
     by more false is all (inl here) = absurd (cc)
     by more false is all (inr later) = more all number (omega arith) (omega arith) passes
 
--- a session other than this one
-pub record IsOther (session other : ℕ) : Type 0 where
-  pub first : 1 ≤ other
-  pub last : other ≤ SESSIONS
-  pub differs : (other == session) ≡ false
-
 each_other : (P : ℕ → Type 0) (session : ℕ) → AllByRecursion P (others session) → (other : ℕ) → IsOther session other → P other
 each_other P session all other is =
     let first = is.first in
     let last = is.last in
-    each_in_range P (λ other. not (other == session)) 1 SESSIONS all other (omega arith) (omega arith) (ap not is.differs)
-
-no_holding : (found : List Holding) → first_holding found ≡ None → found ≡ []
-no_holding [] none = refl
-no_holding (first ∷ rest) none = absurd (cc)
+    each_in_range P (λ other. not (other == session)) 1 SESSIONS all other (omega arith) (omega arith) (ap not (ne_eqb other session is.differs))
 
 -- where none stands in the way, a footprint is apart from what each other session holds
 pub apart-holder : (world : World) (session : ℕ) (footprint : List FootItem) → holder world session footprint ≡ None
     → (other : ℕ) → IsOther session other → AreApart footprint (held world other)
-unfolding holder
 apart-holder world session footprint none other is =
-    let kept = none_kept (holding world footprint) (others session) (no_holding _ none) in
-    let own : holding world footprint other ≡ None = each_other (λ other. holding world footprint other ≡ None) session kept other is in
-    none_found (λ item. list_any (overlaps item) (held world other)) footprint (none_mapped _ (first_overlap (held world other) footprint) own)
+    none_found (λ item. list_any (overlaps item) (held world other)) footprint (holder-none world session footprint none other is)
 
 -- where no other session has an open transaction, each has none
 pub closed-lowest : (world : World) (session : ℕ) → lowest_other world session ≡ None → (other : ℕ) → IsOther session other

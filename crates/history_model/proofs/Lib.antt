@@ -5,7 +5,6 @@ pub mod BlockLemmas
 pub mod ChangeLemmas
 pub mod DoomLemmas
 pub mod EveryHistory
-pub mod Facts
 pub mod GrantLemmas
 pub mod HistoryLemmas
 pub mod HolderLemmas

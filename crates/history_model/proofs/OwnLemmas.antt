@@ -18,34 +18,35 @@ use Rattle.grammar_model.specs.Readable.{IsReadable, IsWritten}
 use Rattle.query_model.specs.BoundStatement.{bound_statement}
 use Rattle.run_model.specs.Items.{items_of, items_of_all}
 use Rattle.run_model.specs.Run.{run}
+use Rattle.run_model.proofs.SparedKeys.{TakesRows}
+use Rattle.schema_model.proofs.Places.{all-append}
 use Rattle.history_model.specs.Held.{held, items_held}
 use Rattle.history_model.specs.History.{History, after_request, flat_after, is_conflict, is_failure, left_by, own_after, reply, with_stated}
 use Rattle.history_model.specs.Reply.{is_refusal, reply_in, reply_inside, reply_within, taking, unless_down}
+use Rattle.history_model.specs.Sentences.{IsOther}
 use Rattle.history_model.specs.World.{Block, Stated, Standing, Outside, Open, Doomed, World, after_block, statements_of}
 use Rattle.history_model.proofs.Accepted.{no_failure, working-down}
-use Rattle.history_model.proofs.ApartLemmas.{AreApart, apart-append, eqb_back}
+use Rattle.history_model.proofs.ApartLemmas.{AreApart, apart-append}
 use Rattle.history_model.proofs.BlockLemmas.{IsOfBlock, given-later, given-push, items-push, later-of_block, schema-block}
-use Rattle.history_model.proofs.AgreeLemmas.{each_append}
-use Rattle.history_model.proofs.Facts.{Facts, has_footprint}
-use Rattle.history_model.proofs.GrantLemmas.{IsGranted, IsOther, granted-taking}
+use Rattle.history_model.proofs.GrantLemmas.{IsGranted, granted-taking}
 use Rattle.history_model.proofs.Worlds.{HoldsNothing, IsOpenBlock, IsSerialWorld, IsStanding, held-open, items-nothing, open-block, stands-nothing}
 
 -- a statement with a footprint that binding refuses is told why, whatever rows there are
-pub refused-binding : (db : Db) (asked : Statement) (why : Refusal) → has_footprint asked ≡ true → bound_statement db.schema asked ≡ Err why
+pub refused-binding : (db : Db) (asked : Statement) (why : Refusal) → TakesRows asked → bound_statement db.schema asked ≡ Err why
     → (run db asked).reply ≡ Refused why
 unfolding run
-refused-binding db (statement.Select query) why has is = rw is refl
-refused-binding db (statement.Insert table columns rows) why has is = rw is refl
-refused-binding db (statement.Update table sets cond) why has is = rw is refl
-refused-binding db (statement.Delete table cond) why has is = rw is refl
-refused-binding db _ why has is = absurd (cc)
+refused-binding db (statement.Select query) why takes is = rw is refl
+refused-binding db (statement.Insert table columns rows) why takes is = rw is refl
+refused-binding db (statement.Update table sets cond) why takes is = rw is refl
+refused-binding db (statement.Delete table cond) why takes is = rw is refl
+refused-binding db _ why takes is = absurd takes
 
 -- A session outside, or whose transaction a FORGET ended, holds nothing after a request.
 outside-nothing : (place : ℕ) (request : Request) (conflicts : Bool) → HoldsNothing (after_request place Outside request conflicts)
 outside-nothing place (Run statement.Begin) conflicts = refl
 outside-nothing place _ conflicts = tt
 
-module _ (facts : Facts) (base : Db) (history : History) (world : World) (is : IsSerialWorld base history world) (entry : Entry)
+module _ (base : Db) (history : History) (world : World) (is : IsSerialWorld base history world) (entry : Entry)
     (first : 1 ≤ entry.session.0) (last : entry.session.0 ≤ SESSIONS) where
   abbrev session : ℕ
   session = entry.session.0
@@ -70,7 +71,7 @@ module _ (facts : Facts) (base : Db) (history : History) (world : World) (is : I
       → AreApart (items_of_all world.flat.schema (statements_of block)) (held world other)
   own_apart begun block opened other differs =
       subst (λ items. AreApart items (held world other)) (held-open world session begun block opened)
-      (is.apart session other (eqb_back session other ∙ differs.differs))
+      (is.apart session other (λ same. differs.differs (sym same)))
 
   longer : length history ≤ length more
   longer = omega (arith, length-append history (entry ∷ []))
@@ -99,7 +100,7 @@ module _ (facts : Facts) (base : Db) (history : History) (world : World) (is : I
   own-same = own_step (world.standing session) refl
 
   module _ (begun : ℕ) (block : Block) (opened : world.standing entry.session.0 ≡ Open begun block) (asked : Statement) (readable : IsWritten STATEMENT_BYTES asked)
-      (has : has_footprint asked ≡ true) where
+      (takes : TakesRows asked) where
     abbrev stated : Stated
     stated = record { place = world.place; statement = asked }
 
@@ -119,8 +120,8 @@ module _ (facts : Facts) (base : Db) (history : History) (world : World) (is : I
           stands = record {
             first = first;
             last = last;
-            stated = each_append (IsOfBlock (length more)) block (stated ∷ []) (later-of_block (length history) (length more) longer block own.stated)
-                (record { readable = readable; has = has; before = before }, tt);
+            stated = all-append (IsOfBlock (length more)) block (stated ∷ []) (later-of_block (length history) (length more) longer block own.stated)
+                (record { taking = record { readable = readable; takes = takes }; before = before }, tt);
             given = given-push base more world.flat block stated (given-later base history (entry ∷ []) world.flat block own.stated own.given) at;
           };
           apart = λ other differs. rw (items-push world.flat.schema block stated)
@@ -137,8 +138,8 @@ module _ (facts : Facts) (base : Db) (history : History) (world : World) (is : I
             → taking world session asked answered ≡ answered
         by (inl goes) = goes
         by (inr (why, refused, told)) =
-            let same : (after_block world.flat block).schema ≡ world.flat.schema = schema-block facts (length history) world.flat block own.stated in
-            told ∙ sym (refused-binding (after_block world.flat block) asked why has (ap (λ schema. bound_statement schema asked) same ∙ refused))
+            let same : (after_block world.flat block).schema ≡ world.flat.schema = schema-block (length history) world.flat block own.stated in
+            told ∙ sym (refused-binding (after_block world.flat block) asked why takes (ap (λ schema. bound_statement schema asked) same ∙ refused))
 
     -- a statement in the transaction
     own-stated : (conflicts : Bool) → is_conflict (reply_within world session block asked) ≡ conflicts
@@ -159,13 +160,13 @@ module _ (facts : Facts) (base : Db) (history : History) (world : World) (is : I
       → IsOwn (if refused then world.flat else left_by world.flat (Open begun block) (Run asked))
       (after_request world.place (Open begun block) (Run asked) (is_conflict (reply_inside world session verdict block asked)))
   own-inside refused verdict begun block (statement.Select select) opened readable told =
-      own-either _ (own-stated begun block opened (statement.Select select) readable refl _ refl told) refused
+      own-either _ (own-stated begun block opened (statement.Select select) readable tt _ refl told) refused
   own-inside refused verdict begun block (statement.Insert table columns rows) opened readable told =
-      own-either _ (own-stated begun block opened (statement.Insert table columns rows) readable refl _ refl told) refused
+      own-either _ (own-stated begun block opened (statement.Insert table columns rows) readable tt _ refl told) refused
   own-inside refused verdict begun block (statement.Update table sets cond) opened readable told =
-      own-either _ (own-stated begun block opened (statement.Update table sets cond) readable refl _ refl told) refused
+      own-either _ (own-stated begun block opened (statement.Update table sets cond) readable tt _ refl told) refused
   own-inside refused verdict begun block (statement.Delete table cond) opened readable told =
-      own-either _ (own-stated begun block opened (statement.Delete table cond) readable refl _ refl told) refused
+      own-either _ (own-stated begun block opened (statement.Delete table cond) readable tt _ refl told) refused
   own-inside refused verdict begun block statement.Commit opened readable told = own-nothing _ Outside tt
   own-inside refused verdict begun block statement.Rollback opened readable told = own-nothing _ Outside tt
   own-inside refused verdict begun block _ opened readable told = own-either _ (own-open begun block opened) refused

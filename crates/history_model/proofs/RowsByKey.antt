@@ -1,6 +1,6 @@
 -- Rows in key order are told by what each key finds among them.
-use Rattle.std.proofs.Common.{◌≡◌, ℕ, zero, suc, List, [], ◌∷◌, map, Bool, true, false, refl, ap, sym, subst, ◌∙◌}
-use Rattle.std.specs.Prelude.{None, Some, find, slice_get}
+use Rattle.std.proofs.Common.{◌≡◌, List, [], ◌∷◌, map, Bool, true, false, refl, ap, sym, subst, ◌∙◌}
+use Rattle.std.specs.Prelude.{None, Some, find}
 use Rattle.std.specs.List.{AllByRecursion}
 use Rattle.std.specs.List.Sorted.{IsStrictlySortedBy}
 use Rattle.std.specs.declared.cmp.Ordering.{Ordering}
@@ -10,10 +10,10 @@ use Rattle.std.proofs.lemmas.Cmp.{tied_itself}
 use Rattle.own_base.specs.Key.{key_cmp}
 use Rattle.own_base.specs.declared.value.Key.{Key}
 use Rattle.own_model.specs.declared.schema.TableDef.{TableDef}
-use Rattle.own_model.specs.Db.{AreRising, IsRising, Row, key_of}
-use Rattle.own_model.specs.Stored.{has_key, is_equal, rows_at}
+use Rattle.own_model.specs.Db.{IsRising, Row, key_of}
+use Rattle.own_model.specs.Stored.{has_key, is_equal}
 use Rattle.own_model.proofs.KeyOrder.{key_order}
-use Rattle.history_model.proofs.AgreeLemmas.{each_so}
+use Rattle.run_model.proofs.Overlaps.{each_weaker}
 
 equal_is : (o : Ordering) → is_equal o ≡ true → o ≡ Equal
 equal_is Less is = cc
@@ -40,7 +40,7 @@ module _ (table : TableDef) where
   none_lesser key row rows rising less =
       none_behind key (row ∷ rows) (
         less,
-        each_so (λ later. key_cmp (key_of table row) later ≡ Less) (λ later. key_cmp key later ≡ Less) (λ later behind. key_order.trans key (key_of table row) later less behind)
+        each_weaker (λ later. key_cmp (key_of table row) later ≡ Less) (λ later. key_cmp key later ≡ Less) (λ later behind. key_order.trans key (key_of table row) later less behind)
             (map (key_of table) rows) rising.0,
       )
 
@@ -49,7 +49,7 @@ module _ (table : TableDef) where
   unfolding IsStrictlySortedBy
   none_later key row rows rising equal =
       none_behind key rows
-      (each_so (λ later. key_cmp (key_of table row) later ≡ Less) (λ later. key_cmp key later ≡ Less)
+      (each_weaker (λ later. key_cmp (key_of table row) later ≡ Less) (λ later. key_cmp key later ≡ Less)
       (λ later behind. sym (key_order.congr (key_of table row) key later equal) ∙ behind) (map (key_of table) rows) rising.0)
 
   abbrev AreFoundAlike : List Row → List Row → Type 0
@@ -95,19 +95,3 @@ module _ (table : TableDef) where
       let first = first_same row other rows others rising rising_other alike _ refl in
       let rest = rows_by_key rows others rising.1 rising_other.1 (rest_same row other rows others rising rising_other first.0 alike) in
       ap (λ row. row ∷ rows) first.0 ∙ ap (λ rows. other ∷ rows) rest
-
--- a table that isn't there has no rows
-pub no_rows : (tables : List TableDef) (rows : List (List Row)) (number : ℕ) → AreRising tables rows → slice_get tables number ≡ None → rows_at rows number ≡ []
-no_rows [] [] number rising is = refl
-no_rows [] (one ∷ rows) number rising is = absurd rising
-no_rows (first ∷ tables) [] number rising is = refl
-no_rows (first ∷ tables) (one ∷ rows) zero rising is = cc
-no_rows (first ∷ tables) (one ∷ rows) (suc number) rising is = no_rows tables rows number rising.1 is
-
--- the rows of one that is there rise
-pub rising_rows : (tables : List TableDef) (rows : List (List Row)) (number : ℕ) (table : TableDef) → AreRising tables rows
-    → slice_get tables number ≡ Some table → IsRising table (rows_at rows number)
-rising_rows [] rows number table rising is = cc
-rising_rows (first ∷ tables) [] number table rising is = absurd rising
-rising_rows (first ∷ tables) (one ∷ rows) zero table rising is = let same : first ≡ table = cc in subst (λ table. IsRising table one) same rising.0
-rising_rows (first ∷ tables) (one ∷ rows) (suc number) table rising is = rising_rows tables rows number table rising.1 is

@@ -1,7 +1,7 @@
 -- What holds of the world that a history leaves holds after one entry more; so each history is serial.
-use Rattle.std.proofs.Common.{◌≡◌, ℕ, ◌≤◌, List, [], ◌∷◌, ◌++◌, length, Bool, true, false, inl, inr, refl, ap, sym, subst, ◌∙◌, arith, eq-eqb}
+use Rattle.std.proofs.Common.{◌≡◌, ℕ, ◌≤◌, List, [], ◌∷◌, ◌++◌, length, Bool, true, false, inl, inr, refl, ap, sym, subst, ◌∙◌, arith}
 use Rattle.std.specs.Prelude.{◌⊎◌, ◌==◌, Some, if◌then◌else◌}
-use Rattle.std.proofs.lemmas.Bool.{eqb-true}
+use Rattle.std.proofs.lemmas.Bool.{eqb-false, eqb-true}
 use Rattle.std.proofs.lemmas.List.{length-append}
 use Rattle.own_model.specs.declared.footprint.FootItem.{FootItem}
 use Rattle.own_model.specs.declared.history.Entry.{Entry}
@@ -13,19 +13,18 @@ use Rattle.run_model.specs.Items.{items_of_all}
 use Rattle.history_model.specs.Held.{held, is_open, items_held}
 use Rattle.history_model.specs.History.{History, after_reply, doomed_at, dooms, flat_after, other_after, own_after, reply}
 use Rattle.history_model.specs.Reply.{answer, is_refusal, reply_in, unless_down}
+use Rattle.history_model.specs.Sentences.{IsOther}
 use Rattle.history_model.specs.Serial.{IsEntry}
 use Rattle.history_model.specs.World.{Block, Standing, Outside, Open, Doomed, World, statements_of}
 use Rattle.history_model.proofs.Accepted.{accepted-down}
 use Rattle.history_model.proofs.ApartLemmas.{AreApart, apart-back, apart-none}
 use Rattle.history_model.proofs.BlockLemmas.{given-agree, given-later, later-of_block}
 use Rattle.history_model.proofs.ChangeLemmas.{IsChange, change-accepted, change-same}
-use Rattle.history_model.proofs.Facts.{Facts}
-use Rattle.history_model.proofs.GrantLemmas.{IsOther}
 use Rattle.history_model.proofs.OwnLemmas.{IsOwn, own-after}
 use Rattle.history_model.proofs.Worlds.{IsSerialWorld, IsStanding, held-open, open-block, other-open}
 
 -- what an entry that was answered leaves of the flat database, whether it was refused or not
-module _ (facts : Facts) (base : Db) (history : History) (world : World) (is : IsSerialWorld base history world) (entry : Entry) (entered : IsEntry entry)
+module _ (base : Db) (history : History) (world : World) (is : IsSerialWorld base history world) (entry : Entry) (entered : IsEntry entry)
     (given : Reply) (told : reply base (history ++ entry ∷ []) (length history) ≡ Some given) (answered : given ≡ answer world entry) where
   abbrev session : ℕ
   session = entry.session.0
@@ -44,19 +43,19 @@ module _ (facts : Facts) (base : Db) (history : History) (world : World) (is : I
   in_world = answered
 
   change_by : (refused : Bool) → is_refusal given ≡ refused → IsChange world entry given db
-  change_by true is_refused = rw is_refused (change-same facts base history world is entry given)
+  change_by true is_refused = rw is_refused (change-same base history world is entry given)
   change_by false accepted = rw accepted
-      (change-accepted facts base history world is entry given accepted entry.verdict (world.standing session) entry.request refl refl entered.readable
+      (change-accepted base history world is entry given accepted entry.verdict (world.standing session) entry.request refl refl entered.readable
       (accepted-down world.down _ (ap is_refusal (sym in_world) ∙ accepted)))
 
   change : IsChange world entry given db
   change = change_by _ refl
 
-  own : IsOwn facts base history world is entry entered.first entered.last db (own_after world entry given)
-  own = own-after facts base history world is entry entered.first entered.last given told in_world entered.readable
+  own : IsOwn base history world is entry entered.first entered.last db (own_after world entry given)
+  own = own-after base history world is entry entered.first entered.last given told in_world entered.readable
 
   -- how another session stands
-  module _ (other : ℕ) (differs : (other == entry.session.0) ≡ false) where
+  module _ (other : ℕ) (differs : other ≡ entry.session.0 → ⊥) where
     -- its transaction is still open
     still_open : (begun : ℕ) (block : Block) → world.standing other ≡ Open begun block → dooms world entry given other ≡ false
         → Agree (items_of_all world.flat.schema (statements_of block)) world.flat db
@@ -76,7 +75,7 @@ module _ (facts : Facts) (base : Db) (history : History) (world : World) (is : I
           last = own.last;
           stated = later-of_block (length history) (length more) longer block own.stated;
           given = given-later base history (entry ∷ []) db block own.stated
-              (given-agree facts (length history) base history world.flat db block is.sound.kept change.sound.kept own.stated (still_open begun block so undoomed) own.given);
+              (given-agree (length history) base history world.flat db block is.sound.kept change.sound.kept own.stated (still_open begun block so undoomed) own.given);
         }
 
     stands_doomed : (stands : Standing) → IsStanding base more db other (doomed_at world.place stands)
@@ -116,7 +115,7 @@ module _ (facts : Facts) (base : Db) (history : History) (world : World) (is : I
 
   stands : (other : ℕ) (b : Bool) → (other == session) ≡ b → IsStanding base more db other (if b then own_after world entry given else other_after world entry given other)
   stands other true is_own = subst (λ one. IsStanding base more db one (own_after world entry given)) (sym (eqb-true other session is_own)) own.stands
-  stands other false differs = stands_by other differs _ refl
+  stands other false differs = stands_by other (eqb-false other session differs) _ refl
 
   own_items : List FootItem
   own_items = items_held db.schema (own_after world entry given)
@@ -125,7 +124,7 @@ module _ (facts : Facts) (base : Db) (history : History) (world : World) (is : I
   items other = items_held db.schema (other_after world entry given other)
 
   -- what the session holds, and another
-  apart_own : (other : ℕ) → (other == session) ≡ false → AreApart own_items (items other)
+  apart_own : (other : ℕ) → (other ≡ session → ⊥) → AreApart own_items (items other)
   unfolding own_items items
   apart_own other differs = by (holds other differs)
     where
@@ -134,7 +133,7 @@ module _ (facts : Facts) (base : Db) (history : History) (world : World) (is : I
       by (inr (is_other, same)) = rw same (own.apart other is_other)
 
   -- what two others hold
-  apart_others : (one other : ℕ) → (one == session) ≡ false → (other == session) ≡ false → (one == other) ≡ false → AreApart (items one) (items other)
+  apart_others : (one other : ℕ) → (one ≡ session → ⊥) → (other ≡ session → ⊥) → (one ≡ other → ⊥) → AreApart (items one) (items other)
   unfolding items
   apart_others one other one_differs other_differs differs = by (holds one one_differs) (holds other other_differs)
     where
@@ -146,14 +145,12 @@ module _ (facts : Facts) (base : Db) (history : History) (world : World) (is : I
   items_by : ℕ → Bool → List FootItem
   items_by other b = items_held db.schema (if b then own_after world entry given else other_after world entry given other)
 
-  apart_by : (one other : ℕ) → (one == other) ≡ false → (b c : Bool) → (one == session) ≡ b → (other == session) ≡ c → AreApart (items_by one b) (items_by other c)
+  apart_by : (one other : ℕ) → (one ≡ other → ⊥) → (b c : Bool) → (one == session) ≡ b → (other == session) ≡ c → AreApart (items_by one b) (items_by other c)
   unfolding items_by items own_items
-  apart_by one other differs true true is_one is_other =
-      let same : one ≡ other = eqb-true one session is_one ∙ sym (eqb-true other session is_other) in
-      let never : true ≡ false = sym (eq-eqb one other same) ∙ differs in absurd (cc)
-  apart_by one other differs true false is_one is_other = apart_own other is_other
-  apart_by one other differs false true is_one is_other = apart-back own_items (items one) (apart_own one is_one)
-  apart_by one other differs false false is_one is_other = apart_others one other is_one is_other differs
+  apart_by one other differs true true is_one is_other = absurd (differs (eqb-true one session is_one ∙ sym (eqb-true other session is_other)))
+  apart_by one other differs true false is_one is_other = apart_own other (eqb-false other session is_other)
+  apart_by one other differs false true is_one is_other = apart-back own_items (items one) (apart_own one (eqb-false one session is_one))
+  apart_by one other differs false false is_one is_other = apart_others one other (eqb-false one session is_one) (eqb-false other session is_other) differs
 
   -- what holds of the world after the entry
   pub serial-step : IsSerialWorld base (history ++ entry ∷ []) (after_reply world entry given)
