@@ -1,18 +1,20 @@
 -- Every history on a sound database is serial.
-use Rattle.std.proofs.Common.{◌≡◌, ℕ, zero, suc, List, [], ◌∷◌, ◌++◌, take, refl, sym, subst, append_assoc}
+use Rattle.std.proofs.Common.{◌≡◌, ℕ, true, zero, suc, List, [], ◌∷◌, ◌++◌, take, refl, ap, sym, subst, ◌∙◌, append_assoc}
 use Rattle.std.specs.Prelude.{drop}
 use Rattle.std.specs.List.{AllByRecursion}
 use Rattle.std.proofs.lemmas.List.{append-nil, take-append-drop}
+use Rattle.own_model.specs.declared.history.Entry.{Entry}
 use Rattle.own_model.specs.Db.{Db}
 use Rattle.state_model.specs.Sound.{Sound}
-use Rattle.history_model.specs.Held.{held}
+use Rattle.run_model.specs.Agree.{Agree}
+use Rattle.history_model.specs.Held.{held, is_open}
 use Rattle.history_model.specs.History.{History, flat, standing, world}
 use Rattle.history_model.specs.Reply.{answer}
 use Rattle.history_model.specs.Serial.{AreGiven, IsEntry, IsHistory, Serial}
 use Rattle.history_model.specs.World.{Block, Open, World, start}
 use Rattle.history_model.proofs.BlockLemmas.{given-later}
 use Rattle.history_model.proofs.HistoryLemmas.{reply-last, world-append, world-empty}
-use Rattle.history_model.proofs.SerialLemmas.{serial-step}
+use Rattle.history_model.proofs.SerialLemmas.{held-kept, serial-step}
 use Rattle.history_model.proofs.Worlds.{IsSerialWorld, open-block}
 
 each_take : {X : Type 0} (P : X → Type 0) (many : ℕ) (xs : List X) → AllByRecursion P xs → AllByRecursion P (take many xs)
@@ -41,6 +43,17 @@ module _ (base : Db) where
   pub serial-world : (history : History) → Sound base → IsHistory history → IsSerialWorld base history (world base history)
   serial-world history sound entered =
       serial-entries [] history (subst (IsSerialWorld base []) (sym (world-empty base)) (serial-start base sound)) entered
+
+  -- the rows that an open transaction holds are the same before and after an entry that leaves it open
+  pub held-history : (history : History) (entry : Entry) → Sound base → IsHistory history → IsEntry entry
+      → (session : ℕ) → is_open (standing base (history ++ entry ∷ []) session) ≡ true
+      → Agree (held (world base history) session) (flat base history) (flat base (history ++ entry ∷ []))
+  unfolding flat standing
+  held-history history entry sound entered is_entry session opened =
+      let now : World = world base history in
+      let next = ap (λ (after : World). is_open (after.standing session)) (world-append base history entry) in
+      subst (λ (after : World). Agree (held now session) now.flat after.flat) (sym (world-append base history entry))
+      (held-kept base history now (serial-world history sound entered) entry is_entry (answer now entry) (reply-last base history entry) refl session (sym next ∙ opened))
 
   module _ (history : History) (sound : Sound base) (entered : IsHistory history) (place : ℕ) where
     abbrev front : History

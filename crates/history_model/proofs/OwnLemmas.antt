@@ -20,7 +20,7 @@ use Rattle.run_model.specs.Items.{items_of, items_of_all}
 use Rattle.run_model.specs.Run.{run}
 use Rattle.run_model.proofs.SparedKeys.{TakesRows}
 use Rattle.schema_model.proofs.Places.{all-append}
-use Rattle.history_model.specs.Held.{held, items_held}
+use Rattle.history_model.specs.Held.{held, is_open, items_held}
 use Rattle.history_model.specs.History.{History, after_request, flat_after, is_conflict, is_failure, left_by, own_after, reply, with_stated}
 use Rattle.history_model.specs.Reply.{is_refusal, reply_in, reply_inside, reply_within, taking, unless_down}
 use Rattle.history_model.specs.Sentences.{IsOther}
@@ -45,6 +45,31 @@ refused-binding db _ why takes is = absurd takes
 outside-nothing : (place : ℕ) (request : Request) (conflicts : Bool) → HoldsNothing (after_request place Outside request conflicts)
 outside-nothing place (Run statement.Begin) conflicts = refl
 outside-nothing place _ conflicts = tt
+
+-- A session whose transaction is open after its own request left the flat database.
+left-open : (db : Db) (place : ℕ) (standing : Standing) (request : Request) (conflicts : Bool) → is_open (after_request place standing request conflicts) ≡ true
+    → left_by db standing request ≡ db
+unfolding run
+left-open db place (Doomed by) request conflicts opened = refl
+left-open db place Outside (Run statement.Begin) conflicts opened = refl
+left-open db place Outside _ conflicts opened = absurd (cc)
+left-open db place (Open begun block) (Run statement.Commit) conflicts opened = absurd (cc)
+left-open db place (Open begun block) _ conflicts opened = refl
+
+refused_or : (db left : Db) (refused : Bool) → left ≡ db → (if refused then db else left) ≡ db
+refused_or db left true same = refl
+refused_or db left false same = same
+
+flat_by : (world : World) (entry : Entry) (given : Reply) (failed refused : Bool) → is_failure given ≡ failed → is_refusal given ≡ refused
+    → is_open (if failed then world.standing entry.session.0 else after_request world.place (world.standing entry.session.0) entry.request (is_conflict given)) ≡ true
+    → (if refused then world.flat else left_by world.flat (world.standing entry.session.0) entry.request) ≡ world.flat
+flat_by world entry given true true is is_refused opened = refl
+flat_by world entry given true false is accepted opened = let never : true ≡ false = sym is ∙ no_failure given accepted in absurd (cc)
+flat_by world entry given false refused is is_refused opened =
+    refused_or world.flat _ refused (left-open world.flat world.place (world.standing entry.session.0) entry.request (is_conflict given) opened)
+
+pub flat-open : (world : World) (entry : Entry) (given : Reply) → is_open (own_after world entry given) ≡ true → flat_after world entry given ≡ world.flat
+flat-open world entry given opened = flat_by world entry given _ _ refl refl opened
 
 module _ (base : Db) (history : History) (world : World) (is : IsSerialWorld base history world) (entry : Entry)
     (first : 1 ≤ entry.session.0) (last : entry.session.0 ≤ SESSIONS) where

@@ -17,10 +17,11 @@ use Rattle.history_model.specs.Sentences.{IsOther}
 use Rattle.history_model.specs.Serial.{IsEntry}
 use Rattle.history_model.specs.World.{Block, Standing, Outside, Open, Doomed, World, statements_of}
 use Rattle.history_model.proofs.Accepted.{accepted-down}
+use Rattle.history_model.proofs.AgreeLemmas.{agree-same}
 use Rattle.history_model.proofs.ApartLemmas.{AreApart, apart-back, apart-none}
 use Rattle.history_model.proofs.BlockLemmas.{given-agree, given-later, later-of_block}
 use Rattle.history_model.proofs.ChangeLemmas.{IsChange, change-accepted, change-same}
-use Rattle.history_model.proofs.OwnLemmas.{IsOwn, own-after}
+use Rattle.history_model.proofs.OwnLemmas.{IsOwn, flat-open, own-after}
 use Rattle.history_model.proofs.Worlds.{IsSerialWorld, IsStanding, held-open, open-block, other-open}
 
 -- what an entry that was answered leaves of the flat database, whether it was refused or not
@@ -161,3 +162,22 @@ module _ (base : Db) (history : History) (world : World) (is : IsSerialWorld bas
     apart = λ one other differs. apart_by one other differs _ _ refl refl;
     place = let place = is.place in omega (arith, length-append history (entry ∷ []));
   }
+
+  -- the rows that an open transaction held before the entry are the same after it, if it is still open
+  other_kept : (other : ℕ) → (other ≡ session → ⊥) → (b : Bool) → dooms world entry given other ≡ b
+      → is_open (if b then doomed_at world.place (world.standing other) else world.standing other) ≡ true → Agree (held world other) world.flat db
+  other_kept other differs true doomed opened = absurd (no_doomed (world.standing other) opened)
+    where
+      no_doomed : (stands : Standing) → is_open (doomed_at world.place stands) ≡ true → ⊥
+      no_doomed Outside opened = cc
+      no_doomed (Open begun block) opened = cc
+      no_doomed (Doomed by) opened = cc
+  other_kept other differs false undoomed opened = change.others other (other-open base history world is session other differs opened) opened undoomed
+
+  kept_by : (other : ℕ) (b : Bool) → (other == session) ≡ b → is_open (if b then own_after world entry given else other_after world entry given other) ≡ true
+      → Agree (held world other) world.flat db
+  kept_by other true is_own opened = subst (Agree (held world other) world.flat) (sym (flat-open world entry given opened)) (agree-same (held world other) world.flat)
+  kept_by other false differs opened = other_kept other (eqb-false other session differs) _ refl opened
+
+  pub held-kept : (other : ℕ) → is_open ((after_reply world entry given).standing other) ≡ true → Agree (held world other) world.flat (flat_after world entry given)
+  held-kept other opened = kept_by other _ refl opened
