@@ -8,6 +8,7 @@ pub mod EveryHistory
 pub mod GrantLemmas
 pub mod HistoryLemmas
 pub mod HolderLemmas
+pub mod KeptByKeys
 pub mod NamedLemmas
 pub mod OwnLemmas
 pub mod RefusalLemmas
