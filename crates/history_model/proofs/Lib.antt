@@ -10,6 +10,7 @@ pub mod HistoryLemmas
 pub mod HolderLemmas
 pub mod KeptByKeys
 pub mod NamedLemmas
+pub mod NetLemmas
 pub mod OwnLemmas
 pub mod RefusalLemmas
 pub mod RowsByKey
