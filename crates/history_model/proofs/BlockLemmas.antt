@@ -116,3 +116,10 @@ module _ (places : ℕ) where
       → Agree (items_of_all db.schema (statements_of block)) db other → AreGiven base history db block → AreGiven base history other block
   given-agree base history db other block kept kept_other are agree =
       given_replies base history db other block (footprints.same_replies-block IsTaking takes keeps (statements_of block) db other (taking_each block are) kept kept_other agree)
+
+  -- and the databases that it leaves agree on each item on which they agreed before
+  pub carries-block : (db other : Db) (block : Block) → IsKept db → IsKept other → AreOfBlock places block → Agree (items_of_all db.schema (statements_of block)) db other
+      → (item : FootItem) → AgreeOn db other item → AgreeOn (after_block db block) (after_block other block) item
+  unfolding after_all
+  carries-block db other block kept kept_other are agree =
+      footprints.same_left-block IsTaking takes keeps (statements_of block) db other (taking_each block are) kept kept_other agree

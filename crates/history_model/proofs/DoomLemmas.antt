@@ -52,7 +52,7 @@ and-true true is = is
 and-true false is = refl
 
 -- the row of a name, by the table of its number
-row_of-table : (db : Db) (name : RowName) (table : TableDef) → slice_get db.schema.tables name.table.0 ≡ Some table
+pub row_of-table : (db : Db) (name : RowName) (table : TableDef) → slice_get db.schema.tables name.table.0 ≡ Some table
     → row_of db name ≡ find (has_key table name.key) (rows_at db.rows name.table.0)
 unfolding row_named
 row_of-table db name table is = rw is refl

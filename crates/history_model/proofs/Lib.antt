@@ -2,6 +2,7 @@ pub mod Accepted
 pub mod AgreeLemmas
 pub mod ApartLemmas
 pub mod BlockLemmas
+pub mod BlockNet
 pub mod ChangeLemmas
 pub mod DoomLemmas
 pub mod EveryHistory
