@@ -9,14 +9,22 @@ ghost use Rattle.own_model.specs.declared.refusal.Refusal.TheVariants.{Disk, Dow
 ghost use Rattle.own_model.specs.declared.refusal.Refusal.TheVariants as refusal;
 ghost use Rattle.own_model.specs.declared.reply.Reply.TheVariants.{Refused};
 ghost use Rattle.own_model.specs.Db.{Db};
+ghost use Rattle.state_model.specs.Sound.{Sound};
 ghost use Rattle.history_model.specs.Held.{Holding, held, holder, lowest_other};
 ghost use Rattle.history_model.specs.History.{History, flat, happens, reply, standing};
 ghost use Rattle.history_model.specs.Made.{Called, made};
 ghost use Rattle.history_model.specs.Named.{called_name, entry_name, was_made};
 ghost use Rattle.history_model.specs.Reply.{answer};
 ghost use Rattle.history_model.specs.Sentences.{IsHeldBy, IsHolder, IsOther, StandsInTheWay};
+ghost use Rattle.history_model.specs.Serial.{IsHistory, Serial};
 ghost use Rattle.history_model.specs.Since.{IsBegun, stated_since};
 ghost use Rattle.history_model.specs.World.{Block, Open, Outside, Doomed, World};
+
+/// Every history over a sound database is serial, of entries whose requests can be read and whose sessions are among those
+/// that there are, in whatever order the sessions' calls come.
+pub fn every_history_is_serial()
+    ensures { (base : Db) (history : History) → Sound base → IsHistory history → Serial base history }
+{}
 
 /// Where the reply at a place is a refusal, the flat database after that place is the one before it.
 pub fn refused_call_leaves_flat_database()
