@@ -13,13 +13,12 @@ use Rattle.own_model.specs.Db.{Db}
 use Rattle.grammar_model.specs.Readable.{IsWritten}
 use Rattle.state_model.specs.Sound.{IsKept}
 use Rattle.run_model.specs.Agree.{Agree, AgreeOn, overlaps}
-use Rattle.run_model.specs.Items.{items_of, items_of_all}
+use Rattle.run_model.specs.Items.{TakesRows, items_of, items_of_all}
 use Rattle.run_model.specs.Run.{run}
 use Rattle.run_model.proofs.BlockFootprints as footprints
 use Rattle.run_model.proofs.BlockFootprints.{block_replies}
 use Rattle.run_model.proofs.KeptRuns.{kept-run}
 use Rattle.run_model.proofs.Overlaps.{each_weaker}
-use Rattle.run_model.proofs.SparedKeys.{TakesRows}
 use Rattle.history_model.specs.History.{History, reply}
 use Rattle.history_model.specs.Serial.{AreGiven}
 use Rattle.history_model.specs.World.{Block, Stated, after_all, after_block, statements_of}

@@ -25,12 +25,11 @@ use Rattle.state_model.specs.Settle.{settle}
 use Rattle.state_model.specs.Sound.{Sound}
 use Rattle.state_model.proofs.ForgetSound.{sound-forget}
 use Rattle.run_model.specs.Agree.{Agree, AgreeOn}
-use Rattle.run_model.specs.Items.{items_of, items_of_all}
+use Rattle.run_model.specs.Items.{TakesRows, items_of, items_of_all}
 use Rattle.run_model.specs.Run.{run}
 use Rattle.run_model.proofs.KeptRuns.{kept-run}
 use Rattle.run_model.proofs.Outcomes.{of-statement}
 use Rattle.run_model.proofs.Overlaps.{each_weaker}
-use Rattle.run_model.proofs.SparedKeys.{TakesRows}
 use Rattle.run_model.proofs.StatementFootprints.{same_schema-taking, still-run}
 use Rattle.run_model.proofs.TableRows.{in_place}
 use Rattle.history_model.specs.Held.{held, is_open, lowest_other}

@@ -16,9 +16,8 @@ use Rattle.own_model.specs.declared.statement.Statement.TheVariants as statement
 use Rattle.own_model.specs.Db.{Db}
 use Rattle.grammar_model.specs.Readable.{IsReadable, IsWritten}
 use Rattle.query_model.specs.BoundStatement.{bound_statement}
-use Rattle.run_model.specs.Items.{items_of, items_of_all}
+use Rattle.run_model.specs.Items.{TakesRows, items_of, items_of_all}
 use Rattle.run_model.specs.Run.{run}
-use Rattle.run_model.proofs.SparedKeys.{TakesRows}
 use Rattle.schema_model.proofs.Places.{all-append}
 use Rattle.history_model.specs.Held.{held, is_open, items_held}
 use Rattle.history_model.specs.History.{History, after_request, flat_after, is_conflict, is_failure, left_by, own_after, reply, with_stated}

@@ -9,10 +9,9 @@ use Rattle.own_model.specs.declared.statement.Statement.{Statement}
 use Rattle.own_model.specs.Db.{Db}
 use Rattle.state_model.specs.Sound.{IsKept}
 use Rattle.run_model.specs.Agree.{Agree, AgreeOn, overlaps}
-use Rattle.run_model.specs.Items.{items_of, items_of_all}
+use Rattle.run_model.specs.Items.{TakesRows, items_of, items_of_all}
 use Rattle.run_model.specs.Run.{run}
 use Rattle.run_model.proofs.SameSchema.{IsSameSchema}
-use Rattle.run_model.proofs.SparedKeys.{TakesRows}
 use Rattle.run_model.proofs.StatementFootprints.{same_items-run, same_left-run, same_reply-run, same_schema-taking, still-run}
 use Rattle.run_model.proofs.TableRows.{agree_itself, in_place}
 

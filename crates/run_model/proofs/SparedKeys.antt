@@ -7,17 +7,10 @@ use Rattle.own_model.specs.declared.statement.Statement.{Statement}
 use Rattle.own_model.specs.declared.statement.Statement.TheVariants.{Delete, Insert, Select, Update}
 use Rattle.query_model.specs.BoundStatement.{bound_statement, faults, meaning}
 use Rattle.query_model.specs.Refused.{lowest}
+use Rattle.run_model.specs.Items.{TakesRows}
 use Rattle.run_model.proofs.BoundFootprints.{IsFootprinted}
 use Rattle.run_model.proofs.KeylessSets.{keyless-bound_sets, sets_over}
 use Rattle.run_model.proofs.Outcomes.{bound-ok}
-
--- a SELECT, an INSERT, an UPDATE or a DELETE
-abbrev pub TakesRows : Statement → Type 0
-TakesRows (Select select) = Unit {0}
-TakesRows (Insert table columns rows) = Unit {0}
-TakesRows (Update table sets cond) = Unit {0}
-TakesRows (Delete table cond) = Unit {0}
-TakesRows _ = ⊥
 
 meant_footprinted : (schema : Schema) (statement : Statement) → TakesRows statement → lowest (faults schema statement) ≡ None → IsFootprinted schema (meaning schema statement)
 unfolding faults meaning

@@ -13,12 +13,12 @@ use Rattle.own_model.specs.Db.{Db}
 use Rattle.query_model.specs.BoundStatement.{bound_statement}
 use Rattle.query_model.specs.Footprints.{footprint_of}
 use Rattle.run_model.specs.Agree.{Agree, AgreeOn, overlaps}
-use Rattle.run_model.specs.Items.{items_of}
+use Rattle.run_model.specs.Items.{TakesRows, items_of}
 use Rattle.run_model.specs.Run.{run, run_unless}
 use Rattle.run_model.proofs.BoundFootprints.{same_left-run_bound, same_reply-run_bound, still-run_bound}
 use Rattle.run_model.proofs.Outcomes.{AddsNothing}
 use Rattle.run_model.proofs.SameSchema.{IsSameSchema, same_schema-run}
-use Rattle.run_model.proofs.SparedKeys.{TakesRows, footprinted}
+use Rattle.run_model.proofs.SparedKeys.{footprinted}
 use Rattle.run_model.proofs.TableRows.{AreInPlace, agree_itself}
 
 -- one of the four does what it means, unless binding refuses it
