@@ -12,6 +12,7 @@ pub mod HolderLemmas
 pub mod KeptByKeys
 pub mod NamedLemmas
 pub mod NetLemmas
+pub mod OpenTransactions
 pub mod OwnLemmas
 pub mod RefusalLemmas
 pub mod RowsByKey

@@ -1,6 +1,6 @@
 //! Laws of the definitions in `specs/`: each function does nothing, and what it ensures holds of every database, history
 //! and list of calls.
-ghost use Rattle.std.specs.Prelude.{◌≡◌, ◌↔◌, ℕ, ◌+◌, ◌<◌, List, ◌++◌, length, map, filter, take, None, Some, Contains, slice_get, []};
+ghost use Rattle.std.specs.Prelude.{◌≡◌, ◌↔◌, ℕ, ◌+◌, ◌<◌, List, ◌++◌, length, map, filter, take, None, Some, Contains, slice_get, [], ◌∷◌, true};
 ghost use Rattle.own_base.specs.declared.number.Place.{Place};
 ghost use Rattle.own_model.specs.declared.footprint.FootItem.{FootItem};
 ghost use Rattle.own_model.specs.declared.history.Entry.{Entry};
@@ -9,21 +9,42 @@ ghost use Rattle.own_model.specs.declared.refusal.Refusal.TheVariants.{Disk, Dow
 ghost use Rattle.own_model.specs.declared.refusal.Refusal.TheVariants as refusal;
 ghost use Rattle.own_model.specs.declared.reply.Reply.TheVariants.{Refused};
 ghost use Rattle.own_model.specs.Db.{Db};
-ghost use Rattle.state_model.specs.Sound.{Sound};
-ghost use Rattle.history_model.specs.Held.{Holding, held, holder, lowest_other};
-ghost use Rattle.history_model.specs.History.{History, flat, happens, reply, standing};
+ghost use Rattle.state_model.specs.Net.{net};
+ghost use Rattle.state_model.specs.Sound.{IsKept, Sound};
+ghost use Rattle.run_model.specs.Agree.{Agree};
+ghost use Rattle.history_model.specs.Held.{Holding, held, holder, is_open, lowest_other};
+ghost use Rattle.history_model.specs.History.{History, flat, happens, reply, standing, world};
 ghost use Rattle.history_model.specs.Made.{Called, made};
 ghost use Rattle.history_model.specs.Named.{called_name, entry_name, was_made};
 ghost use Rattle.history_model.specs.Reply.{answer};
 ghost use Rattle.history_model.specs.Sentences.{IsHeldBy, IsHolder, IsOther, StandsInTheWay};
-ghost use Rattle.history_model.specs.Serial.{IsHistory, Serial};
+ghost use Rattle.history_model.specs.Serial.{AreGiven, IsEntry, IsHistory, Serial};
 ghost use Rattle.history_model.specs.Since.{IsBegun, stated_since};
-ghost use Rattle.history_model.specs.World.{Block, Open, Outside, Doomed, World};
+ghost use Rattle.history_model.specs.World.{Block, Open, Outside, Doomed, World, after_block};
 
 /// Every history over a sound database is serial, of entries whose requests can be read and whose sessions are among those
 /// that there are, in whatever order the sessions' calls come.
 pub fn every_history_is_serial()
     ensures { (base : Db) (history : History) → Sound base → IsHistory history → Serial base history }
+{}
+
+/// What an open transaction was answered and what it writes hang on the rows that it holds alone: on any other database that
+/// agrees on these its statements give the same replies, and its net is the same.
+pub fn open_transaction_depends_on_the_rows_it_holds()
+    ensures replies { (base : Db) (history : History) (session begun : ℕ) (block : Block) (other : Db) → Sound base → IsHistory history
+        → standing base history session ≡ Open begun block → IsKept other → Agree (held (world base history) session) (flat base history) other
+        → AreGiven base history other block }
+    ensures net { (base : Db) (history : History) (session begun : ℕ) (block : Block) (other : Db) → Sound base → IsHistory history
+        → standing base history session ≡ Open begun block → IsKept other → Agree (held (world base history) session) (flat base history) other
+        → net (flat base history) (after_block (flat base history) block) ≡ net other (after_block other block) }
+{}
+
+/// The rows that a transaction holds are the same before and after each entry that leaves it open: other sessions' statements
+/// are kept off them, and a FORGET that removes or changes one ends the transaction.
+pub fn held_rows_stay_while_the_transaction_is_open()
+    ensures { (base : Db) (history : History) (entry : Entry) (session : ℕ) → Sound base → IsHistory history → IsEntry entry
+        → is_open (standing base (history ++ entry ∷ []) session) ≡ true
+        → Agree (held (world base history) session) (flat base history) (flat base (history ++ entry ∷ [])) }
 {}
 
 /// Where the reply at a place is a refusal, the flat database after that place is the one before it.
