@@ -4,7 +4,7 @@ use Rattle.std.specs.Prelude.{Bool, true, false, nat_le, codes}
 use Rattle.std.specs.List.{AllByRecursion}
 use Rattle.std.proofs.lemmas.Bool.{leb-true}
 use Rattle.own_model.specs.declared.create.CreateView.{CreateView}
-use Rattle.own_model.specs.declared.limit.TheConstants.{NESTING_LEVELS, SELECT_ITEMS}
+use Rattle.own_model.specs.declared.limit.TheConstants.{NESTING_LEVELS, SELECT_ITEMS, STATEMENT_BYTES}
 use Rattle.own_model.specs.declared.request.Request.TheVariants.{Run}
 use Rattle.own_model.specs.declared.select.Item.{Item}
 use Rattle.own_model.specs.declared.select.Items.{Items}
@@ -17,7 +17,7 @@ use Rattle.grammar_model.specs.Grammar.{item_after}
 use Rattle.grammar_model.specs.Language as languages
 use Rattle.grammar_model.specs.Language.{Language, one, ◌>>=◌, ◌>>◌, ◌or◌, pure, optional, many_from, whether}
 use Rattle.grammar_model.specs.Limits.{Limits, store_limits}
-use Rattle.grammar_model.specs.Readable.{IsReadable}
+use Rattle.grammar_model.specs.Readable.{IsReadable, IsWritten}
 use Rattle.grammar_model.specs.Terminal.{Terminal, Terminals, Written, Slot, terminal_of}
 use Rattle.grammar_model.specs.Values.{SlotIs}
 use Rattle.grammar_model.proofs.OwnRule.{written-own}
@@ -188,9 +188,14 @@ few_items select items is lists =
     same : (one other : Select) → Statement.Select one ≡ Statement.Select other → one ≡ other
     same one other is = cc
 
--- the select of a CREATE VIEW that can stand in a history doesn't either
-pub few_view_items : (view : CreateView) (items : List Item) → IsReadable (Run (Statement.CreateView view)) → view.select.items ≡ Listed items
+-- nor does the select of a CREATE VIEW, however long its text may be
+pub few_written_items : (most : ℕ) (view : CreateView) (items : List Item) → IsWritten most (Statement.CreateView view) → view.select.items ≡ Listed items
     → length items ≤ SELECT_ITEMS
-few_view_items view items is lists =
+few_written_items most view items is lists =
     let own = written-own store_limits NESTING_LEVELS (Statement.CreateView view) is.terminals is.spells in
     subst AreFew lists (view-few NESTING_LEVELS view is.terminals [] own (subst AreNoSlots (sym is.cut.2) (tokens-no_slots is.cut.0)))
+
+-- so neither does the one of a CREATE VIEW that can stand in a history
+pub few_view_items : (view : CreateView) (items : List Item) → IsReadable (Run (Statement.CreateView view)) → view.select.items ≡ Listed items
+    → length items ≤ SELECT_ITEMS
+few_view_items = few_written_items STATEMENT_BYTES

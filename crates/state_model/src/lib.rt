@@ -1,3 +1,5 @@
 //! Which databases a store may stand for, and whether a commit is accepted: the definitions of faults, weight, nets and
 //! creates, in `specs/`.
 #![tactic(auto)]
+
+pub mod laws;

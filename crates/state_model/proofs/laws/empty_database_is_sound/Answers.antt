@@ -1,0 +1,6 @@
+use Rattle.state_model.proofs.CreatedLemmas.{created-empty}
+use Rattle.state_model.proofs.KeptLemmas.{sound-empty}
+use Rattle.state_model.proofs.laws.empty_database_is_sound.Goals as goal
+
+pub returns : goal.returns
+returns c = record { created = created-empty; sound = sound-empty }
