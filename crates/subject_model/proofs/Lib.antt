@@ -3,3 +3,12 @@ pub mod NamedLemmas
 pub mod JoinsLemmas
 pub mod TableRank
 pub mod PathLemmas
+pub mod ForgetEdges
+pub mod ForgetKeys
+pub mod ForgetRows
+pub mod ForgetOrder
+pub mod OwnerLemmas
+pub mod EdgeNumbers
+pub mod StayLemmas
+pub mod FirstSubject
+pub mod LocalLemmas
