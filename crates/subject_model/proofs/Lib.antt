@@ -12,3 +12,5 @@ pub mod EdgeNumbers
 pub mod StayLemmas
 pub mod FirstSubject
 pub mod LocalLemmas
+pub mod NameOrderLemmas
+pub mod OwnerLists

@@ -90,7 +90,7 @@ pub record IsAt (number : ℕ) (tables : List TableDef) (rows : List (List Row))
   pub table_is : named.name.table.0 ≡ number + place
   pub row_is : row_at tables rows place named.name.key ≡ Some named.row
 
-at_from : (number : ℕ) (tables : List TableDef) (rows : List (List Row)) (named : NamedRow) → AreRising tables rows → Contains (rows_from number tables rows) named → IsAt number tables rows named
+pub at_from : (number : ℕ) (tables : List TableDef) (rows : List (List Row)) (named : NamedRow) → AreRising tables rows → Contains (rows_from number tables rows) named → IsAt number tables rows named
 unfolding rows_from
 at_from number [] rows named rising among = absurd (contains_none named among)
 at_from number (table ∷ tables) [] named rising among = absurd (contains_none named among)

@@ -2,6 +2,7 @@ pub mod AreJoined
 pub mod Forget
 pub mod Get
 pub mod LocalEquation
+pub mod NameOrder
 pub mod Named
 pub mod Owners
 pub mod Paths
