@@ -1,10 +1,6 @@
 pub mod BuiltStatements
-pub mod FewRows
-pub mod Languages
-pub mod PlainKinds
 pub mod PrintedLemmas
 pub mod PutRows
-pub mod SerialLemmas
 pub mod ShortTexts
 pub mod SparedLemmas
 pub mod TranscriptLemmas

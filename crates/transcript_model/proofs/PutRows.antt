@@ -17,8 +17,8 @@ use Rattle.query_model.specs.Kinds.{goes_with}
 use Rattle.query_model.specs.Scope.{NameBytes}
 use Rattle.query_model.specs.WriteFaults.{column_in, columns_for, columns_left, left_faults, numbered_columns, tuple_faults, value_faults, wrong_count}
 use Rattle.query_model.specs.WriteMeaning.{given, is_for, put_row}
-use Rattle.history_model.specs.Sound.{AreOfKinds, IsOfKind, IsRowOf, IsShort}
-use Rattle.transcript_model.proofs.PlainKinds.{IsPlain, IsPlainColumn, IsPlainTable}
+use Rattle.state_model.specs.Rows.{AreOfKinds, IsOfKind, IsRowOf, IsShort}
+use Rattle.state_model.proofs.PlainKinds.{IsPlain, IsPlainColumn, IsPlainTable}
 use Rattle.transcript_model.proofs.ShortTexts.{AreShort}
 
 -- the column that a value is for, if there is one

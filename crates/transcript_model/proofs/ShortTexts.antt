@@ -12,8 +12,8 @@ use Rattle.grammar_model.specs.Limits.{store_limits}
 use Rattle.grammar_model.specs.Readable.{IsWritten}
 use Rattle.grammar_model.specs.Values.{TextIs}
 use Rattle.grammar_model.proofs.OwnRule.{written-own}
-use Rattle.history_model.specs.Sound.{IsShort}
-use Rattle.transcript_model.proofs.Languages.{Gives, gives-bind, gives-bracketed, gives-listed, gives-or, gives-own, gives-pure}
+use Rattle.state_model.specs.Rows.{IsShort}
+use Rattle.state_model.proofs.Languages.{Gives, gives-bind, gives-bracketed, gives-listed, gives-or, gives-own, gives-pure}
 
 -- short texts alone stand in the rows of an INSERT
 abbrev pub AreShort : List (List Value) → Type 0
