@@ -1,5 +1,10 @@
+pub mod KeylessSets
+pub mod Numbered
+pub mod OrderedRuns
 pub mod Outcomes
+pub mod PutRows
 pub mod Refusals
 pub mod RisingKeys
 pub mod SameSchema
+pub mod ShortTexts
 pub mod TableLemmas

@@ -114,6 +114,15 @@ rising-set (first ∷ tables) (one ∷ rows) zero table new rising is news =
     let same : first ≡ table = cc in (subst (λ table. IsRising table new) (sym same) news, rising.1)
 rising-set (first ∷ tables) (one ∷ rows) (suc number) table new rising is news = (rising.0, rising-set tables rows number table new rising.1 is news)
 
+-- rows that are changed where they stand, in such a way that any rows that rise still do
+pub rising-change : (change : List Row → List Row) → ((table : TableDef) (rows : List Row) → IsRising table rows → IsRising table (change rows))
+    → (tables : List TableDef) (rows : List (List Row)) (number : ℕ) → AreRising tables rows → AreRising tables (slice_set rows number (change (rows_at rows number)))
+rising-change change keeps [] [] number rising = tt
+rising-change change keeps [] (one ∷ rows) number rising = absurd rising
+rising-change change keeps (first ∷ tables) [] number rising = absurd rising
+rising-change change keeps (first ∷ tables) (one ∷ rows) zero rising = (keeps first one rising.0, rising.1)
+rising-change change keeps (first ∷ tables) (one ∷ rows) (suc number) rising = (rising.0, rising-change change keeps tables rows number rising.1)
+
 -- some of the rows
 module _ (table : TableDef) (test : Row → Bool) where
   below_filter_step : (P : Key → Type 0) (first : Row) (rest : List Row) → P (key_of table first) → AllByRecursion P (map (key_of table) (filter test rest))
