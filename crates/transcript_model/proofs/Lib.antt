@@ -1,6 +1,6 @@
 pub mod BuiltStatements
+pub mod BuiltWorlds
 pub mod PrintedLemmas
-pub mod PutRows
-pub mod ShortTexts
+pub mod ShortHistories
 pub mod SparedLemmas
 pub mod TranscriptLemmas

@@ -15,16 +15,6 @@ ghost use Rattle.transcript_model.specs.Printed.{printed};
 ghost use Rattle.transcript_model.specs.TellsMemory.{TellsMemory};
 ghost use Rattle.transcript_model.specs.Transcript.{IsSpared, IsTranscript, spared};
 
-/// Over the empty database a history of requests that can be read and are built passes no limit at any place, where it has
-/// at most one for each call that an input may have, and one for the end of each session, and where the texts that they put
-/// into rows have together no more bytes than an input may have; keys rise there, and rows have their tables' lengths and
-/// kinds.
-pub fn short_readable_history_is_serial()
-    ensures { (history : History) → length history ≤ INPUT_CALLS + SESSIONS
-        → sum_by (λ entry. asked_bytes entry.request) history ≤ INPUT_BYTES
-        → AllByRecursion (λ entry. IsReadable entry.request) history → AreBuilt empty history → Serial empty history }
-{}
-
 /// Over one history, the text of calls is that of the first of them, and after it that of the rest.
 pub fn calls_print_one_behind_the_other()
     ensures { (base : Db) (history : History) (calls more : List Called)
