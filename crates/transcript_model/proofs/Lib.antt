@@ -3,4 +3,6 @@ pub mod BuiltWorlds
 pub mod PrintedLemmas
 pub mod ShortHistories
 pub mod SparedLemmas
+pub mod TakeRows
 pub mod TranscriptLemmas
+pub mod Unowned
