@@ -1,7 +1,11 @@
 pub mod Counts
 pub mod CreatedLemmas
 pub mod CreatedSchema
+pub mod FaultLemmas
+pub mod ForgetFaults
+pub mod ForgetReferences
 pub mod ForgetSizes
+pub mod ForgetUnique
 pub mod KeptLemmas
 pub mod Languages
 pub mod PlainKinds

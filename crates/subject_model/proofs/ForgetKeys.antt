@@ -1,6 +1,6 @@
 -- What a row that a FORGET leaves holds, and that it keeps its key.
-use Rattle.std.proofs.Common.{◌≡◌, ℕ, zero, suc, ◌+◌, List, [], ◌∷◌, map, Bool, true, false, cond, refl, ap, sym, ◌∙◌, subst, arith}
-use Rattle.std.specs.Prelude.{◌||◌, Option, Some, None, Contains, slice_get, slice_index_or, if◌then◌else◌}
+use Rattle.std.proofs.Common.{◌≡◌, ℕ, zero, suc, ◌+◌, List, [], ◌∷◌, map, Bool, true, false, refl, ap, sym, ◌∙◌, subst, arith}
+use Rattle.std.specs.Prelude.{Option, Some, None, slice_get, slice_index_or, if◌then◌else◌}
 use Rattle.std.specs.List.{enumerate_from}
 use Rattle.std.specs.Option.{option_map, option_map_or}
 use Rattle.std.proofs.lemmas.Bool.{false_from_ne_true, or_from}
@@ -11,13 +11,12 @@ use Rattle.own_base.specs.declared.value.Value.TheVariants.{Null}
 use Rattle.own_model.specs.declared.schema.Column.{Column}
 use Rattle.own_model.specs.declared.schema.RefKind.{RefKind}
 use Rattle.own_model.specs.declared.schema.TableDef.{TableDef}
-use Rattle.own_model.specs.Db.{Db, Row, as_key, key_of}
+use Rattle.own_model.specs.Db.{Db, as_key, key_of}
 use Rattle.owner_model.specs.RuledColumns.{is_blanked}
-use Rattle.query_model.specs.Footprints.{literal_key}
 use Rattle.query_model.specs.Truth.{cell}
 use Rattle.schema_model.specs.OwnerSchema.{ColumnsRefer, IsOwnerSchema, RulesWell}
 use Rattle.schema_model.proofs.Places.{all-at}
-use Rattle.subject_model.specs.Forget.{dangles, dangles_at, left_of, loses, names_going}
+use Rattle.subject_model.specs.Forget.{dangles, dangles_at, left_of, loses}
 use Rattle.subject_model.specs.Named.{NamedRow}
 use Rattle.subject_model.specs.Owners.{by}
 use Rattle.subject_model.proofs.ForgetEdges.{blanked_by}
@@ -72,7 +71,7 @@ module _ (db : Db) (subject : RowName) (table : TableDef) (named : NamedRow) whe
         never blanked =
             let made = blanked_by db subject named.name table.key.0 owner blanked in
             let well : RulesWell db.schema made.ruling = all_contained (RulesWell db.schema) db.schema.edges made.ruling owner.rules made.among in
-            let own : slice_get db.schema.tables made.ruling.lower.0 ≡ Some table = subst (λ (t : TableNo). slice_get db.schema.tables t.0 ≡ Some table) made.joins.of_lower is in
+            let own : slice_get db.schema.tables made.ruling.lower.0 ≡ Some table = subst (λ (t : TableNo). slice_get db.schema.tables t.0 ≡ Some table) made.reaches.leads.0.of_lower is in
             let none = well.no_key table own in
             let has = made.rules in
             cc

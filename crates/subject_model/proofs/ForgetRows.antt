@@ -1,20 +1,20 @@
 -- Which rows a FORGET leaves, by name.
 use Rattle.std.proofs.Common.{◌≡◌, ℕ, zero, suc, ◌+◌, List, [], ◌∷◌, map, Bool, true, false, cond, refl, ap, sym, ◌∙◌, subst, arith}
-use Rattle.std.specs.Prelude.{◌&&◌, Option, Some, None, Contains, IsSome, filter, find, is_some, slice_get, if◌then◌else◌}
+use Rattle.std.specs.Prelude.{◌&&◌, Option, Some, None, Contains, filter, find, is_some, slice_get, if◌then◌else◌}
 use Rattle.std.specs.Option.{option_and_then}
 use Rattle.own_base.specs.declared.row_name.RowName.{RowName}
 use Rattle.own_base.specs.declared.value.Key.{Key}
-use Rattle.own_model.specs.declared.schema.Schema.{Schema}
 use Rattle.own_model.specs.declared.schema.TableDef.{TableDef}
-use Rattle.own_model.specs.Db.{AreRising, Db, IsOrdered, IsRising, Row, key_of}
+use Rattle.own_model.specs.Db.{Db, Row, key_of}
 use Rattle.own_model.specs.Stored.{has_key, is_equal, row_named, rows_at}
 use Rattle.own_base.specs.Key.{key_cmp}
 use Rattle.owner_model.specs.Joins.{row_of}
 use Rattle.schema_model.specs.OwnerSchema.{IsOwnerSchema}
 use Rattle.subject_model.specs.Forget.{forget, left_from, left_in, left_of}
-use Rattle.subject_model.specs.Named.{NamedRow, is_there, name_of, rows_in}
+use Rattle.subject_model.specs.Named.{NamedRow, is_there, name_of}
 use Rattle.subject_model.specs.Stays.{stays}
 use Rattle.subject_model.proofs.ForgetKeys.{key_left}
+use Rattle.subject_model.proofs.Members.{contains_of_filter, contains_of_map}
 use Rattle.subject_model.proofs.NamedLemmas.{one_key}
 
 -- a filter of images is the images of a filter
@@ -177,3 +177,43 @@ there_step db subject name owner (Some table) some = ap is_some (row_of-forget d
 -- So a name is there after a FORGET exactly where it was there and stays.
 pub is_there-forget : (db : Db) (subject name : RowName) → IsOwnerSchema db.schema → is_there (forget db subject) name ≡ (is_there db name && stays db subject name)
 is_there-forget db subject name owner = there_step db subject name owner _ refl
+
+rows_get : (db : Db) (subject : RowName) (number : ℕ) (tables : List TableDef) (rows : List (List Row)) (place : ℕ) (table : TableDef) (left : List Row) → slice_get tables place ≡ Some table
+    → slice_get (left_from db subject number tables rows) place ≡ Some left → (before : List Row) × (slice_get rows place ≡ Some before) × (left ≡ left_in db subject (number + place) table before)
+unfolding left_from
+rows_get db subject number [] rows place table left is gives = cc
+rows_get db subject number (first ∷ tables) [] place table left is gives = cc
+rows_get db subject number (first ∷ tables) (one ∷ rows) zero table left is gives =
+    let same : first ≡ table = cc in
+    let own : left_in db subject number first one ≡ left = cc in
+    let n : number ≡ number + zero = omega arith in
+    (one, refl, sym own ∙ (ap (λ t. left_in db subject number t one) same ∙ ap (λ n. left_in db subject n table one) n))
+rows_get db subject number (first ∷ tables) (one ∷ rows) (suc place) table left is gives =
+    let n : number + 1 + place ≡ number + suc place = omega arith in
+    let (before, there, left_is) = rows_get db subject (number + 1) tables rows place table left is gives in
+    (before, there, left_is ∙ ap (λ n. left_in db subject n table before) n)
+
+-- the rows that are left at a number are what is left of those that were there
+pub rows_get-forget : (db : Db) (subject : RowName) (number : ℕ) (table : TableDef) (left : List Row) → slice_get db.schema.tables number ≡ Some table
+    → slice_get (forget db subject).rows number ≡ Some left → (before : List Row) × (slice_get db.rows number ≡ Some before) × (left ≡ left_in db subject number table before)
+unfolding forget
+rows_get-forget db subject number table left is gives =
+    let n : 0 + number ≡ number = omega arith in
+    let (before, there, left_is) = rows_get db subject 0 db.schema.tables db.rows number table left is gives in
+    (before, there, left_is ∙ ap (λ n. left_in db subject n table before) n)
+
+-- each row that is left of a table's is what is left of one that stays
+pub record IsLeftIn (db : Db) (subject : RowName) (number : ℕ) (table : TableDef) (rows : List Row) (left : Row) : Type 0 where
+  pub row : Row
+  pub among : Contains rows row
+  pub stays : stays_in db subject number table row ≡ true
+  pub left_is : row_left db subject number table row ≡ left
+
+pub contains_left_in : (db : Db) (subject : RowName) (number : ℕ) (table : TableDef) (rows : List Row) (left : Row) → Contains (left_in db subject number table rows) left
+    → IsLeftIn db subject number table rows left
+contains_left_in db subject number table rows left among =
+    let images : Contains (map (row_left db subject number table) (filter (stays_in db subject number table) rows)) left =
+    subst (λ xs. Contains xs left) (left_in-images db subject number table rows) among in
+    let (row, kept, same) = contains_of_map (row_left db subject number table) (filter (stays_in db subject number table) rows) left images in
+    let own = contains_of_filter (stays_in db subject number table) rows row kept in
+    record { row = row; among = own.0; stays = own.1; left_is = same }

@@ -1,5 +1,5 @@
 -- Which rows an edge joins, as a test and as a list.
-use Rattle.std.proofs.Common.{◌≡◌, ℕ, List, [], ◌∷◌, Bool, true, false, refl, ap, sym, ◌∙◌, subst, eq-eqb}
+use Rattle.std.proofs.Common.{◌≡◌, ℕ, Bool, true, false, ap, subst, eq-eqb}
 use Rattle.std.specs.Prelude.{◌==◌, ◌&&◌, ◌↔◌, Contains, IsTrue, Option, Some, None}
 use Rattle.std.specs.Option.{option_map_or}
 use Rattle.std.proofs.lemmas.Bool.{and_from, and_parts, eqb-true}
@@ -68,8 +68,8 @@ join_passes db lower edge upper is =
     let key = (other_of edge lower upper).key in
     and_from _ _
     (and_from _ _
-        (and_from _ _ (eq-eqb lower.table.0 edge.lower.0 (ap (λ t. t.0) is.of_lower)) (eq-eqb upper.table.0 edge.upper.0 (ap (λ t. t.0) is.of_upper)))
-        (and_from _ _ is.lower_there is.upper_there))
+    (and_from _ _ (eq-eqb lower.table.0 edge.lower.0 (ap (λ t. t.0) is.of_lower)) (eq-eqb upper.table.0 edge.upper.0 (ap (λ t. t.0) is.of_upper)))
+    (and_from _ _ is.lower_there is.upper_there))
     (key_named key held is.names)
 
 -- an edge of the schema joins two rows exactly where the test says so

@@ -1,17 +1,17 @@
 -- Owners and reach meet their local equations, and nothing else does.
-use Rattle.std.proofs.Common.{◌≡◌, ℕ, zero, suc, ◌≤◌, List, [], ◌∷◌, Bool, true, false, inl, inr, refl, sym, ◌∙◌, subst, arith}
+use Rattle.std.proofs.Common.{◌≡◌, ℕ, zero, suc, ◌≤◌, [], ◌∷◌, Bool, true, false, inl, inr, refl, sym, ◌∙◌, subst, arith}
 use Rattle.std.specs.Prelude.{◌⊎◌, ◌↔◌, IsFalse, IsTrue}
 use Rattle.std.specs.List.{AllByRecursion}
 use Rattle.own_base.specs.declared.row_name.RowName.{RowName}
 use Rattle.own_model.specs.declared.schema.Edge.{Edge}
-use Rattle.own_model.specs.Db.{Db, IsOrdered}
+use Rattle.own_model.specs.Db.{Db}
 use Rattle.owner_model.specs.Joins.{Joins}
 use Rattle.schema_model.specs.OwnerSchema.{IsOwnerSchema}
 use Rattle.subject_model.specs.LocalEquation.{HasByEdge, IsSubject, MeetsLocalEquation, counts_for_owners, counts_for_reach}
 use Rattle.subject_model.specs.Named.{is_there}
 use Rattle.subject_model.specs.Owners.{Owns, Reaches}
-use Rattle.subject_model.specs.Paths.{IsPath, Path, Step, is_subject_row}
-use Rattle.subject_model.proofs.TableRank.{rank, rank-joins, rank-le}
+use Rattle.subject_model.specs.Paths.{IsPath, Path, is_subject_row}
+use Rattle.subject_model.proofs.TableRank.{rank, rank-joins}
 
 -- a path to a subject whose edges all count
 pub record Led (db : Db) (counts : Edge → Bool) (subject name : RowName) : Type 0 where
@@ -77,7 +77,7 @@ module _ (db : Db) (counts : Edge → Bool) (Has Had : RowName → RowName → T
   within (suc most) name owner meets also low there has =
       (also.local subject name there).1
       (by_edge_same name (λ edge upper join more. within most upper owner meets also (omega (arith, rank-joins db name edge upper owner join)) join.upper_there more)
-          ((meets.local subject name there).0 has))
+      ((meets.local subject name there).0 has))
 
 -- two relations that meet one local equation are the same at each row that is there
 pub one_solution : (db : Db) (counts : Edge → Bool) (Has Had : RowName → RowName → Type 0) → IsOwnerSchema db.schema → MeetsLocalEquation db counts Has → MeetsLocalEquation db counts Had
@@ -87,13 +87,13 @@ one_solution db counts Has Had owner meets also subject name there =
     (within db counts Has Had subject most name owner meets also (omega arith) there, within db counts Had Has subject most name owner also meets (omega arith) there)
 
 -- what is the same as a solution at each row is one
-meets_same : (db : Db) (counts : Edge → Bool) (Has Had : RowName → RowName → Type 0) → ((subject name : RowName) → Has subject name ↔ Had subject name)
+pub meets_same : (db : Db) (counts : Edge → Bool) (Has Had : RowName → RowName → Type 0) → ((subject name : RowName) → Has subject name ↔ Had subject name)
     → MeetsLocalEquation db counts Has → MeetsLocalEquation db counts Had
 meets_same db counts Has Had same meets =
     record {
       local = λ subject name there. (
-          (λ had. by_edge_same db counts Has Had subject name (λ edge upper join. (same subject upper).0) ((meets.local subject name there).0 ((same subject name).1 had))),
-          (λ whose. (same subject name).0 ((meets.local subject name there).1 (by_edge_same db counts Had Has subject name (λ edge upper join. (same subject upper).1) whose))),
+        (λ had. by_edge_same db counts Has Had subject name (λ edge upper join. (same subject upper).0) ((meets.local subject name there).0 ((same subject name).1 had))),
+        (λ whose. (same subject name).0 ((meets.local subject name there).1 (by_edge_same db counts Had Has subject name (λ edge upper join. (same subject upper).1) whose))),
       );
     }
 

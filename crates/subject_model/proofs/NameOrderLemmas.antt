@@ -1,11 +1,9 @@
 -- The named rows of a database stand in the order of their names.
-use Rattle.std.proofs.Common.{◌≡◌, ℕ, ◌+◌, ◌<◌, ◌≤◌, List, [], ◌∷◌, ◌++◌, map, Bool, true, refl, ap, sym, ◌∙◌, subst, arith, inl, inr, ltb}
+use Rattle.std.proofs.Common.{◌≡◌, ℕ, ◌+◌, ◌<◌, List, [], ◌∷◌, ◌++◌, map, refl, ap, ◌∙◌, subst, arith}
 use Rattle.std.specs.Prelude.{Contains}
-use Rattle.std.specs.List.{AllByRecursion}
 use Rattle.std.specs.List.Sorted.{IsStrictlySortedBy}
-use Rattle.std.specs.Ordering.{nat_cmp}
 use Rattle.std.specs.declared.cmp.Ordering.{Ordering}
-use Rattle.std.specs.declared.cmp.Ordering.TheVariants.{Less, Equal}
+use Rattle.std.specs.declared.cmp.Ordering.TheVariants.{Less}
 use Rattle.std.proofs.lemmas.Bool.{lt-ltb}
 use Rattle.std.proofs.lemmas.Cmp.{nat_cmp_total, tied_itself}
 use Rattle.std.proofs.lemmas.List.{map-append}
@@ -25,9 +23,9 @@ module _ {K : Type 0} (cmp : K → K → Ordering) where
   unfolding IsStrictlySortedBy
   rising_append [] ys up more below = more
   rising_append (x ∷ xs) ys up more below = (
-      all-append (λ later. cmp x later ≡ Less) xs ys up.0 (all_from_contained (λ later. cmp x later ≡ Less) ys (λ y among. below x y (contains_here x xs) among)),
-      rising_append xs ys up.1 more (λ one y here among. below one y (contains_later x xs one here) among),
-    )
+    all-append (λ later. cmp x later ≡ Less) xs ys up.0 (all_from_contained (λ later. cmp x later ≡ Less) ys (λ y among. below x y (contains_here x xs) among)),
+    rising_append xs ys up.1 more (λ one y here among. below one y (contains_later x xs one here) among),
+  )
 
 -- a lower table comes first
 lower_first : (one other : RowName) → one.table.0 < other.table.0 → name_cmp one other ≡ Less
@@ -63,7 +61,7 @@ names_rise number (table ∷ tables) [] rising = tt
 names_rise number (table ∷ tables) (rows ∷ rest) rising =
     rw (map-append called (rows_in number table rows) (rows_from (number + 1) tables rest))
     (rising_append name_cmp (map called (rows_in number table rows)) (map called (rows_from (number + 1) tables rest)) (rows_rise number table rows rising.0)
-        (names_rise (number + 1) tables rest rising.1) below)
+    (names_rise (number + 1) tables rest rising.1) below)
   where
     below : (one other : RowName) → Contains (map called (rows_in number table rows)) one → Contains (map called (rows_from (number + 1) tables rest)) other → name_cmp one other ≡ Less
     below one other here there =

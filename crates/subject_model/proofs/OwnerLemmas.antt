@@ -1,21 +1,17 @@
 -- The tests of owning, reaching and reaching by an edge say what they are said of.
-use Rattle.std.proofs.Common.{◌≡◌, ℕ, zero, suc, ◌+◌, List, [], ◌∷◌, length, map, Bool, true, false, inl, inr, refl, ap, sym, ◌∙◌, subst, arith, eq-eqb}
-use Rattle.std.specs.Prelude.{◌⊎◌, ◌↔◌, ◌==◌, ◌&&◌, Contains, IsTrue, Some, slice_get, slice_index_or}
-use Rattle.std.specs.List.{AllByRecursion, list_all, list_any, range_with_len}
+use Rattle.std.proofs.Common.{◌≡◌, [], ◌∷◌, true, false, refl, ap, subst, eq-eqb}
+use Rattle.std.specs.Prelude.{◌↔◌, ◌&&◌, Contains, IsTrue}
 use Rattle.std.proofs.lemmas.Bool.{and_from, and_parts, eqb-true}
 use Rattle.own_base.specs.declared.row_name.RowName.{RowName}
 use Rattle.own_model.specs.declared.schema.Edge.{Edge}
-use Rattle.own_model.specs.declared.schema.Schema.{Schema}
 use Rattle.own_model.specs.Db.{Db, IsOrdered}
-use Rattle.owner_model.specs.Joins.{Joins}
 use Rattle.schema_model.specs.OwnerSchema.{IsOwnerSchema}
-use Rattle.subject_model.specs.Named.{is_name}
 use Rattle.subject_model.specs.Owners.{By, IsOwnerPath, Owns, Reaches, begins_with, by, has_owner, is_owner_path, leads_to, owns, reaches, reaches_by}
-use Rattle.subject_model.specs.Paths.{IsPath, Path, Step, end_of, paths}
+use Rattle.subject_model.specs.Paths.{IsPath, Path, end_of}
 use Rattle.subject_model.proofs.EdgeNumbers.{one_edge}
 use Rattle.subject_model.proofs.Members.{all_passes, contains_filter, contains_map, contains_of_filter, contains_of_map, passes_all}
 use Rattle.subject_model.proofs.NamedLemmas.{name_is, one_name}
-use Rattle.subject_model.proofs.PathLemmas.{Passing, passing_path, path_ends, path_passes, path_to_end}
+use Rattle.subject_model.proofs.PathLemmas.{passing_path, path_ends, path_passes, path_to_end}
 
 -- a path of owner edges alone, as a test
 pub owner_path : (path : Path) → is_owner_path path ≡ true → IsOwnerPath path

@@ -1,8 +1,8 @@
 -- The list of paths has each path and no other.
-use Rattle.std.proofs.Common.{◌≡◌, ℕ, zero, suc, ◌<◌, ◌≤◌, List, [], ◌∷◌, ◌++◌, length, map, Bool, true, false, cond, inl, inr, refl, ap, sym, ◌∙◌, subst, arith}
-use Rattle.std.specs.Prelude.{◌⊎◌, ◌↔◌, Contains, IsTrue, if◌then◌else◌}
+use Rattle.std.proofs.Common.{◌≡◌, ℕ, zero, suc, ◌≤◌, List, [], ◌∷◌, length, map, Bool, true, false, inl, inr, refl, sym, ◌∙◌, subst, arith}
+use Rattle.std.specs.Prelude.{◌↔◌, Contains, IsTrue, if◌then◌else◌}
 use Rattle.std.specs.List.{list_any}
-use Rattle.std.proofs.lemmas.List.Elements.{Contains-append_cases, Contains-append_left, Contains-append_right}
+use Rattle.std.proofs.lemmas.List.Elements.{Contains-append_cases, Contains-append_right}
 use Rattle.own_base.specs.declared.row_name.RowName.{RowName}
 use Rattle.own_model.specs.Db.{Db, IsOrdered}
 use Rattle.owner_model.specs.Joins.{Joins}
@@ -56,7 +56,7 @@ climb_along most db from step rest ordered join ends on =
     let upward : Step → List Path = λ step. map (λ rest. step ∷ rest) (above (is_subject_row db step.upper) (climbs most db step.upper)) in
     contains_flat_map upward (steps_of db from) step (step ∷ rest) (joins_step db from step ordered join)
     (contains_map (λ (rest : Path). step ∷ rest) (above (is_subject_row db step.upper) (climbs most db step.upper)) rest
-        (above_contains rest (climbs most db step.upper) (is_subject_row db step.upper) ends on))
+    (above_contains rest (climbs most db step.upper) (is_subject_row db step.upper) ends on))
 
 -- each path of a step or more is a climb of as many steps as its first table's rank
 path_climbs : (most : ℕ) (db : Db) (from : RowName) (step : Step) (rest : Path) (subject : RowName) → IsOrdered db → IsOwnerSchema db.schema

@@ -1,17 +1,16 @@
 -- Which rows are struck and which stay, as facts.
-use Rattle.std.proofs.Common.{◌≡◌, List, [], ◌∷◌, Bool, true, false, not, inl, inr, refl, ap, sym, ◌∙◌}
-use Rattle.std.specs.Prelude.{◌≢◌, ◌⊎◌, ◌↔◌, ◌&&◌, ◌||◌, Contains, IsTrue}
+use Rattle.std.proofs.Common.{◌≡◌, [], ◌∷◌, Bool, true, false, not, inl, inr, sym, ◌∙◌}
+use Rattle.std.specs.Prelude.{◌⊎◌, ◌↔◌, ◌&&◌, ◌||◌, IsTrue}
 use Rattle.std.specs.List.{AllByRecursion, list_all, list_any}
 use Rattle.std.proofs.lemmas.Bool.{and_from, and_parts, false_from_ne_true, not-true, not_from_false, or_cases, or_left, or_right}
 use Rattle.own_base.specs.declared.row_name.RowName.{RowName}
-use Rattle.own_model.specs.declared.schema.Edge.{Edge}
 use Rattle.own_model.specs.Db.{Db, IsOrdered}
-use Rattle.owner_model.specs.Joins.{Joins}
 use Rattle.schema_model.specs.OwnerSchema.{IsOwnerSchema}
 use Rattle.schema_model.specs.Tables.{is_private}
 use Rattle.subject_model.specs.Named.{is_name}
-use Rattle.subject_model.specs.Owners.{IsOwnerPath, Owns, is_owner_path, leads_to, owns}
-use Rattle.subject_model.specs.Paths.{IsPath, Path, Step, end_of, paths, steps_of}
+use Rattle.subject_model.specs.Owners.{is_owner_path, leads_to, owns}
+use Rattle.subject_model.specs.Paths.{Path, Step, end_of, paths, steps_of}
+pub use Rattle.subject_model.specs.Staying.{Held, IsFree, Stays, Struck}
 use Rattle.subject_model.specs.Stays.{holds, is_free, stays, struck}
 use Rattle.subject_model.proofs.JoinsLemmas.{joins_step, step_joins}
 use Rattle.subject_model.proofs.Members.{all_passes, any_contained, contains_any, passes_all}
@@ -19,14 +18,7 @@ use Rattle.subject_model.proofs.NamedLemmas.{name_is, one_name}
 use Rattle.subject_model.proofs.OwnerLemmas.{from_owns, is_owner_path-from, owner_path, owns_from}
 use Rattle.subject_model.proofs.PathLemmas.{passing_path, path_ends, path_passes, path_to_end}
 
--- An edge ruled DELETE_ROW joins the row to one that the subject owns.
-pub record Struck (db : Db) (subject name : RowName) : Type 0 where
-  pub edge : Edge
-  pub upper : RowName
-  pub joined : Joins db name edge upper
-  pub strikes : IsTrue edge.strike
-  pub owned : Owns db subject upper
-
+-- a row that the test says is struck is struck
 pub struck_from : (db : Db) (subject name : RowName) → struck db subject name ≡ true → Struck db subject name
 unfolding struck
 struck_from db subject name is =
@@ -34,6 +26,7 @@ struck_from db subject name is =
     let both = and_parts step.edge.strike (owns db subject step.upper) passes in
     record { edge = step.edge; upper = step.upper; joined = step_joins db name step among; strikes = both.0; owned = owns_from db subject step.upper both.1 }
 
+-- and of one that is, it says so
 pub from_struck : (db : Db) (subject name : RowName) → IsOrdered db → IsOwnerSchema db.schema → Struck db subject name → struck db subject name ≡ true
 unfolding struck
 from_struck db subject name ordered owner is =
@@ -41,12 +34,9 @@ from_struck db subject name ordered owner is =
     any_contained (λ step. step.edge.strike && owns db subject step.upper) (steps_of db name) step (joins_step db name step ordered is.joined)
     (and_from _ _ is.strikes (from_owns db subject is.upper ordered owner is.owned))
 
+-- both ways
 pub struck-iff_Struck : (db : Db) (subject name : RowName) → IsOrdered db → IsOwnerSchema db.schema → IsTrue (struck db subject name) ↔ Struck db subject name
 struck-iff_Struck db subject name ordered owner = (struck_from db subject name, from_struck db subject name ordered owner)
-
--- no row of a path is struck, the first included
-abbrev pub IsFree : Db → RowName → RowName → Path → Type 0
-IsFree db subject from path = (struck db subject from ≡ false) × AllByRecursion (λ step. struck db subject step.upper ≡ false) path
 
 each_fails : (test : Step → Bool) (path : Path) → AllByRecursion (λ step. not (test step) ≡ true) path → AllByRecursion (λ step. test step ≡ false) path
 each_fails test [] all = tt
@@ -56,25 +46,19 @@ fails_each : (test : Step → Bool) (path : Path) → AllByRecursion (λ step. t
 fails_each test [] all = tt
 fails_each test (step ∷ rest) all = (not_from_false (test step) all.0, fails_each test rest all.1)
 
+-- a path that the test says is free is free
 pub free_from : (db : Db) (subject from : RowName) (path : Path) → is_free db subject from path ≡ true → IsFree db subject from path
 free_from db subject from path is =
     let both = and_parts (not (struck db subject from)) (list_all (λ step. not (struck db subject step.upper)) path) is in
     (not-true (struck db subject from) both.0, each_fails (λ step. struck db subject step.upper) path (all_passes (λ step. not (struck db subject step.upper)) path both.1))
 
+-- and of one that is, it says so
 pub from_free : (db : Db) (subject from : RowName) (path : Path) → IsFree db subject from path → is_free db subject from path ≡ true
 from_free db subject from path is =
     and_from _ _ (not_from_false (struck db subject from) is.0)
     (passes_all (λ step. not (struck db subject step.upper)) path (fails_each (λ step. struck db subject step.upper) path is.1))
 
--- Another subject holds a row where an owner path from it to that subject has no struck row.
-pub record Held (db : Db) (subject name : RowName) : Type 0 where
-  pub other : RowName
-  pub differs : other ≢ subject
-  pub path : Path
-  pub leads : IsPath db name path other
-  pub owner : IsOwnerPath path
-  pub free : IsFree db subject name path
-
+-- a row for which the search finds a path is held by another subject
 pub held_from : (db : Db) (subject name : RowName) → list_any (holds db subject name) (paths db name) ≡ true → Held db subject name
 held_from db subject name is =
     let some = passing_path db name (holds db subject name) is in
@@ -89,6 +73,7 @@ held_from db subject name is =
       free = free_from db subject name some.path all.1;
     }
 
+-- and for one that is, it finds a path
 pub from_held : (db : Db) (subject name : RowName) → IsOrdered db → IsOwnerSchema db.schema → Held db subject name → list_any (holds db subject name) (paths db name) ≡ true
 from_held db subject name ordered owner is =
     let ends = path_ends db name is.path is.other is.leads in
@@ -100,11 +85,7 @@ from_held db subject name ordered owner is =
       passes = and_from _ _ (and_from _ _ (is_owner_path-from is.path is.owner) (not_from_false _ elsewhere)) (from_free db subject name is.path is.free);
     })
 
--- A row stays that isn't the subject's own and is of a table that isn't private, or held by another subject.
-pub record Stays (db : Db) (subject name : RowName) : Type 0 where
-  pub other : name ≢ subject
-  pub kept : (is_private db.schema name.table.0 ≡ false) ⊎ Held db subject name
-
+-- a row that the test says stays, stays
 pub stays_from : (db : Db) (subject name : RowName) → stays db subject name ≡ true → Stays db subject name
 unfolding stays
 stays_from db subject name is =
@@ -118,6 +99,7 @@ stays_from db subject name is =
       ];
     }
 
+-- and of one that does, it says so
 pub from_stays : (db : Db) (subject name : RowName) → IsOrdered db → IsOwnerSchema db.schema → Stays db subject name → stays db subject name ≡ true
 unfolding stays
 from_stays db subject name ordered owner is =
@@ -127,5 +109,6 @@ from_stays db subject name ordered owner is =
     by (inl open_table) = or_left _ _ (not_from_false _ open_table)
     by (inr held) = or_right (not (is_private db.schema name.table.0)) _ (from_held db subject name ordered owner held)
 
+-- both ways
 pub stays-iff_Stays : (db : Db) (subject name : RowName) → IsOrdered db → IsOwnerSchema db.schema → IsTrue (stays db subject name) ↔ Stays db subject name
 stays-iff_Stays db subject name ordered owner = (stays_from db subject name, from_stays db subject name ordered owner)

@@ -1,4 +1,4 @@
-pub mod AreJoined
+pub mod FirstSubject
 pub mod Forget
 pub mod Get
 pub mod LocalEquation
@@ -6,4 +6,5 @@ pub mod NameOrder
 pub mod Named
 pub mod Owners
 pub mod Paths
+pub mod Staying
 pub mod Stays
