@@ -1,5 +1,5 @@
 -- An UPDATE that binding lets through sets no primary key.
-use Rattle.std.proofs.Common.{◌≡◌, ℕ, List, [], ◌∷◌, ◌++◌, map, Bool, true, false, ◌==◌, refl}
+use Rattle.std.proofs.Common.{◌≡◌, ℕ, List, [], ◌∷◌, ◌++◌, map, false, ◌==◌, refl}
 use Rattle.std.specs.Prelude.{Option, Some, None, slice_get, flat_map, if◌then◌else◌}
 use Rattle.std.specs.List.{AllByRecursion}
 use Rattle.std.specs.Option.{option_map_or}
@@ -21,7 +21,6 @@ use Rattle.schema_model.proofs.Places.{append-none, flat_map-none}
 use Rattle.readable_model.proofs.NoFaults.{none-first, none-if, none-lowest}
 use Rattle.run_model.proofs.Numbered.{named-at}
 use Rattle.run_model.proofs.RisingKeys.{AreKeyless}
-use Rattle.run_model.specs.Update.{Sets}
 
 -- sets of an UPDATE as it is written
 abbrev pub Written : Type 0

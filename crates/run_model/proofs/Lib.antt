@@ -1,10 +1,14 @@
+pub mod FitSets
+pub mod KeptRuns
 pub mod KeylessSets
 pub mod Numbered
 pub mod OrderedRuns
 pub mod Outcomes
 pub mod PutRows
 pub mod Refusals
+pub mod RightSets
 pub mod RisingKeys
 pub mod SameSchema
 pub mod ShortTexts
 pub mod TableLemmas
+pub mod UpdatedRows

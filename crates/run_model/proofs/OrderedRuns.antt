@@ -1,7 +1,6 @@
 -- Each statement leaves the keys of each table rising.
-use Rattle.std.proofs.Common.{◌≡◌, ℕ, List, refl}
+use Rattle.std.proofs.Common.{◌≡◌, ℕ, List}
 use Rattle.std.specs.Prelude.{Option, Some, None, slice_get}
-use Rattle.own_base.specs.declared.row_name.RowName.{RowName}
 use Rattle.own_model.specs.declared.bound.BoundCond.{BoundCond}
 use Rattle.own_model.specs.declared.condition.Cond.{Cond}
 use Rattle.own_model.specs.declared.create.CreateTable.{CreateTable as TableCreate}
@@ -17,10 +16,11 @@ use Rattle.query_model.specs.Refused.{lowest}
 use Rattle.query_model.specs.Scope.{NameBytes}
 use Rattle.query_model.specs.WriteFaults.{update_faults}
 use Rattle.schema_model.specs.NewTable.{new_table}
+use Rattle.schema_model.specs.OwnerSchema.{IsOwnerSchema}
 use Rattle.schema_model.specs.WithTable.{with_table}
 use Rattle.state_model.specs.Create.{create, create_view, with_view}
 use Rattle.state_model.proofs.KeptLemmas.{rising-append}
-use Rattle.subject_model.specs.Forget.{forget}
+use Rattle.subject_model.proofs.ForgetOrder.{ordered-forget}
 use Rattle.run_model.specs.Insert.{with_tuples}
 use Rattle.run_model.specs.Run.{Outcome, answered, delete, insert, run, update}
 use Rattle.run_model.specs.Update.{Sets, rows_left}
@@ -36,18 +36,18 @@ module _ (db : Db) (ordered : IsOrdered db) where
   same : (reply : Reply) → Left (answered db reply)
   same reply = ordered
 
-  ordered-put : (number : ℕ) (tuples : List Row) → IfPut db Left same number tuples
+  pub ordered-put : (number : ℕ) (tuples : List Row) → IfPut db Left number tuples
   ordered-put number tuples table rows at new =
       let rising : IfRows (IsRising table) (with_tuples table (rows_at db.rows number) tuples) =
-          rising-with_tuples table (rows_at db.rows number) tuples (rising-at db.schema.tables db.rows number table ordered.rising at) in
+      rising-with_tuples table (rows_at db.rows number) tuples (rising-at db.schema.tables db.rows number table ordered.rising at) in
       record { rising = rising-set db.schema.tables db.rows number table rows ordered.rising at (rw new at rising) }
 
   -- an INSERT does
   pub ordered-insert : (number : ℕ) (tuples : List Row) → IsOrdered (insert db number tuples).db
   ordered-insert number tuples = of-insert db Left same number tuples (ordered-put number tuples)
 
-  ordered-updated : (number : ℕ) (sets : Sets) (cond : Option BoundCond) → ((table : TableDef) → slice_get db.schema.tables number ≡ Some table → AreKeyless table sets)
-      → IfUpdated db Left same number sets cond
+  pub ordered-updated : (number : ℕ) (sets : Sets) (cond : Option BoundCond) → ((table : TableDef) → slice_get db.schema.tables number ≡ Some table → AreKeyless table sets)
+      → IfUpdated db Left number sets cond
   ordered-updated number sets cond keyless table at none =
       record {
         rising = rising-set db.schema.tables db.rows number table _ ordered.rising at
@@ -59,7 +59,7 @@ module _ (db : Db) (ordered : IsOrdered db) where
       → IsOrdered (update db number sets cond).db
   ordered-update number sets cond keyless = of-update db Left same number sets cond (ordered-updated number sets cond keyless)
 
-  ordered-left : (number : ℕ) (cond : Option BoundCond) → IfDeleted db Left same number cond
+  pub ordered-left : (number : ℕ) (cond : Option BoundCond) → IfDeleted db Left number cond
   ordered-left number cond =
       record { rising = rising-change (rows_left cond) (λ table rows rising. rising-rows_left table cond rows rising) db.schema.tables db.rows number ordered.rising }
 
@@ -78,23 +78,23 @@ module _ (db : Db) (ordered : IsOrdered db) where
 
   -- the sets of an UPDATE that binding lets through are of no primary key
   bound_update : (name : NameBytes) (sets : Written) (cond : Option Cond) → lowest (update_faults db.schema name sets cond) ≡ None
-      → IfBound db Left same (meaning db.schema (statement.Update name sets cond))
+      → IfBound db Left (meaning db.schema (statement.Update name sets cond))
   unfolding meaning
   bound_update name sets cond told =
       ordered-updated _ _ _ (λ table at.
       let over = sets_over db.schema name sets cond table told at in
       rw over.bound (keyless-bound_sets table sets over.none))
 
-  runs : ((subject : RowName) → IsOrdered (forget db subject)) → (found : Statement) → IfRuns db Left same found
+  runs : IsOwnerSchema db.schema → (found : Statement) → IfRuns db Left found
   unfolding meaning faults
-  runs forgets (statement.CreateTable table) = λ none. ordered-create table
-  runs forgets (statement.CreateView view) = λ none. ordered-create_view view
-  runs forgets (statement.Insert table columns tuples) = λ none. ordered-put _ _
-  runs forgets (statement.Update table sets cond) = bound_update table sets cond
-  runs forgets (statement.Delete table cond) = λ none. ordered-left _ _
-  runs forgets (statement.GdprForget table key) = λ none there. forgets _
-  runs forgets _ = tt
+  runs owner (statement.CreateTable table) = λ none. ordered-create table
+  runs owner (statement.CreateView view) = λ none. ordered-create_view view
+  runs owner (statement.Insert table columns tuples) = λ none. ordered-put _ _
+  runs owner (statement.Update table sets cond) = bound_update table sets cond
+  runs owner (statement.Delete table cond) = λ none. ordered-left _ _
+  runs owner (statement.GdprForget table key) = λ none there. ordered-forget db _ owner ordered
+  runs owner _ = tt
 
-  -- any statement
-  pub ordered-run_by : ((subject : RowName) → IsOrdered (forget db subject)) → (found : Statement) → IsOrdered (run db found).db
-  ordered-run_by forgets found = of-statement db Left same found (runs forgets found)
+  -- any statement, where the schema's edges are an ownership graph
+  pub ordered-run : IsOwnerSchema db.schema → (found : Statement) → IsOrdered (run db found).db
+  ordered-run owner found = of-statement db Left same found (runs owner found)

@@ -1,6 +1,6 @@
 -- The rows that an INSERT without faults puts: they may stand in its table, and have no more bytes of texts than its tuples.
 use Rattle.std.proofs.Common.{◌≡◌, ℕ, ◌+◌, ◌<◌, ◌≤◌, ℤ, List, [], ◌∷◌, ◌++◌, length, map, Bool, true, false, cond, refl, ap, arith, ◌==◌}
-use Rattle.std.specs.Prelude.{Option, Some, None, find, flat_map, slice_get, sum_by, zip}
+use Rattle.std.specs.Prelude.{Option, Some, None, flat_map, slice_get, sum_by, zip}
 use Rattle.std.specs.List.{AllByRecursion, enumerate_from}
 use Rattle.std.proofs.lemmas.Bool.{eqb-true, ne_eqb}
 use Rattle.std.proofs.lemmas.List.Sums.{sum_by-cons}
@@ -12,7 +12,7 @@ use Rattle.own_model.specs.declared.schema.Kind.{Kind}
 use Rattle.own_model.specs.declared.schema.Kind.TheVariants as kind
 use Rattle.own_model.specs.declared.schema.TableDef.{TableDef}
 use Rattle.own_model.specs.TextBytes.{text_bytes, tuple_bytes}
-use Rattle.schema_model.proofs.Places.{all-at, all-from_places, append-none, flat_map-none, slice_get-enumerate_from}
+use Rattle.schema_model.proofs.Places.{all-at, append-none, flat_map-none}
 use Rattle.query_model.specs.Kinds.{goes_with}
 use Rattle.query_model.specs.Scope.{NameBytes}
 use Rattle.query_model.specs.WriteFaults.{column_in, columns_for, columns_left, left_faults, numbered_columns, tuple_faults, value_faults, wrong_count}
@@ -53,7 +53,7 @@ abbrev pub IsNoSum : Value → Type 0
 IsNoSum found = (number : ℤ) → found ≡ value.Sum number → ⊥
 
 -- such a value is of the kind with which it goes, if it isn't the kind of sums
-of_kind : (of : Kind) (value : Value) → IsPlain of → IsNoSum value → goes_with of value ≡ true → IsOfKind of value
+pub of_kind : (of : Kind) (value : Value) → IsPlain of → IsNoSum value → goes_with of value ≡ true → IsOfKind of value
 of_kind of value.Null plain no_sum goes = tt
 of_kind kind.Int (value.Int number) plain no_sum goes = refl
 of_kind kind.Int (value.Text bytes) plain no_sum goes = cc
@@ -68,7 +68,7 @@ record IsGood (table : TableDef) (pair : Target × Value) : Type 0 where
   fits : (number : ℕ) (column : Column) → is_for number pair ≡ true → slice_get table.columns number ≡ Some column → IsOfKind column.kind pair.1
 
 -- a value without a fault goes with its column's kind
-goes_step : (kind : Kind) (value : Value) (fault : Refusal) (more : List Refusal) → (b : Bool) → goes_with kind value ≡ b
+pub goes_step : (kind : Kind) (value : Value) (fault : Refusal) (more : List Refusal) → (b : Bool) → goes_with kind value ≡ b
     → (cond b [] (fault ∷ [])) ++ more ≡ [] → goes_with kind value ≡ true
 goes_step kind value fault more true is none = is
 goes_step kind value fault more false is none = let never : ⊥ = cc in absurd never
@@ -97,9 +97,9 @@ good_pairs table (target ∷ targets) (value ∷ tuple) plain there short no_sum
     (good table target value plain there.0 short.0 no_sums.0 none.0, good_pairs table targets tuple plain there.1 short.1 no_sums.1 none.1)
 
 -- what a column is given
-record IsGiven (column : Column) (value : Value) : Type 0 where
-  fits : IsOfKind column.kind value
-  short : IsShort value
+pub record IsGiven (column : Column) (value : Value) : Type 0 where
+  pub fits : IsOfKind column.kind value
+  pub short : IsShort value
 
 -- by whether the first value is for the column
 given_step : (table : TableDef) (pair : Target × Value) (pairs : Pairs) (column : ℕ × Column)

@@ -1,5 +1,5 @@
 -- The keys of each table rise strictly, whatever statements run.
-use Rattle.std.proofs.Common.{◌≡◌, ℕ, zero, suc, ◌+◌, List, [], ◌∷◌, ◌++◌, length, map, filter, fold, find, Bool, true, false, not, ◌==◌, refl, ap, subst, sym, arith, ◌∙◌}
+use Rattle.std.proofs.Common.{◌≡◌, ℕ, zero, suc, ◌+◌, List, [], ◌∷◌, map, filter, fold, find, Bool, true, false, not, ◌==◌, refl, ap, subst, sym, arith}
 use Rattle.std.specs.Prelude.{if◌then◌else◌, Result, Ok, Err, Option, Some, None, slice_get, slice_index_or, slice_set}
 use Rattle.std.specs.List.{AllByRecursion, enumerate_from, list_any}
 use Rattle.std.specs.List.Sorted.{IsStrictlySortedBy}
@@ -13,7 +13,7 @@ use Rattle.own_base.specs.declared.value.Value.TheVariants.{Null}
 use Rattle.own_model.specs.declared.bound.BoundCond.{BoundCond}
 use Rattle.own_model.specs.declared.bound.BoundExpr.{BoundExpr}
 use Rattle.own_model.specs.declared.schema.TableDef.{TableDef}
-use Rattle.own_model.specs.Db.{Db, Row, AreRising, IsOrdered, IsRising, as_key, key_of}
+use Rattle.own_model.specs.Db.{Row, AreRising, IsRising, as_key, key_of}
 use Rattle.own_model.specs.Stored.{has_key, rows_at}
 use Rattle.own_model.proofs.KeyOrder.{key_order}
 use Rattle.query_model.specs.Truth.{keeps}

@@ -25,7 +25,7 @@ HasShortTexts (statement.Insert table columns rows) = AreShort rows
 HasShortTexts _ = Unit {0}
 
 -- a text is short
-text-short : Gives (λ bytes. IsShort (Value.Text bytes)) (rules.text store_limits)
+pub text-short : Gives (λ bytes. IsShort (Value.Text bytes)) (rules.text store_limits)
 unfolding rules.text
 text-short value terminals rest by = let is : TextIs store_limits value by.0 = by.2 in leb-true (length value) _ is.short
 

@@ -1,5 +1,5 @@
 -- What a row more does to a table's rows, and to those of a database.
-use Rattle.std.proofs.Common.{◌≡◌, ℕ, zero, suc, ◌+◌, List, [], ◌∷◌, ◌++◌, length, fold, Bool, true, false, refl, ap, arith}
+use Rattle.std.proofs.Common.{◌≡◌, ℕ, zero, suc, ◌+◌, List, [], ◌∷◌, length, fold, Bool, true, false, refl, ap, arith}
 use Rattle.std.specs.Prelude.{Some, Result, Ok, Err, slice_get, slice_set, sum_by}
 use Rattle.std.specs.List.{AllByRecursion, list_any}
 use Rattle.std.proofs.lemmas.List.Sums.{sum_by-cons}
@@ -125,6 +125,16 @@ rows-set (first ∷ tables) [] place table new are is news = absurd are
 rows-set (first ∷ tables) (one ∷ rows) zero table new are is news =
     let same : first ≡ table = cc in (rw same news, are.1)
 rows-set (first ∷ tables) (one ∷ rows) (suc place) table new are is news = (are.0, rows-set tables rows place table new are.1 is news)
+
+-- rows of any table that are changed where they stand, in such a way that each still may stand there
+pub rows-change : (change : List Row → List Row)
+    → ((table : TableDef) (rows : List Row) → AllByRecursion (IsRowOf table) rows → AllByRecursion (IsRowOf table) (change rows))
+    → (tables : List TableDef) (rows : List (List Row)) (place : ℕ) → AreRowsOf tables rows → AreRowsOf tables (slice_set rows place (change (rows_at rows place)))
+rows-change change keeps [] [] place are = tt
+rows-change change keeps [] (one ∷ rows) place are = absurd are
+rows-change change keeps (first ∷ tables) [] place are = absurd are
+rows-change change keeps (first ∷ tables) (one ∷ rows) zero are = (keeps first one are.0, are.1)
+rows-change change keeps (first ∷ tables) (one ∷ rows) (suc place) are = (are.0, rows-change change keeps tables rows place are.1)
 
 -- a measure of rows that grows in one place
 pub sum-set : (measure : List Row → ℕ) (rows : List (List Row)) (place : ℕ) (old new : List Row) (more : ℕ) → slice_get rows place ≡ Some old

@@ -62,14 +62,15 @@ module _ {X : Type 0} where
   less f g p [] each = omega arith
   less f g p (x ∷ xs) each = less_step f g (p x) x (filter p xs) xs each.0 (less f g p xs each.1)
 
-  -- where each counts no more
-  pub sum-le : (f g : X → ℕ) (xs : List X) → AllByRecursion (λ x. f x ≤ g x) xs → sum_by f xs ≤ sum_by g xs
-  sum-le f g [] each = omega arith
-  sum-le f g (x ∷ xs) each =
-      let long = sum_by-cons f x xs in let short = sum_by-cons g x xs in let own = each.0 in let later = sum-le f g xs each.1 in omega arith
-
 -- the sum of a list of images
 pub sum_by-map : {X Y : Type 0} (f : Y → ℕ) (h : X → Y) (xs : List X) → sum_by f (map h xs) ≡ sum_by (λ x. f (h x)) xs
 sum_by-map f h [] = refl
 sum_by-map f h (x ∷ xs) =
     let long = sum_by-cons f (h x) (map h xs) in let short = sum_by-cons (λ x. f (h x)) x xs in let later = sum_by-map f h xs in omega arith
+
+-- the images of those that are kept sum to no more
+pub less-images : {X Y : Type 0} (f : Y → ℕ) (g : X → ℕ) (h : X → Y) (p : X → Bool) (xs : List X) (ys : List Y) → ys ≡ map h (filter p xs)
+    → AllByRecursion (λ x. p x ≡ true → f (h x) ≤ g x) xs → sum_by f ys ≤ sum_by g xs
+less-images f g h p xs ys made each =
+    let same : sum_by f ys ≡ sum_by (λ x. f (h x)) (filter p xs) = ap (sum_by f) made ∙ sum_by-map f h (filter p xs) in
+    rw same (less (λ x. f (h x)) g p xs each)

@@ -36,34 +36,34 @@ size-or_null true value = null_least value
 size-or_null false value = omega arith
 
 -- a row some of whose values are lost
-abbrev left_from : (ℕ × Value → Bool) → ℕ → Row → Row
-left_from lost number row = map (λ numbered. or_null (lost numbered) numbered.1) (enumerate_from number row)
+abbrev pub without : (ℕ × Value → Bool) → ℕ → Row → Row
+without lost number row = map (λ numbered. or_null (lost numbered) numbered.1) (enumerate_from number row)
 
-size-left_from : (lost : ℕ × Value → Bool) (number : ℕ) (row : Row) → sum_by value_size (left_from lost number row) ≤ sum_by value_size row
-size-left_from lost number [] = omega arith
-size-left_from lost number (value ∷ row) =
-    let long = sum_by-cons value_size (or_null (lost (number, value)) value) (left_from lost (number + 1) row) in
+size-without : (lost : ℕ × Value → Bool) (number : ℕ) (row : Row) → sum_by value_size (without lost number row) ≤ sum_by value_size row
+size-without lost number [] = omega arith
+size-without lost number (value ∷ row) =
+    let long = sum_by-cons value_size (or_null (lost (number, value)) value) (without lost (number + 1) row) in
     let short = sum_by-cons value_size value row in
     let own = size-or_null (lost (number, value)) value in
-    let later = size-left_from lost (number + 1) row in
+    let later = size-without lost (number + 1) row in
     omega arith
 
 -- a cell of it is no greater
-cell-left_from : (lost : ℕ × Value → Bool) (number : ℕ) (row : Row) (column : ℕ) → value_size (cell (left_from lost number row) column) ≤ value_size (cell row column)
-cell-left_from lost number [] column = omega arith
-cell-left_from lost number (value ∷ row) zero = size-or_null (lost (number, value)) value
-cell-left_from lost number (value ∷ row) (suc column) = cell-left_from lost (number + 1) row column
+cell-without : (lost : ℕ × Value → Bool) (number : ℕ) (row : Row) (column : ℕ) → value_size (cell (without lost number row) column) ≤ value_size (cell row column)
+cell-without lost number [] column = omega arith
+cell-without lost number (value ∷ row) zero = size-or_null (lost (number, value)) value
+cell-without lost number (value ∷ row) (suc column) = cell-without lost (number + 1) row column
 
 -- a row that is left takes no more than before, and at least what a row without columns takes
 pub size-left_of : (db : Db) (subject : RowName) (table : TableDef) (named : NamedRow) → row_size (left_of db subject table named) ≤ row_size named.row
-size-left_of db subject table named = let values = size-left_from (loses db subject table named.name) 0 named.row in omega arith
+size-left_of db subject table named = let values = size-without (loses db subject table named.name) 0 named.row in omega arith
 
 pub size-at_least : (row : Row) → 64 ≤ row_size row
 size-at_least row = omega arith
 
 -- what an item of a view shows of it takes no more
 item-left_of : (db : Db) (subject : RowName) (table : TableDef) (named : NamedRow) (item : BoundItem) → item_size (left_of db subject table named) item ≤ item_size named.row item
-item-left_of db subject table named (Column column) = cell-left_from (loses db subject table named.name) 0 named.row column.0
+item-left_of db subject table named (Column column) = cell-without (loses db subject table named.name) 0 named.row column.0
 item-left_of db subject table named Count = omega arith
 item-left_of db subject table named (SumOf column) = omega arith
 

@@ -2,10 +2,16 @@ pub mod Counts
 pub mod CreatedLemmas
 pub mod CreatedSchema
 pub mod FaultLemmas
+pub mod ForgetCounts
 pub mod ForgetFaults
+pub mod ForgetKept
+pub mod ForgetLimits
+pub mod ForgetNamed
 pub mod ForgetReferences
 pub mod ForgetSizes
 pub mod ForgetUnique
+pub mod ForgetWeight
 pub mod KeptLemmas
 pub mod Languages
+pub mod OwnerCounts
 pub mod PlainKinds

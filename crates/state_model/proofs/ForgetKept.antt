@@ -1,0 +1,89 @@
+-- What a FORGET leaves is a database as statements leave it.
+use Rattle.std.proofs.Common.{◌≡◌, ℕ, ◌+◌, List, [], ◌∷◌, map, Bool, true, false, cond}
+use Rattle.std.specs.Prelude.{filter}
+use Rattle.std.specs.List.{AllByRecursion}
+use Rattle.own_base.specs.declared.row_name.RowName.{RowName}
+use Rattle.own_base.specs.declared.value.Value.{Value}
+use Rattle.own_model.specs.declared.schema.Column.{Column}
+use Rattle.own_model.specs.declared.schema.Kind.{Kind}
+use Rattle.own_model.specs.declared.schema.TableDef.{TableDef}
+use Rattle.own_model.specs.Db.{Db, Row}
+use Rattle.subject_model.specs.Forget.{forget, left_from, left_in, left_of, loses}
+use Rattle.subject_model.specs.Named.{NamedRow}
+use Rattle.subject_model.proofs.ForgetOrder.{ordered-forget}
+use Rattle.subject_model.proofs.ForgetRows.{left_in-images, named_in, row_left, stays_in}
+use Rattle.state_model.specs.Created.{IsCreated}
+use Rattle.state_model.specs.Rows.{AreOfKinds, AreRowsOf, IsOfKind, IsRowOf, IsShort}
+use Rattle.state_model.specs.Sound.{IsKept}
+use Rattle.state_model.proofs.CreatedLemmas.{created-rows}
+use Rattle.state_model.proofs.CreatedSchema.{owner_schema-created}
+use Rattle.state_model.proofs.ForgetSizes.{or_null, without}
+
+-- NULL is of each kind
+kind-or_null : (lost : Bool) (kind : Kind) (value : Value) → IsOfKind kind value → IsOfKind kind (or_null lost value)
+kind-or_null true kind value is = tt
+kind-or_null false kind value is = is
+
+-- and no long text
+short-or_null : (lost : Bool) (value : Value) → IsShort value → IsShort (or_null lost value)
+short-or_null true value is = tt
+short-or_null false value is = is
+
+kinds-without : (lost : ℕ × Value → Bool) (number : ℕ) (columns : List Column) (row : Row) → AreOfKinds columns row → AreOfKinds columns (without lost number row)
+kinds-without lost number [] [] are = tt
+kinds-without lost number [] (value ∷ row) are = absurd are
+kinds-without lost number (column ∷ columns) [] are = absurd are
+kinds-without lost number (column ∷ columns) (value ∷ row) are =
+    (kind-or_null (lost (number, value)) column.kind value are.0, kinds-without lost (number + 1) columns row are.1)
+
+short-without : (lost : ℕ × Value → Bool) (number : ℕ) (row : Row) → AllByRecursion IsShort row → AllByRecursion IsShort (without lost number row)
+short-without lost number [] are = tt
+short-without lost number (value ∷ row) are = (short-or_null (lost (number, value)) value are.0, short-without lost (number + 1) row are.1)
+
+-- what is left of a row may stand in its table
+row_of-left : (db : Db) (subject : RowName) (table : TableDef) (named : NamedRow) → IsRowOf table named.row → IsRowOf table (left_of db subject table named)
+row_of-left db subject table named is = record {
+  kinds = kinds-without (loses db subject table named.name) 0 table.columns named.row is.kinds;
+  short = short-without (loses db subject table named.name) 0 named.row is.short;
+}
+
+module _ {X Y : Type 0} (P : X → Type 0) (Q : Y → Type 0) (f : X → Y) (each : (x : X) → P x → Q (f x)) (test : X → Bool) where
+  -- what holds of each element holds of the images of those that pass
+  all-left : (xs : List X) → AllByRecursion P xs → AllByRecursion Q (map f (filter test xs))
+  all-left [] all = tt
+  all-left (x ∷ xs) all = by (test x) (all-left xs all.1)
+    where
+      by : (b : Bool) → AllByRecursion Q (map f (filter test xs)) → AllByRecursion Q (map f (cond b (x ∷ filter test xs) (filter test xs)))
+      by true more = (each x all.0, more)
+      by false more = more
+
+-- so those of a table may
+rows-left_in : (db : Db) (subject : RowName) (number : ℕ) (table : TableDef) (rows : List Row) → AllByRecursion (IsRowOf table) rows
+    → AllByRecursion (IsRowOf table) (left_in db subject number table rows)
+rows-left_in db subject number table rows are =
+    rw (left_in-images db subject number table rows)
+    (all-left (IsRowOf table) (IsRowOf table) (row_left db subject number table) (λ row is. row_of-left db subject table (named_in number table row) is) (stays_in db subject number table) rows are)
+
+rows-left_from : (db : Db) (subject : RowName) (number : ℕ) (tables : List TableDef) (rows : List (List Row)) → AreRowsOf tables rows → AreRowsOf tables (left_from db subject number tables rows)
+unfolding left_from
+rows-left_from db subject number [] [] are = tt
+rows-left_from db subject number [] (one ∷ rows) are = absurd are
+rows-left_from db subject number (table ∷ tables) [] are = absurd are
+rows-left_from db subject number (table ∷ tables) (one ∷ rows) are =
+    (rows-left_in db subject number table one are.0, rows-left_from db subject (number + 1) tables rows are.1)
+
+rows-forget : (db : Db) (subject : RowName) → AreRowsOf db.schema.tables db.rows → AreRowsOf (forget db subject).schema.tables (forget db subject).rows
+unfolding forget
+rows-forget db subject are = rows-left_from db subject 0 db.schema.tables db.rows are
+
+created-forget : (db : Db) (subject : RowName) → IsCreated db → IsCreated (forget db subject)
+unfolding forget
+created-forget db subject is = created-rows db _ is
+
+-- what it leaves is kept
+pub kept-forget : (db : Db) (subject : RowName) → IsKept db → IsKept (forget db subject)
+kept-forget db subject kept = record {
+  created = created-forget db subject kept.created;
+  ordered = ordered-forget db subject (owner_schema-created db kept.created) kept.ordered;
+  rows = rows-forget db subject kept.rows;
+}
