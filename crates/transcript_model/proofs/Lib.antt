@@ -1,5 +1,7 @@
 pub mod BuiltStatements
 pub mod BuiltWorlds
+pub mod Faultless
+pub mod FewRows
 pub mod PrintedLemmas
 pub mod ShortHistories
 pub mod SparedLemmas

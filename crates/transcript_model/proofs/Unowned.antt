@@ -26,11 +26,11 @@ use Rattle.subject_model.specs.Named.{NamedRow, is_there, name_of, rows_from, ro
 use Rattle.subject_model.specs.NameOrder.{name_cmp}
 use Rattle.subject_model.specs.Owners.{Owns, Reaches, owners, owns, reaches, subjects}
 use Rattle.subject_model.specs.Paths.{IsPath, Path}
-use Rattle.subject_model.proofs.Members.{all_contained, all_from_contained, all_passes, contains_here, contains_later, contains_of_filter}
+use Rattle.subject_model.proofs.Members.{all_contained, all_passes, contains_here, contains_later, contains_of_filter}
 use Rattle.subject_model.proofs.OwnerLemmas.{from_owns, owns_from, reaches_from}
 use Rattle.subject_model.proofs.OwnerLists.{owners_rise}
 use Rattle.state_model.specs.Weight.{at_least_one, row_weight, seers, view_weight, weight}
-use Rattle.state_model.proofs.Counts.{none-counted, sum-le, sum_by-map}
+use Rattle.state_model.proofs.Counts.{none-counted}
 use Rattle.history_model.specs.Built.{is_without_constraint, takes_rows}
 use Rattle.transcript_model.proofs.TakeRows.{TakeRows}
 
@@ -132,16 +132,26 @@ module _ (db : Db) (ordered : IsOrdered db) (owner : IsOwnerSchema db.schema) (t
       let seen = no_seers named.name in
       rw (owned, seen) (omega arith)
 
-  -- all rows weigh their sizes together
+  -- the rows of a table weigh their sizes
+  table_weighs : (number : ℕ) (table : TableDef) (rows : List Row) → sum_by (row_weight db) (rows_in number table rows) ≡ sum_by row_size rows
+  table_weighs number table [] = refl
+  table_weighs number table (row ∷ rows) =
+      let named : NamedRow = record { name = name_of number table row; row = row } in
+      let own = row_weighs named in
+      let later = table_weighs number table rows in
+      let weights = sum_by-cons (row_weight db) named (rows_in number table rows) in
+      let sizes = sum_by-cons row_size row rows in
+      omega arith
+
+  -- and so do all
   rows_weigh : (number : ℕ) (tables : List TableDef) (rows : List (List Row)) → sum_by (row_weight db) (rows_from number tables rows) ≤ sum_by (sum_by row_size) rows
   unfolding rows_from
   rows_weigh number [] rows = omega arith
   rows_weigh number (table ∷ tables) [] = omega arith
   rows_weigh number (table ∷ tables) (own ∷ rows) =
       let both = sum_by-append (row_weight db) (rows_in number table own) (rows_from (number + 1) tables rows) in
+      let first = table_weighs number table own in
       let later = rows_weigh (number + 1) tables rows in
-      let each = sum-le (row_weight db) (λ named. row_size named.row) (rows_in number table own) (all_from_contained _ (rows_in number table own) (λ named among. let same = row_weighs named in omega arith)) in
-      let sizes = sum_by-map (λ (named : NamedRow). row_size named.row) (λ row. record { name = name_of number table row; row = row }) own in
       let whole = sum_by-cons (sum_by row_size) own rows in
       omega arith
 
