@@ -12,10 +12,9 @@ use Rattle.own_base.specs.declared.value.TheConstants.{VALUE_SIZE}
 use Rattle.own_base.specs.declared.value.Value.{Value}
 use Rattle.own_base.specs.declared.value.Value.TheVariants as value
 use Rattle.own_model.specs.declared.create.CreateTable.{CreateTable}
-use Rattle.own_model.specs.declared.limit.TheConstants.{STATEMENT_BYTES, TABLE_COLUMNS}
+use Rattle.own_model.specs.declared.limit.TheConstants.{PAYLOAD_BYTES, STATEMENT_BYTES, TABLE_COLUMNS}
 use Rattle.own_model.specs.declared.reply.Reply.{Reply}
 use Rattle.own_model.specs.declared.request.Request.TheVariants.{Run}
-use Rattle.own_model.specs.declared.schema.Column.{Column}
 use Rattle.own_model.specs.declared.schema.Schema.{Schema}
 use Rattle.own_model.specs.declared.schema.TableDef.{TableDef}
 use Rattle.own_model.specs.declared.statement.Statement.{Statement}
@@ -39,7 +38,9 @@ use Rattle.grammar_model.specs.Readable.{IsReadable}
 use Rattle.readable_model.proofs.Literals.{no_sums}
 use Rattle.readable_model.proofs.NoFaults.{none-lowest}
 use Rattle.state_model.specs.Create.{create}
-use Rattle.state_model.specs.Rows.{AreOfKinds, IsRowOf}
+use Rattle.state_model.specs.Net.{net}
+use Rattle.state_model.specs.Payload.{payload_bytes}
+use Rattle.state_model.specs.Rows.{IsRowOf}
 use Rattle.state_model.specs.Sound.{IsKept}
 use Rattle.state_model.specs.Weight.{row_count}
 use Rattle.state_model.proofs.CreatedSchema.{plain-created, within-created}
@@ -53,6 +54,7 @@ use Rattle.run_model.proofs.ShortTexts.{written-short}
 use Rattle.run_model.proofs.TableLemmas.{AreTogether, IfRows, rows-at, rows-there, sum-set, together-with_tuples}
 use Rattle.history_model.specs.Built.{are_few, is_built, is_built_insert, takes_rows}
 use Rattle.transcript_model.proofs.BuiltStatements.{few-tuples, into-taking, tuples_most}
+use Rattle.transcript_model.proofs.SmallNets.{length-of_kinds, small-create, small-put, small-same}
 use Rattle.transcript_model.proofs.TakeRows.{TakeRows, takes-create}
 
 -- a value takes its size without text, and its bytes
@@ -71,13 +73,6 @@ size_of_all (value ∷ values) =
     let sizes = sum_by-cons value_size value values in
     let bytes = sum_by-cons text_bytes value values in
     omega arith
-
--- a row has as many values as there are columns
-pub length-of_kinds : (columns : List Column) (values : List Value) → AreOfKinds columns values → length values ≡ length columns
-length-of_kinds [] [] are = refl
-length-of_kinds [] (value ∷ values) are = absurd are
-length-of_kinds (column ∷ columns) [] are = absurd are
-length-of_kinds (column ∷ columns) (value ∷ values) are = let rest = length-of_kinds columns values are.1 in omega arith
 
 -- what a row takes at most without the bytes of its texts, in a table of as many columns as there may be
 abbrev row_most : ℕ
@@ -163,13 +158,18 @@ module _ (db : Db) (kept : IsKept db) (most bytes : ℕ) (few : HasFew db most b
     light = (let same = sum_by_push (sum_by row_size) db.rows [] in let w = few.light in omega arith);
   }
 
--- What a statement leaves that can be read and is built: a few rows more at most, with the texts that it puts.
+-- A statement left few rows more, and what it changed takes no more bytes than a commit may.
+pub record LeavesFew (db after : Db) (most bytes : ℕ) : Type 0 where
+  pub few : HasFew after most bytes
+  pub small : payload_bytes (net db after) ≤ PAYLOAD_BYTES
+
+-- So does each statement that can be read and is built, with the texts that it puts.
 module _ (db : Db) (kept : IsKept db) (most bytes : ℕ) (few : HasFew db most bytes) where
   abbrev FewAfter : ℕ → Outcome → Type 0
-  FewAfter other outcome = HasFew outcome.db (most + tuples_most) (bytes + other)
+  FewAfter other outcome = LeavesFew db outcome.db (most + tuples_most) (bytes + other)
 
   few-same : (other : ℕ) (reply : Reply) → FewAfter other (answered db reply)
-  few-same other reply = few-more db most bytes other few
+  few-same other reply = record { few = few-more db most bytes other few; small = small-same db }
 
   -- tuples of an INSERT
   few-insert : (name : NameBytes) (names : Option (List NameBytes)) (tuples : List (List Value)) → IsReadable (Run (statement.Insert name names tuples))
@@ -186,18 +186,26 @@ module _ (db : Db) (kept : IsKept db) (most bytes : ℕ) (few : HasFew db most b
       let long = length-map tuples (put_row table names) in
       let short = few-tuples db.schema name tuples built in
       let put : with_tuples table (rows_at db.rows (table_number db.schema name).0) (map (put_row table names) tuples) ≡ Ok rows = rw named at new in
-      few-put db kept most bytes few (table_number db.schema name).0 (map (put_row table names) tuples) (sum_by tuple_bytes tuples) (omega arith)
-      (bytes-put table names tuples) table are (into-taking db.schema name tuples (table_number db.schema name).0 table built named) rows at put
+      record {
+        few = few-put db kept most bytes few (table_number db.schema name).0 (map (put_row table names) tuples) (sum_by tuple_bytes tuples) (omega arith)
+            (bytes-put table names tuples) table are (into-taking db.schema name tuples (table_number db.schema name).0 table built named) rows at put;
+        small = small-put db (table_number db.schema name).0 table (map (put_row table names) tuples) rows kept.rows
+            (all-at IsTableWithin db.schema.tables (within-created db kept.created).each (table_number db.schema name).0 table at).columns at are (omega arith) put;
+      }
+
+  few-table : (table : CreateTable) → refusal_of db.schema (holds_rows db.rows) table ≡ None → LeavesFew db (create db table) (most + tuples_most) (bytes + 0)
+  few-table table none = record { few = few-more (create db table) most bytes 0 (few-create db kept most bytes few table none); small = small-create db table }
 
   runs : (found : Statement) → IsReadable (Run found) → is_built db.schema found ≡ true → IfRuns db (FewAfter (put_bytes found)) found
   unfolding put_bytes
-  runs (statement.CreateTable table) readable built = λ none. few-more (create db table) most bytes _ (few-create db kept most bytes few table none)
+  runs (statement.CreateTable table) readable built = few-table table
   runs (statement.Insert name names tuples) readable built = few-insert name names tuples readable built
   runs statement.Explain readable built = tt
   runs (statement.Select query) readable built = tt
   runs _ readable built = let never : false ≡ true = built in absurd (cc)
 
-  pub few-run : (found : Statement) → IsReadable (Run found) → is_built db.schema found ≡ true → HasFew (run db found).db (most + tuples_most) (bytes + put_bytes found)
+  pub few-run : (found : Statement) → IsReadable (Run found) → is_built db.schema found ≡ true
+      → LeavesFew db (run db found).db (most + tuples_most) (bytes + put_bytes found)
   few-run found readable built = of-statement db (FewAfter (put_bytes found)) (few-same _) found (runs found readable built)
 
 -- the empty database has none

@@ -4,6 +4,7 @@ pub mod Faultless
 pub mod FewRows
 pub mod PrintedLemmas
 pub mod ShortHistories
+pub mod SmallNets
 pub mod SparedLemmas
 pub mod TakeRows
 pub mod TranscriptLemmas
