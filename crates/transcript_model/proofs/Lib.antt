@@ -2,6 +2,7 @@ pub mod BuiltStatements
 pub mod BuiltWorlds
 pub mod Faultless
 pub mod FewRows
+pub mod NoDisk
 pub mod PrintedLemmas
 pub mod ShortHistories
 pub mod SmallNets
