@@ -7,5 +7,7 @@ pub mod Made
 pub mod MayBeUnmade
 pub mod Named
 pub mod Reply
+pub mod Sentences
 pub mod Serial
+pub mod Since
 pub mod World

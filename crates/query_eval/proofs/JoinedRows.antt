@@ -8,7 +8,7 @@ use Rattle.own_model.specs.Db.{Row}
 use Rattle.query_model.specs.Query.{joined, pairs_of}
 use Rattle.query_model.specs.Truth.{cell}
 use Rattle.query_eval.specs.Meetings.{meeting}
-use Rattle.query_eval.specs.Stored.{AreStored, IsStoredRow}
+use Rattle.query_model.specs.Stored.{AreStored, IsStoredRow}
 
 -- the pairs with one row more of the left table
 joined-more : (left_column right_column : ℕ) (lefts rights : List Row) (left : Row)

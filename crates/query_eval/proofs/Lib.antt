@@ -1,14 +1,11 @@
 pub mod BaseRows
 pub mod JoinedRows
-pub mod KeptByKey
 pub mod KeptByValue
 pub mod MeetingByKey
 pub mod MeetingRows
 pub mod OrderedEntries
-pub mod PinnedRow
 pub mod Replies
 pub mod RowGroups
-pub mod RowOfKey
 pub mod Runs
 pub mod RunsLeft
 pub mod ShownGroups

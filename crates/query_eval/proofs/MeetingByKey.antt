@@ -19,11 +19,11 @@ use Rattle.own_model.specs.Stored.{is_equal, row_named, rows_at}
 use Rattle.query_model.specs.Footprints.{key_column, literal_key}
 use Rattle.query_model.specs.Truth.{cell, compared, comparison, is_true}
 use Rattle.query_eval.specs.Meetings.{meeting, meets}
-use Rattle.query_eval.specs.Stored.{IsStored}
+use Rattle.query_model.specs.Stored.{IsStored}
 use Rattle.query_eval.specs.Tables.{AreTables}
 use Rattle.query_eval.proofs.MeetingRows.{meeting-null, meets-back}
-use Rattle.query_eval.proofs.PinnedRow.{same_key}
-use Rattle.query_eval.proofs.RowOfKey.{passing_of_rising}
+use Rattle.query_model.proofs.PinnedRow.{same_key}
+use Rattle.query_model.proofs.RowOfKey.{passing_of_rising}
 use Rattle.query_eval.proofs.TableRows.{rising_at, stored_at, stored_cells}
 
 -- a value that is no key meets no key

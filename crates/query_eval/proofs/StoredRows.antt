@@ -7,7 +7,7 @@ use Rattle.own_model.specs.declared.bound.Source1.TheVariants.{Pair, Table, View
 use Rattle.own_model.specs.Db.{Row}
 use Rattle.own_model.specs.Stored.{rows_at}
 use Rattle.query_model.specs.Query.{base_rows, joined, meet, pairs_of}
-use Rattle.query_eval.specs.Stored.{AreStored, IsStored, IsStoredRow}
+use Rattle.query_model.specs.Stored.{AreStored, IsStored, IsStoredRow}
 use Rattle.query_eval.proofs.TableRows.{stored_at}
 
 -- nor do the pairs of a row

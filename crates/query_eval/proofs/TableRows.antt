@@ -18,9 +18,9 @@ use Rattle.own_model.specs.Db.{AreRising, IsRising, Row}
 use Rattle.own_model.specs.Stored.{row_named, rows_at}
 use Rattle.query_model.specs.Footprints.{key_column, pinned_by, pinned_key}
 use Rattle.query_model.specs.Truth.{cell, keeps}
-use Rattle.query_eval.specs.Stored.{AreStored, IsStored, IsStoredRow}
+use Rattle.query_model.specs.Stored.{AreStored, IsStored, IsStoredRow}
 use Rattle.query_eval.specs.Tables.{AreTables}
-use Rattle.query_eval.proofs.KeptByKey.{kept_of_rising}
+use Rattle.query_model.proofs.KeptByKey.{kept_of_rising}
 
 -- the keys of a table's rows rise
 pub rising_at : (tables : List TableDef) (rows : List (List Row)) (n : ℕ) (table : TableDef) → AreRising tables rows → slice_get tables n ≡ Some table → IsRising table (rows_at rows n)

@@ -4,7 +4,6 @@ pub mod Meetings
 pub mod Numbers
 pub mod ShownEntry
 pub mod Sources
-pub mod Stored
 pub mod TableRows
 pub mod Tables
 pub mod Tally

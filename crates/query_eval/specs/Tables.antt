@@ -3,7 +3,7 @@ use Rattle.std.specs.Prelude.{List}
 use Rattle.std.specs.List.{All}
 use Rattle.own_model.specs.declared.schema.Schema.{Schema}
 use Rattle.own_model.specs.Db.{AreRising, Row}
-use Rattle.query_eval.specs.Stored.{AreStored}
+use Rattle.query_model.specs.Stored.{AreStored}
 
 -- rows whose keys rise strictly, and that hold no sums
 pub record AreTables (schema : Schema) (rows : List (List Row)) : Type 0 where

@@ -1,6 +1,6 @@
 ghost use Rattle.std.specs.Prelude.{◌≡◌, ◌∷◌, [], ◌++◌, map, IfOk};
 ghost use Rattle.std.specs.List.{All};
-ghost use Rattle.query_eval.specs.Stored.{AreStored, IsStoredRow};
+ghost use Rattle.query_model.specs.Stored.{AreStored, IsStoredRow};
 ghost use Rattle.query_eval.specs.Tally.{HasRoom, shown_tally, tally, with_row};
 
 use crate::group_value::GroupValue;

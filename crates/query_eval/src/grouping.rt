@@ -1,7 +1,7 @@
 ghost use Rattle.std.specs.Prelude.{◌≡◌, true, IfOk};
 ghost use Rattle.query_model.specs.Query.{grouped, in_order, query_rows, reply_of};
 ghost use Rattle.query_eval.specs.Sources.{IsBaseOf};
-ghost use Rattle.query_eval.specs.Stored.{AreStored};
+ghost use Rattle.query_model.specs.Stored.{AreStored};
 ghost use Rattle.query_eval.specs.Tables.{AreTables};
 
 use crate::groups::Groups;

@@ -1,6 +1,6 @@
 ghost use Rattle.std.specs.Prelude.{◌≡◌, length, map, IfOk};
 ghost use Rattle.query_model.specs.Query.{grouped};
-ghost use Rattle.query_eval.specs.Stored.{AreStored};
+ghost use Rattle.query_model.specs.Stored.{AreStored};
 
 use crate::group_tally::GroupTally;
 use crate::group_value::GroupValue;

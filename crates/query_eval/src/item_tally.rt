@@ -1,5 +1,5 @@
 ghost use Rattle.std.specs.Prelude.{◌≡◌, [], IfOk};
-ghost use Rattle.query_eval.specs.Stored.{IsStoredRow};
+ghost use Rattle.query_model.specs.Stored.{IsStoredRow};
 ghost use Rattle.query_eval.specs.Tally.{HasRoom, item_tally, shown_tally, with_row};
 
 use crate::group_value::GroupValue;

@@ -3,7 +3,7 @@ ghost use Rattle.std.specs.Option.{option_copied, option_to_list};
 ghost use Rattle.own_model.specs.Stored.{rows_at};
 ghost use Rattle.query_model.specs.Footprints.{key_column, literal_key};
 ghost use Rattle.query_eval.specs.Meetings.{meeting, meets};
-ghost use Rattle.query_eval.specs.Stored.{IsStored};
+ghost use Rattle.query_model.specs.Stored.{IsStored};
 ghost use Rattle.query_eval.specs.Tables.{AreTables};
 
 use own_base::{ColNo, Key, Row, RowName, TableNo, Value};

@@ -3,7 +3,7 @@ ghost use Rattle.std.specs.List.{All};
 ghost use Rattle.own_model.specs.Db.{Row as Values};
 ghost use Rattle.query_eval.specs.ByValue.{by_value};
 ghost use Rattle.query_eval.specs.ShownEntry.{shown_entry};
-ghost use Rattle.query_eval.specs.Stored.{AreStored, IsStoredRow};
+ghost use Rattle.query_model.specs.Stored.{AreStored, IsStoredRow};
 ghost use Rattle.query_eval.specs.Tally.{HasRoom, tally};
 
 use crate::group_tally::GroupTally;

@@ -5,7 +5,7 @@ ghost use Rattle.std.specs.List.{AllByRecursion};
 ghost use Rattle.std.specs.declared.cmp.Ordering.TheVariants.{Less};
 ghost use Rattle.own_base.specs.Key.{key_cmp};
 ghost use Rattle.own_model.specs.Db.{AreRising, IsRising, key_of};
-ghost use Rattle.query_eval.specs.Stored.{AreStored, IsStored};
+ghost use Rattle.query_model.specs.Stored.{AreStored, IsStored};
 ghost use Rattle.query_eval.specs.Tables.{AreTables};
 
 use crate::key_ref::{compare, key_of};

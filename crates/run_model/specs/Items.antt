@@ -5,6 +5,7 @@ use Rattle.own_model.specs.declared.footprint.FootItem.{FootItem}
 use Rattle.own_model.specs.declared.refusal.Refusal.{Refusal}
 use Rattle.own_model.specs.declared.schema.Schema.{Schema}
 use Rattle.own_model.specs.declared.statement.Statement.{Statement}
+use Rattle.own_model.specs.declared.statement.Statement.TheVariants.{Delete, Insert, Select, Update}
 use Rattle.query_model.specs.BoundStatement.{bound_statement}
 use Rattle.query_model.specs.Footprints.{footprint_of}
 
@@ -20,3 +21,11 @@ items_of schema statement = items_if schema (bound_statement schema statement)
 -- the footprints of several statements together
 unfoldable pub items_of_all : Schema → List Statement → List FootItem
 items_of_all schema statements = flat_map (items_of schema) statements
+
+-- a SELECT, an INSERT, an UPDATE or a DELETE
+abbrev pub TakesRows : Statement → Type 0
+TakesRows (Select select) = Unit {0}
+TakesRows (Insert table columns rows) = Unit {0}
+TakesRows (Update table sets cond) = Unit {0}
+TakesRows (Delete table cond) = Unit {0}
+TakesRows _ = ⊥

@@ -1,5 +1,5 @@
 -- A list that is filtered has no more elements and sums to no more.
-use Rattle.std.proofs.Common.{◌≡◌, ℕ, ◌+◌, ◌≤◌, ◌<◌, zero, List, [], ◌∷◌, length, map, Bool, true, false, not, cond, refl, ap, ◌∙◌, arith}
+use Rattle.std.proofs.Common.{◌≡◌, ℕ, ◌+◌, ◌≤◌, ◌<◌, List, [], ◌∷◌, length, map, Bool, true, false, not, cond, refl, ap, ◌∙◌, arith}
 use Rattle.std.specs.Prelude.{◌&&◌, Contains, filter, sum_by}
 use Rattle.std.specs.List.{AllByRecursion}
 use Rattle.std.proofs.lemmas.List.Sums.{sum_by-cons}
@@ -39,7 +39,7 @@ module _ {X : Type 0} where
   apart p q weaker [] = omega arith
   apart p q weaker (x ∷ xs) = apart_step (p x) (q x) x _ _ _ (weaker x) (apart p q weaker xs)
 
-  -- an element that passes, one that doesn't
+  -- a list that has an element isn't empty
   pub some-counted : (xs : List X) (x : X) → Contains xs x → 0 < length xs
   some-counted xs x (place, within, is) = omega arith
 
@@ -47,6 +47,7 @@ module _ {X : Type 0} where
   none_step true x kept fails none = cc
   none_step false x kept fails none = none
 
+  -- where each fails a test, none passes
   pub none-counted : (p : X → Bool) → ((x : X) → p x ≡ false) → (xs : List X) → length (filter p xs) ≡ 0
   none-counted p fails [] = refl
   none-counted p fails (x ∷ xs) = none_step (p x) x (filter p xs) (fails x) (none-counted p fails xs)

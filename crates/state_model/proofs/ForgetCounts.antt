@@ -1,12 +1,12 @@
 -- A FORGET leaves a row no more owners, and no more subjects that reach it.
-use Rattle.std.proofs.Common.{◌≡◌, ℕ, ◌+◌, ◌≤◌, List, length, map, Bool, true, false, sym, ◌∙◌, ap, subst, arith}
+use Rattle.std.proofs.Common.{◌≡◌, ◌+◌, ◌≤◌, List, length, map, Bool, true, ◌∙◌, ap, arith}
 use Rattle.std.specs.Prelude.{◌&&◌, filter}
 use Rattle.std.proofs.lemmas.Bool.{and_from, and_parts}
 use Rattle.own_base.specs.declared.row_name.RowName.{RowName}
 use Rattle.own_model.specs.Db.{Db}
 use Rattle.schema_model.specs.OwnerSchema.{IsOwnerSchema}
 use Rattle.subject_model.specs.Forget.{forget}
-use Rattle.subject_model.specs.Named.{NamedRow, named_rows}
+use Rattle.subject_model.specs.Named.{named_rows}
 use Rattle.subject_model.specs.Owners.{owners, owns, reaches, subjects}
 use Rattle.subject_model.specs.Paths.{is_subject_row}
 use Rattle.subject_model.specs.Stays.{stays}

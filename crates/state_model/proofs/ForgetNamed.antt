@@ -1,5 +1,5 @@
 -- The named rows that a FORGET leaves are those that stay, with what is left of each.
-use Rattle.std.proofs.Common.{◌≡◌, ℕ, zero, suc, ◌+◌, List, [], ◌∷◌, ◌++◌, map, Bool, true, false, cond, refl, ap, sym, ◌∙◌, subst, arith}
+use Rattle.std.proofs.Common.{◌≡◌, ℕ, suc, ◌+◌, List, [], ◌∷◌, map, Bool, true, false, cond, refl, ap, sym, ◌∙◌, subst, arith}
 use Rattle.std.specs.Prelude.{Some, filter, slice_get}
 use Rattle.std.specs.Option.{option_map_or}
 use Rattle.std.proofs.lemmas.List.{map-append}
@@ -7,7 +7,7 @@ use Rattle.std.proofs.lemmas.List.Elements.{filter-append}
 use Rattle.own_base.specs.declared.row_name.RowName.{RowName}
 use Rattle.own_base.specs.declared.value.Key.{Key}
 use Rattle.own_model.specs.declared.schema.TableDef.{TableDef}
-use Rattle.own_model.specs.Db.{AreRising, Db, IsOrdered, Row, key_of}
+use Rattle.own_model.specs.Db.{Db, Row}
 use Rattle.schema_model.specs.OwnerSchema.{IsOwnerSchema}
 use Rattle.subject_model.specs.Forget.{forget, left_from, left_in, left_of}
 use Rattle.subject_model.specs.Named.{NamedRow, name_of, named_rows, rows_from, rows_in}
@@ -64,7 +64,7 @@ module _ (db : Db) (subject : RowName) (owner : IsOwnerSchema db.schema) where
       let more = rows_from (number + 1) tables rest in
       rw (table_named number table own rows, from_named (number + 1) tables rest later)
       (sym (ap (map (named_left db subject)) (filter-append (stays_named db subject) here more)
-          ∙ map-append (named_left db subject) (filter (stays_named db subject) here) (filter (stays_named db subject) more)))
+      ∙ map-append (named_left db subject) (filter (stays_named db subject) here) (filter (stays_named db subject) more)))
     where
       later : (place : ℕ) (found : TableDef) → slice_get tables place ≡ Some found → slice_get db.schema.tables (number + 1 + place) ≡ Some found
       later place found is = let n : number + suc place ≡ number + 1 + place = omega arith in subst (λ n. slice_get db.schema.tables n ≡ Some found) n (same (suc place) found is)

@@ -1,14 +1,13 @@
 -- Values, rows and items of a view take no more after a FORGET.
-use Rattle.std.proofs.Common.{◌≡◌, ℕ, zero, suc, ◌+◌, ◌-◌, ◌*◌, subst, ◌≤◌, List, [], ◌∷◌, length, map, Bool, true, false, refl, ap, ◌∙◌, arith}
-use Rattle.std.specs.Prelude.{◌==◌, sum_by, slice_index_or, if◌then◌else◌}
-use Rattle.std.specs.List.{AllByRecursion, enumerate_from}
+use Rattle.std.proofs.Common.{◌≡◌, ℕ, zero, suc, ◌+◌, ◌-◌, ◌*◌, subst, ◌≤◌, List, [], ◌∷◌, map, Bool, true, false, refl, arith}
+use Rattle.std.specs.Prelude.{◌==◌, sum_by, if◌then◌else◌}
+use Rattle.std.specs.List.{enumerate_from}
 use Rattle.std.proofs.lemmas.Bool.Decides.{nat_tests}
 use Rattle.std.proofs.lemmas.List.Sums.{sum_by-cons}
 use Rattle.std.proofs.Math.Nat.{mul-add, mul-le-mul_right}
 use Rattle.own_base.specs.Row.{row_size, value_size}
 use Rattle.own_base.specs.declared.row.TheConstants.{ROW_SIZE}
 use Rattle.own_base.specs.declared.row_name.RowName.{RowName}
-use Rattle.own_base.specs.declared.value.TheConstants.{VALUE_SIZE}
 use Rattle.own_base.specs.declared.value.Value.{Value}
 use Rattle.own_base.specs.declared.value.Value.TheVariants.{Null, Int, Text, Sum}
 use Rattle.own_model.specs.declared.bound.BoundItem.{BoundItem}

@@ -1,7 +1,6 @@
 -- A row weighs no more after a FORGET, and so do all.
-use Rattle.std.proofs.Common.{◌≡◌, ℕ, ◌+◌, ◌*◌, ◌≤◌, ◌<◌, List, [], ◌∷◌, length, map, Bool, true, false, refl, ap, sym, ◌∙◌, subst, arith}
-use Rattle.std.specs.Prelude.{◌&&◌, ◌==◌, Contains, IsTrue, Option, Some, None, filter, slice_get, sum_by}
-use Rattle.std.specs.List.{AllByRecursion}
+use Rattle.std.proofs.Common.{◌≡◌, ◌≤◌, length, Bool, true, false, refl, arith}
+use Rattle.std.specs.Prelude.{Contains, Option, Some, None, slice_get, sum_by}
 use Rattle.std.specs.Option.{option_map_or}
 use Rattle.own_base.specs.Row.{row_size}
 use Rattle.own_base.specs.declared.row_name.RowName.{RowName}

@@ -2,6 +2,7 @@ pub mod Counts
 pub mod CreatedLemmas
 pub mod CreatedSchema
 pub mod FaultLemmas
+pub mod Faultless
 pub mod ForgetCounts
 pub mod ForgetFaults
 pub mod ForgetKept
@@ -9,9 +10,11 @@ pub mod ForgetLimits
 pub mod ForgetNamed
 pub mod ForgetReferences
 pub mod ForgetSizes
+pub mod ForgetSound
 pub mod ForgetUnique
 pub mod ForgetWeight
 pub mod KeptLemmas
 pub mod Languages
 pub mod OwnerCounts
+pub mod OwnersLeft
 pub mod PlainKinds

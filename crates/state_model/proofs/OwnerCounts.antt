@@ -1,12 +1,12 @@
 -- How many own a row, and how many see it.
-use Rattle.std.proofs.Common.{◌≡◌, ℕ, ◌+◌, ◌<◌, List, [], ◌∷◌, length, map, Bool, true, false, not, sym, ◌∙◌, subst}
+use Rattle.std.proofs.Common.{◌≡◌, ◌+◌, ◌<◌, [], ◌∷◌, length, map, true, false, sym, ◌∙◌, subst}
 use Rattle.std.specs.Prelude.{◌&&◌, Contains, filter}
 use Rattle.std.proofs.lemmas.Bool.{and_parts, false_from_ne_true}
 use Rattle.own_base.specs.declared.row_name.RowName.{RowName}
 use Rattle.own_model.specs.Db.{Db, IsOrdered}
 use Rattle.schema_model.specs.OwnerSchema.{IsOwnerSchema}
 use Rattle.subject_model.specs.Named.{named_rows}
-use Rattle.subject_model.specs.Owners.{Owns, has_owner, is_owner_path, leads_to, owners, owns, reaches, subjects}
+use Rattle.subject_model.specs.Owners.{has_owner, is_owner_path, leads_to, owners, owns, reaches, subjects}
 use Rattle.subject_model.specs.Paths.{IsPath, Path, is_subject_row, paths}
 use Rattle.subject_model.proofs.Members.{any_contained, contains_any, contains_filter, contains_map}
 use Rattle.subject_model.proofs.NamedLemmas.{named-there}

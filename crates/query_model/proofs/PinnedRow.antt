@@ -22,7 +22,7 @@ use Rattle.own_model.specs.declared.truth.Truth.TheVariants.{True, False, Unknow
 use Rattle.own_model.specs.Db.{Row, as_key}
 use Rattle.query_model.specs.Footprints.{Pinned, compared_key, first_key, literal_key, pinned_by, pinned_step}
 use Rattle.query_model.specs.Truth.{cell, compared, comparison, least, lesser, operand, takes, truth, truth_of, truth_step}
-use Rattle.query_eval.specs.Stored.{IsStored}
+use Rattle.query_model.specs.Stored.{IsStored}
 
 -- an AND that began Unknown isn't True
 not_true : (parts : List Answer) → fold lesser Unknown parts ≡ True → ⊥

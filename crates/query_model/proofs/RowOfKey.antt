@@ -13,10 +13,10 @@ use Rattle.own_model.specs.Stored.{has_key, is_equal}
 use Rattle.own_model.proofs.KeyOrder.{key_order}
 use Rattle.query_model.specs.Truth.{cell}
 use Rattle.query_model.proofs.SortedRows.{none_pass}
-use Rattle.query_eval.specs.Stored.{IsStored}
+use Rattle.query_model.specs.Stored.{IsStored}
 
 -- only an equality is equal
-equal_from : (ordering : Ordering) → is_equal ordering ≡ true → ordering ≡ Equal
+pub equal_from : (ordering : Ordering) → is_equal ordering ≡ true → ordering ≡ Equal
 equal_from Less is = cc
 equal_from Equal is = refl
 equal_from Greater is = cc

@@ -11,13 +11,13 @@ use Rattle.own_model.specs.Db.{IsRising, Row, key_of}
 use Rattle.own_model.specs.Stored.{has_key, is_equal}
 use Rattle.query_model.specs.Footprints.{pinned_by}
 use Rattle.query_model.specs.Truth.{cell, is_true, keeps, truth}
-use Rattle.query_eval.specs.Stored.{IsStored}
-use Rattle.query_eval.proofs.PinnedRow.{true_pins}
-use Rattle.query_eval.proofs.RowOfKey.{passing_of_rising}
+use Rattle.query_model.specs.Stored.{IsStored}
+use Rattle.query_model.proofs.PinnedRow.{true_pins}
+use Rattle.query_model.proofs.RowOfKey.{passing_of_rising}
 
 module _ (table : TableDef) (condition : BoundCond) (key : Key) (pins : pinned_by table.key.0 condition ≡ Some key) where
   -- a row of another key isn't kept
-  not_kept : (row : Row) → IsStored (cell row table.key.0) → has_key table key row ≡ false → keeps (Some condition) row ≡ false
+  pub not_kept : (row : Row) → IsStored (cell row table.key.0) → has_key table key row ≡ false → keeps (Some condition) row ≡ false
   unfolding key_of
   not_kept row stored other = by (truth row condition) refl
     where
