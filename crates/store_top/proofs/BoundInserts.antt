@@ -28,7 +28,7 @@ use Rattle.query_model.specs.WriteMeaning.{given, is_for, put_row}
 use Rattle.readable_model.proofs.Literals.{no_sums}
 use Rattle.readable_model.proofs.NoFaults.{none-first, none-lowest}
 use Rattle.readable_model.proofs.Sources.{table-there}
-use Rattle.query_eval.specs.Stored.{AreStored, IsStored, IsStoredRow}
+use Rattle.query_model.specs.Stored.{AreStored, IsStored, IsStoredRow}
 use Rattle.store_top.specs.BoundThere.{NamesThere}
 use Rattle.store_top.specs.Built.{IsBound}
 use Rattle.store_top.proofs.BoundSelects.{select_there}

@@ -6,13 +6,11 @@ use Rattle.own_model.specs.declared.limit.TheConstants.{INPUT_BYTES}
 use Rattle.own_model.specs.declared.script.InputFault.{InputFault}
 use Rattle.own_model.specs.declared.script.InputFault.TheVariants as input
 use Rattle.own_model.specs.declared.script.ScriptCall.{ScriptCall}
-use Rattle.own_model.specs.Db.{Db, empty}
+use Rattle.own_model.specs.Db.{empty}
 use Rattle.history_model.specs.History.{History}
 use Rattle.script_model.specs.Script.{HasCalls, IsScript}
-use Rattle.history_model.specs.Serial.{IsHistory, Serial}
-use Rattle.state_model.specs.Sound.{Sound}
-use Rattle.state_model.proofs.KeptLemmas.{sound-empty}
-use Rattle.transcript_model.proofs.ShortHistories.{serial-ran}
+use Rattle.history_model.specs.Serial.{Serial}
+use Rattle.transcript_model.proofs.ShortHistories.{serial-none, serial-ran}
 use Rattle.store_top.specs.declared.served.TopFault.{TopFault}
 use Rattle.store_top.specs.declared.served.TopFault.TheVariants.{Usage, Read, Write, Disk, Damaged, Input, Memory}
 use Rattle.store_top.specs.Steps.{StopsAtCall, ToldBefore, ToldInPart}
@@ -81,27 +79,26 @@ module _ (remaining_old remaining_new written_old written_new : Option (List ℕ
         is_script = by.0;
       }
 
-module _ (every_history_is_serial : (base : Db) (history : History) → Sound base → IsHistory history → Serial base history) where
-  -- the empty history is Serial
-  pub serial-none : (history : History) → history ≡ [] → Serial empty history
-  serial-none history is = subst (Serial empty) (sym is) (every_history_is_serial empty [] sound-empty tt)
+-- the empty history is Serial
+pub serial-silent : (history : History) → history ≡ [] → Serial empty history
+serial-silent history is = subst (Serial empty) (sym is) serial-none
 
-  serial_stopped : (bytes : List ℕ) (calls : List ScriptCall) (history : History) (Told : List ℕ → List ℕ → Type 0) → HasCalls bytes calls
-      → StopsAtCall calls history Told → Serial empty history
-  serial_stopped bytes calls history Told is stops =
-      serial-ran every_history_is_serial bytes calls (stops.done ++ stops.last ∷ []) stops.rest history _ is
-      (append_assoc stops.done (stops.last ∷ []) stops.rest ∙ sym stops.parts) stops.made
+serial_stopped : (bytes : List ℕ) (calls : List ScriptCall) (history : History) (Told : List ℕ → List ℕ → Type 0) → HasCalls bytes calls
+    → StopsAtCall calls history Told → Serial empty history
+serial_stopped bytes calls history Told is stops =
+    serial-ran bytes calls (stops.done ++ stops.last ∷ []) stops.rest history _ is
+    (append_assoc stops.done (stops.last ∷ []) stops.rest ∙ sym stops.parts) stops.made
 
-  -- the history that serving the bytes of an input made is Serial
-  pub serial-bytes : (bytes : List ℕ) (history : History) (old new : Option (List ℕ)) (rose silent : Type 0) → (silent → history ≡ []) → (fault : Option TopFault)
-      → ServesBytes bytes history old new rose silent fault → Serial empty history
-  serial-bytes bytes history old new rose silent none None serves =
-      serial-ran every_history_is_serial bytes serves.0 serves.0 [] history serves.2.text serves.1 (append-nil serves.0) serves.2.transcript
-  serial-bytes bytes history old new rose silent none (Some Write) serves = serial_stopped bytes serves.0 history _ serves.1 serves.3
-  serial-bytes bytes history old new rose silent none (Some Memory) (is_text, inl nothing) = serial-none history (none nothing)
-  serial-bytes bytes history old new rose silent none (Some Memory) (is_text, inr some) = serial_stopped bytes some.0 history _ some.1 some.2
-  serial-bytes bytes history old new rose silent none (Some (Input why)) serves = serial-none history (none serves.2)
-  serial-bytes bytes history old new rose silent none (Some Usage) serves = absurd serves
-  serial-bytes bytes history old new rose silent none (Some Read) serves = absurd serves
-  serial-bytes bytes history old new rose silent none (Some Disk) serves = absurd serves
-  serial-bytes bytes history old new rose silent none (Some (Damaged area offset)) serves = absurd serves
+-- the history that serving the bytes of an input made is Serial
+pub serial-bytes : (bytes : List ℕ) (history : History) (old new : Option (List ℕ)) (rose silent : Type 0) → (silent → history ≡ []) → (fault : Option TopFault)
+    → ServesBytes bytes history old new rose silent fault → Serial empty history
+serial-bytes bytes history old new rose silent none None serves =
+    serial-ran bytes serves.0 serves.0 [] history serves.2.text serves.1 (append-nil serves.0) serves.2.transcript
+serial-bytes bytes history old new rose silent none (Some Write) serves = serial_stopped bytes serves.0 history _ serves.1 serves.3
+serial-bytes bytes history old new rose silent none (Some Memory) (is_text, inl nothing) = serial-silent history (none nothing)
+serial-bytes bytes history old new rose silent none (Some Memory) (is_text, inr some) = serial_stopped bytes some.0 history _ some.1 some.2
+serial-bytes bytes history old new rose silent none (Some (Input why)) serves = serial-silent history (none serves.2)
+serial-bytes bytes history old new rose silent none (Some Usage) serves = absurd serves
+serial-bytes bytes history old new rose silent none (Some Read) serves = absurd serves
+serial-bytes bytes history old new rose silent none (Some Disk) serves = absurd serves
+serial-bytes bytes history old new rose silent none (Some (Damaged area offset)) serves = absurd serves

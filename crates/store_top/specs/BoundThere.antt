@@ -3,7 +3,7 @@ use Rattle.std.specs.Prelude.{◌<◌, length}
 use Rattle.own_model.specs.declared.bound.Bound.{Bound}
 use Rattle.own_model.specs.declared.bound.Bound.TheVariants as bound
 use Rattle.own_model.specs.declared.schema.Schema.{Schema}
-use Rattle.query_eval.specs.Stored.{AreStored}
+use Rattle.query_model.specs.Stored.{AreStored}
 use Rattle.readable_model.specs.Sources.{IsThere}
 
 -- the source of a SELECT; and the table of an INSERT, whose rows hold no sums; no other statement is bound here

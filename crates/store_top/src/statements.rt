@@ -7,7 +7,7 @@ ghost use Rattle.history_model.specs.Built.{is_built};
 ghost use Rattle.history_model.specs.MayBeUnmade.{MayBeUnmade, MayFail};
 ghost use Rattle.run_model.specs.Run.{insert, run, run_bound, run_unless};
 ghost use Rattle.query_model.specs.BoundStatement.{bound_statement};
-ghost use Rattle.query_eval.specs.Stored.{AreStored};
+ghost use Rattle.query_model.specs.Stored.{AreStored};
 ghost use Rattle.schema_model.specs.Explained.{explained};
 ghost use Rattle.schema_model.specs.WithinLimits.{IsWithinLimits};
 ghost use Rattle.transcript_model.specs.PlainAnswer.{plain_answer, plain_left};

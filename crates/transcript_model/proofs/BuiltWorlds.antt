@@ -43,7 +43,7 @@ use Rattle.history_model.specs.History.{History, after_request, doomed_at, dooms
 use Rattle.history_model.specs.Reply.{answer, committing, granted, is_refusal, reply_in, reply_outside, unless_down, write_reply}
 use Rattle.history_model.specs.Serial.{IsHistory}
 use Rattle.history_model.specs.World.{Standing, Outside, World, start}
-use Rattle.history_model.proofs.HistoryLemmas.{last_of, reply-by_last, world-append}
+use Rattle.history_model.proofs.HistoryLemmas.{last_of, reply-by_last, reply-last, world-append}
 use Rattle.transcript_model.specs.PlainAnswer.{plain_answer, plain_left}
 use Rattle.transcript_model.specs.Short.{IsShort}
 use Rattle.transcript_model.proofs.BuiltStatements.{is_built-of, tuples_most}
@@ -347,3 +347,15 @@ module _ (history : History) (last : ℕ) (entry : Entry) (short : IsShort histo
   pub built-short : built (flat empty (take last history)).schema entry.session.0 entry.request ≡ entry.request
   unfolding flat
   built-short = of_last.asked.built
+
+-- the law: the reply to the last entry, and the flat database after it
+pub plain-append : (history : History) (entry : Entry) → IsShort (history ++ entry ∷ [])
+    → (reply empty (history ++ entry ∷ []) (length history) ≡ Some (plain_answer (flat empty history) entry.request))
+    × (flat empty (history ++ entry ∷ []) ≡ plain_left (flat empty history) entry.request)
+unfolding flat
+plain-append history entry short =
+    let own = short-last history entry short in
+    (
+      reply-last empty history entry ∙ ap (λ r. Some r) (answer-plain (world empty history) own.most own.bytes own.plain entry own.asked own.took),
+      ap (λ (w : World). w.flat) (world-append empty history entry) ∙ flat-plain (world empty history) own.most own.bytes own.plain entry own.asked own.took,
+    )

@@ -19,7 +19,6 @@ use Rattle.script_model.specs.Script.{HasCalls}
 use Rattle.script_model.specs.Split.{IsOfASession}
 use Rattle.script_model.proofs.InputCalls.{all-append, calls-few, calls-readable, calls-sessions}
 use Rattle.script_model.proofs.TextBytes.{calls-bytes}
-use Rattle.state_model.specs.Sound.{Sound}
 use Rattle.state_model.proofs.KeptLemmas.{sound-empty}
 use Rattle.history_model.specs.AreBuilt.{AreBuilt, AreBuiltFrom}
 use Rattle.history_model.specs.Built.{built, is_built}
@@ -27,6 +26,7 @@ use Rattle.history_model.specs.History.{History, flat, happens, world}
 use Rattle.history_model.specs.Made.{Called, Want, Spared, Unshown, Unmade, added, after_call, entry_of, made}
 use Rattle.history_model.specs.Serial.{IsEntry, IsHistory, Serial}
 use Rattle.history_model.specs.World.{World}
+use Rattle.history_model.proofs.EveryHistory.{serial-history}
 use Rattle.transcript_model.specs.Short.{AreOfInput, IsShort}
 use Rattle.transcript_model.specs.Transcript.{IsTranscript}
 use Rattle.transcript_model.proofs.PrintedLemmas.{made-append}
@@ -196,13 +196,13 @@ module _ (calls : List ScriptCall) (input : AreOfInput calls) (readable : AllByR
       let grown = short-made (ran.called ++ last ∷ []) rest all in
       subst (λ h. IsShort (h ++ entry_of empty h call ∷ [])) (sym ran.history_is) (subst IsShort (made-append empty ran.called last) grown)
 
-module _ (every_history_is_serial : (base : Db) (history : History) → Sound base → IsHistory history → Serial base history) where
-  -- a short history is serial
-  pub serial-short : (history : History) → IsShort history → Serial empty history
-  serial-short history short = every_history_is_serial empty history sound-empty short.entries
+-- the history of a run over the first calls of an input is serial
+pub serial-ran : (bytes : List ℕ) (calls front rest : List ScriptCall) (history : History) (text : List ℕ) → HasCalls bytes calls
+    → front ++ rest ≡ calls → IsTranscript empty front history text → Serial empty history
+serial-ran bytes calls front rest history text has is ran =
+    let short = short-ran calls (input-calls bytes calls has) (calls-readable bytes calls has) front rest history text is ran in
+    serial-history empty history sound-empty short.entries
 
-  -- so is the history of a run over the first calls of an input
-  pub serial-ran : (bytes : List ℕ) (calls front rest : List ScriptCall) (history : History) (text : List ℕ) → HasCalls bytes calls
-      → front ++ rest ≡ calls → IsTranscript empty front history text → Serial empty history
-  serial-ran bytes calls front rest history text has is ran =
-      serial-short history (short-ran calls (input-calls bytes calls has) (calls-readable bytes calls has) front rest history text is ran)
+-- so is that of no call
+pub serial-none : Serial empty []
+serial-none = serial-history empty [] sound-empty tt

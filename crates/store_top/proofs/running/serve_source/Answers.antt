@@ -44,5 +44,5 @@ returns-in-Ok-clause-input_fault g c =
 
 pub returns-in-Ok-clause-serial : goal.returns-in-Ok-clause-serial
 returns-in-Ok-clause-serial g c =
-    serial-bytes ? c.deref.result.now c.serve_bytes.result.history (g.W.Sink.written c.args.sink.now) (g.W.Sink.written c.serve_bytes.new.sink) _ _
+    serial-bytes c.deref.result.now c.serve_bytes.result.history (g.W.Sink.written c.args.sink.now) (g.W.Sink.written c.serve_bytes.new.sink) _ _
     (λ silent. silent.1) c.serve_bytes.result.fault c.serve_bytes.ensures

@@ -2,7 +2,7 @@ use Rattle.std.proofs.Common.{[]}
 use Rattle.std.proofs.lemmas.List.{map-append}
 use Rattle.std.proofs.lemmas.List.Elements.{All-nil, All-push}
 use Rattle.state_model.proofs.KeptLemmas.{rising-append}
-use Rattle.query_eval.specs.Stored.{AreStored, IsStoredRow}
+use Rattle.query_model.specs.Stored.{AreStored, IsStoredRow}
 use Rattle.table_part.specs.Part.{rows_of}
 use Rattle.store_top.specs.State.{db_of}
 use Rattle.store_top.proofs.KeptViews.{views-append}
