@@ -1,16 +1,13 @@
 -- The replies and the flat databases of short histories of built requests are plain.
-use Rattle.std.proofs.Common.{◌≡◌, ℕ, ◌+◌, ◌*◌, ◌≤◌, List, [], ◌∷◌, ◌++◌, length, fold, take, Bool, true, false, cond, refl, ap, sym, subst, ◌∙◌, arith}
-use Rattle.std.specs.Prelude.{◌&&◌, ◌==◌, Option, None, Some, Result, Ok, Err, filter_map, find, nat_lt, slice_index_or, sum_by, if◌then◌else◌}
+use Rattle.std.proofs.Common.{◌≡◌, ℕ, ◌+◌, ◌*◌, ◌≤◌, List, [], ◌∷◌, ◌++◌, length, fold, take, Bool, true, false, refl, ap, sym, subst, ◌∙◌, arith}
+use Rattle.std.specs.Prelude.{◌==◌, Option, None, Some, Result, Ok, Err, filter_map, find, nat_lt, slice_index_or, sum_by, if◌then◌else◌}
 use Rattle.std.specs.List.{AllByRecursion, list_any}
-use Rattle.std.specs.Option.{option_map}
 use Rattle.std.proofs.lemmas.Bool.{lt-leb}
-use Rattle.std.proofs.lemmas.List.{length-append}
-use Rattle.std.proofs.lemmas.List.Sums.{sum_by-append, sum_by-cons}
+use Rattle.std.proofs.lemmas.List.Sums.{sum_by-cons}
 use Rattle.own_base.specs.declared.value.Value.{Value}
 use Rattle.own_model.specs.declared.bound.Bound.{Bound}
 use Rattle.own_model.specs.declared.footprint.FootItem.{FootItem}
 use Rattle.own_model.specs.declared.history.Entry.{Entry}
-use Rattle.own_model.specs.declared.history.Verdict.{Verdict}
 use Rattle.own_model.specs.declared.history.Verdict.TheVariants.{Took}
 use Rattle.own_model.specs.declared.limit.TheConstants.{INPUT_BYTES, INPUT_CALLS, PAYLOAD_BYTES, SESSIONS}
 use Rattle.own_model.specs.declared.refusal.Refusal.{Refusal}
@@ -38,7 +35,7 @@ use Rattle.run_model.proofs.KeptRuns.{kept-run}
 use Rattle.run_model.proofs.Refusals.{refused-run}
 use Rattle.history_model.specs.AreBuilt.{AreBuiltFrom}
 use Rattle.history_model.specs.Built.{built, is_built}
-use Rattle.history_model.specs.Held.{Holding, first_holding, held, holder, holding, is_open, lowest_other, others}
+use Rattle.history_model.specs.Held.{first_holding, held, holder, holding, is_open, lowest_other, others}
 use Rattle.history_model.specs.History.{History, after_request, doomed_at, dooms, down_after, flat, happens, is_conflict, is_disk, is_failure, left_by, other_after, own_after, reply, world}
 use Rattle.history_model.specs.Reply.{answer, committing, granted, is_refusal, reply_in, reply_outside, unless_down, write_reply}
 use Rattle.history_model.specs.Serial.{IsHistory}
@@ -354,8 +351,7 @@ pub plain-append : (history : History) (entry : Entry) → IsShort (history ++ e
     × (flat empty (history ++ entry ∷ []) ≡ plain_left (flat empty history) entry.request)
 unfolding flat
 plain-append history entry short =
-    let own = short-last history entry short in
-    (
+    let own = short-last history entry short in (
       reply-last empty history entry ∙ ap (λ r. Some r) (answer-plain (world empty history) own.most own.bytes own.plain entry own.asked own.took),
       ap (λ (w : World). w.flat) (world-append empty history entry) ∙ flat-plain (world empty history) own.most own.bytes own.plain entry own.asked own.took,
     )

@@ -1,5 +1,5 @@
 -- A database whose tables with rows take rows, with few rows that weigh little, has no fault.
-use Rattle.std.proofs.Common.{◌≡◌, ℕ, zero, suc, ◌+◌, ◌≤◌, List, [], ◌∷◌, ◌++◌, length, Bool, true, false, not, refl, ap, sym, subst, arith}
+use Rattle.std.proofs.Common.{◌≡◌, ℕ, zero, suc, ◌≤◌, List, [], ◌∷◌, length, Bool, true, false, not, refl, arith}
 use Rattle.std.specs.Prelude.{◌&&◌, ◌==◌, Contains, Option, None, Some, is_none, nat_lt, slice_get, sum_by, if◌then◌else◌}
 use Rattle.std.specs.List.{list_all}
 use Rattle.std.proofs.lemmas.Bool.{and_parts, lt-leb, ne_eqb}

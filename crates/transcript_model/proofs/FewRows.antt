@@ -1,8 +1,7 @@
 -- How few rows a statement leaves, how light they are, and that they stand in tables that take rows.
-use Rattle.std.proofs.Common.{◌≡◌, ℕ, zero, suc, ◌+◌, ◌*◌, ◌<◌, ◌≤◌, List, [], ◌∷◌, ◌++◌, length, map, Bool, true, false, cond, refl, ap, arith}
-use Rattle.std.specs.Prelude.{◌==◌, Option, Some, None, Result, Ok, Err, flat_map, slice_get, slice_set, sum_by}
+use Rattle.std.proofs.Common.{◌≡◌, ℕ, ◌+◌, ◌*◌, ◌≤◌, List, [], ◌∷◌, ◌++◌, length, map, Bool, true, false, refl, arith}
+use Rattle.std.specs.Prelude.{◌==◌, Option, Some, None, Ok, flat_map, slice_get, slice_set, sum_by}
 use Rattle.std.specs.List.{AllByRecursion}
-use Rattle.std.specs.Option.{option_map_or}
 use Rattle.std.proofs.lemmas.Bool.{eq-eqb, eqb-true}
 use Rattle.std.proofs.lemmas.List.{get_or-set_other, length-map}
 use Rattle.std.proofs.lemmas.List.Sums.{sum_by_push, sum_by-cons}
@@ -23,13 +22,11 @@ use Rattle.own_model.specs.Db.{Db, Row, empty}
 use Rattle.own_model.specs.Stored.{holds_rows, rows_at}
 use Rattle.own_model.specs.TextBytes.{put_bytes, text_bytes, tuple_bytes}
 use Rattle.schema_model.specs.Refusal.{refusal_of}
-use Rattle.schema_model.specs.Tables.{number_of}
 use Rattle.schema_model.specs.WithTable.{with_table}
 use Rattle.schema_model.specs.WithinLimits.{IsTableWithin}
 use Rattle.schema_model.proofs.Places.{all-at, append-none, flat_map-none}
 use Rattle.query_model.specs.BoundStatement.{faults, meaning}
-use Rattle.query_model.specs.Refused.{lowest}
-use Rattle.query_model.specs.Scope.{NameBytes, table_named}
+use Rattle.query_model.specs.Scope.{NameBytes}
 use Rattle.query_model.specs.SelectFaults.{no_table}
 use Rattle.query_model.specs.SelectMeaning.{table_number}
 use Rattle.query_model.specs.WriteFaults.{insert_faults, list_faults, tuple_faults}
@@ -48,11 +45,11 @@ use Rattle.state_model.proofs.PlainKinds.{IsPlainTable}
 use Rattle.run_model.specs.Insert.{with_tuples}
 use Rattle.run_model.specs.Run.{Outcome, answered, run}
 use Rattle.run_model.proofs.Numbered.{named-at}
-use Rattle.run_model.proofs.Outcomes.{IfBinds, IfCreated, IfPut, IfRuns, of-statement}
+use Rattle.run_model.proofs.Outcomes.{IfBinds, IfRuns, of-statement}
 use Rattle.run_model.proofs.PutRows.{bytes-put, rows-put}
 use Rattle.run_model.proofs.ShortTexts.{written-short}
 use Rattle.run_model.proofs.TableLemmas.{AreTogether, IfRows, rows-at, rows-there, sum-set, together-with_tuples}
-use Rattle.history_model.specs.Built.{are_few, is_built, is_built_insert, takes_rows}
+use Rattle.history_model.specs.Built.{is_built, is_built_insert, takes_rows}
 use Rattle.transcript_model.proofs.BuiltStatements.{few-tuples, into-taking, tuples_most}
 use Rattle.transcript_model.proofs.SmallNets.{length-of_kinds, small-create, small-put, small-same}
 use Rattle.transcript_model.proofs.TakeRows.{TakeRows, takes-create}

@@ -41,7 +41,7 @@ use Rattle.query_model.specs.BoundStatement.{bound_statement, bound_unless, faul
 use Rattle.query_model.specs.ConditionFaults.{condition_faults, fault_step, kind_meant, operand_faults, operand_kind, together, unlike, where_faults}
 use Rattle.query_model.specs.Kinds.{are_compared, goes_with}
 use Rattle.query_model.specs.Refused.{lowest, sooner}
-use Rattle.query_model.specs.Scope.{NameBytes, Named, Scope, column_meant, no_column, table_named}
+use Rattle.query_model.specs.Scope.{NameBytes, Scope, column_meant, no_column, table_named}
 use Rattle.query_model.specs.SelectFaults.{from_faults, group_faults, is_grouped, item_faults, join_faults, listed_items, no_table, order_faults, scoped_faults, select_faults, select_scope}
 use Rattle.query_model.specs.Truth.{is_null}
 use Rattle.query_model.specs.WriteFaults.{column_in, columns_for, columns_left, insert_faults, insert_faults_in, list_faults, not_a_column, takes_no_null, tuple_faults, twice, value_faults, wrong_count}

@@ -6,7 +6,6 @@ use Rattle.std.proofs.lemmas.List.{length-append, length-map, map-append}
 use Rattle.std.proofs.lemmas.List.Sums.{sum_by_push, sum_by-cons}
 use Rattle.own_model.specs.declared.history.Entry.{Entry}
 use Rattle.own_model.specs.declared.history.Verdict.TheVariants.{Took}
-use Rattle.own_model.specs.declared.limit.TheConstants.{INPUT_BYTES, INPUT_CALLS, SESSIONS}
 use Rattle.own_model.specs.declared.request.Request.{Request}
 use Rattle.own_model.specs.declared.request.Request.TheVariants.{Run, Syntax, Limit, End}
 use Rattle.own_model.specs.declared.schema.Schema.{Schema}
@@ -191,8 +190,8 @@ module _ (calls : List ScriptCall) (input : AreOfInput calls) (readable : AllByR
   short-next done call rest history text is ran =
       let last : Called = record { call = call; want = Spared } in
       let all : map (λ (c : Called). c.call) (ran.called ++ last ∷ []) ++ rest ≡ calls =
-          ap (λ calls. calls ++ rest) (map-append (λ (c : Called). c.call) ran.called (last ∷ []) ∙ ap (λ calls. calls ++ call ∷ []) ran.calls_are)
-          ∙ (append_assoc done (call ∷ []) rest ∙ is) in
+      ap (λ calls. calls ++ rest) (map-append (λ (c : Called). c.call) ran.called (last ∷ []) ∙ ap (λ calls. calls ++ call ∷ []) ran.calls_are)
+      ∙ (append_assoc done (call ∷ []) rest ∙ is) in
       let grown = short-made (ran.called ++ last ∷ []) rest all in
       subst (λ h. IsShort (h ++ entry_of empty h call ∷ [])) (sym ran.history_is) (subst IsShort (made-append empty ran.called last) grown)
 

@@ -1,10 +1,9 @@
 -- Each table that holds rows takes rows: it isn't private, and none of its columns refers or is UNIQUE.
-use Rattle.std.proofs.Common.{◌≡◌, ℕ, zero, suc, ◌+◌, ◌<◌, List, [], ◌∷◌, ◌++◌, length, Bool, true, false, not, inl, inr, refl, ap, sym, ◌∙◌, arith}
+use Rattle.std.proofs.Common.{◌≡◌, ℕ, zero, suc, ◌<◌, List, [], ◌∷◌, ◌++◌, length, Bool, true, false, not, inl, inr, refl, ap, sym, ◌∙◌, arith}
 use Rattle.std.specs.Prelude.{◌⊎◌, ◌==◌, ◌&&◌, Option, None, Some, slice_get}
 use Rattle.std.specs.List.{list_all}
-use Rattle.std.specs.Option.{option_map, option_or}
-use Rattle.std.proofs.lemmas.Bool.{and_from, and_parts, eq-eqb, eqb-true, false_from_ne_true}
-use Rattle.std.proofs.lemmas.List.{length-append}
+use Rattle.std.specs.Option.{option_or}
+use Rattle.std.proofs.lemmas.Bool.{and_from, and_parts, eqb-true, false_from_ne_true}
 use Rattle.own_model.specs.declared.create.CreateTable.{CreateTable}
 use Rattle.own_model.specs.declared.refusal.Refusal.{Refusal}
 use Rattle.own_model.specs.declared.refusal.Refusal.TheVariants.{HasRows}
@@ -17,8 +16,6 @@ use Rattle.own_model.specs.Db.{AreRising, Row}
 use Rattle.own_model.specs.Stored.{holds_rows}
 use Rattle.schema_model.specs.Kinds.{gives_ownership, is_owns, is_upward}
 use Rattle.schema_model.specs.NewEdges.{new_edge, new_edges}
-use Rattle.schema_model.specs.NewTable.{new_table, tables_with}
-use Rattle.schema_model.specs.OwnerSchema.{IsOwnerSchema}
 use Rattle.schema_model.specs.References.{Reference, references_of}
 use Rattle.schema_model.specs.Refusal.{broken, closed, first_broken, owned_rows, past_limits, refusal_of, taken}
 use Rattle.schema_model.specs.Tables.{is_private, number_of}
@@ -27,7 +24,7 @@ use Rattle.schema_model.proofs.Admitted.{IsAdmitted, admitted, map_none}
 use Rattle.schema_model.proofs.Found.{find-none}
 use Rattle.schema_model.proofs.NewEdgeLemmas.{IsNewEdge, lower_down, lower_up, new_edge-made}
 use Rattle.schema_model.proofs.OwnerTables.{old_table}
-use Rattle.schema_model.proofs.Places.{IsIn, all-at, all-from_places, any-at, any-none, in_append, slice_get-push}
+use Rattle.schema_model.proofs.Places.{IsIn, all-at, all-from_places, any-at, any-none, in_append}
 use Rattle.schema_model.proofs.RuledLemmas.{kind_of_edge, reference_of_edge, target_of_edge}
 use Rattle.history_model.specs.Built.{is_without_constraint, takes_rows}
 

@@ -1,5 +1,5 @@
 -- Where rows stand in tables without references alone, no edge joins two of them, and a row weighs its size.
-use Rattle.std.proofs.Common.{◌≡◌, ℕ, zero, suc, ◌+◌, ◌*◌, ◌≤◌, List, [], ◌∷◌, ◌++◌, length, map, Bool, true, false, not, inl, inr, refl, ap, sym, subst, ◌∙◌, arith}
+use Rattle.std.proofs.Common.{◌≡◌, ℕ, zero, suc, ◌+◌, ◌≤◌, List, [], ◌∷◌, length, Bool, true, false, not, inl, inr, refl, ap, sym, subst, ◌∙◌, arith}
 use Rattle.std.specs.Prelude.{◌⊎◌, ◌&&◌, ◌==◌, Contains, Option, None, Some, find, is_none, is_some, slice_get, sum_by}
 use Rattle.std.specs.List.{list_all}
 use Rattle.std.specs.List.Sorted.{IsStrictlySortedBy}
@@ -31,7 +31,7 @@ use Rattle.subject_model.proofs.OwnerLemmas.{from_owns, owns_from, reaches_from}
 use Rattle.subject_model.proofs.OwnerLists.{owners_rise}
 use Rattle.state_model.specs.Weight.{at_least_one, row_weight, seers, view_weight, weight}
 use Rattle.state_model.proofs.Counts.{none-counted}
-use Rattle.history_model.specs.Built.{is_without_constraint, takes_rows}
+use Rattle.history_model.specs.Built.{is_without_constraint}
 use Rattle.transcript_model.proofs.TakeRows.{TakeRows}
 
 -- a name is no lower than itself
