@@ -19,4 +19,5 @@ pub mod RowsByKey
 pub mod SerialLemmas
 pub mod SinceLemmas
 pub mod SubjectLemmas
+pub mod UnmadeLemmas
 pub mod Worlds

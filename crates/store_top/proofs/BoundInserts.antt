@@ -14,6 +14,7 @@ use Rattle.own_model.specs.declared.refusal.Refusal.{Refusal}
 use Rattle.own_model.specs.declared.schema.Column.{Column as Definition}
 use Rattle.own_model.specs.declared.schema.Schema.{Schema}
 use Rattle.own_model.specs.declared.schema.TableDef.{TableDef}
+use Rattle.own_model.specs.declared.select.Select.{Select}
 use Rattle.own_model.specs.declared.statement.Statement.{Statement}
 use Rattle.own_model.specs.declared.statement.Statement.TheVariants as statement
 use Rattle.own_model.specs.Db.{Row}
@@ -27,8 +28,9 @@ use Rattle.query_model.specs.WriteMeaning.{given, is_for, put_row}
 use Rattle.readable_model.proofs.Literals.{no_sums}
 use Rattle.readable_model.proofs.NoFaults.{none-first, none-lowest}
 use Rattle.readable_model.proofs.Sources.{table-there}
-use Rattle.query_eval.specs.Stored.{AreStored, IsStored, IsStoredRow}
+use Rattle.query_model.specs.Stored.{AreStored, IsStored, IsStoredRow}
 use Rattle.store_top.specs.BoundThere.{NamesThere}
+use Rattle.store_top.specs.Built.{IsBound}
 use Rattle.store_top.proofs.BoundSelects.{select_there}
 
 abbrev IsNoSum : Value → Type 0
@@ -99,29 +101,33 @@ puts-insert schema name names tuples number rows written is =
       stored = subst AreStored put (found-stored (table_named schema name) names tuples (no_sums name names tuples written));
     }
 
-pub puts_there : (schema : Schema) (statement : Statement) (number : TableNo) (rows : List Row) → IsWritten STATEMENT_BYTES statement
-    → bound_statement schema statement ≡ Ok (bound.Insert number rows) → PutsThere schema number rows
+-- what an INSERT is bound to names what is there
+insert_there : (schema : Schema) (name : NameBytes) (names : Option (List NameBytes)) (tuples : List (List Value)) (got : Bound)
+    → IsWritten STATEMENT_BYTES (statement.Insert name names tuples) → bound_statement schema (statement.Insert name names tuples) ≡ Ok got → NamesThere schema got
 unfolding bound_statement faults meaning
-puts_there schema (statement.Insert name names tuples) number rows written is = puts-insert schema name names tuples number rows written is
-puts_there schema (statement.CreateTable table) number rows written is = let other = (bound_given _ _ _ is).1 in absurd (cc)
-puts_there schema (statement.CreateView view) number rows written is = let other = (bound_given _ _ _ is).1 in absurd (cc)
-puts_there schema (statement.Select select) number rows written is = let other = (bound_given _ _ _ is).1 in absurd (cc)
-puts_there schema (statement.Update table sets cond) number rows written is = let other = (bound_given _ _ _ is).1 in absurd (cc)
-puts_there schema (statement.Delete table cond) number rows written is = let other = (bound_given _ _ _ is).1 in absurd (cc)
-puts_there schema statement.Begin number rows written is = let other = (bound_given _ _ _ is).1 in absurd (cc)
-puts_there schema statement.Commit number rows written is = let other = (bound_given _ _ _ is).1 in absurd (cc)
-puts_there schema statement.Rollback number rows written is = let other = (bound_given _ _ _ is).1 in absurd (cc)
-puts_there schema (statement.GdprGet table key) number rows written is = let other = (bound_given _ _ _ is).1 in absurd (cc)
-puts_there schema (statement.GdprForget table key) number rows written is = let other = (bound_given _ _ _ is).1 in absurd (cc)
-puts_there schema statement.Explain number rows written is = let other = (bound_given _ _ _ is).1 in absurd (cc)
-puts_there schema statement.Checkpoint number rows written is = let other = (bound_given _ _ _ is).1 in absurd (cc)
+insert_there schema name names tuples (bound.Insert number rows) written is =
+    let puts = puts-insert schema name names tuples number rows written is in (puts.there, puts.stored)
+insert_there schema name names tuples (bound.Select query) written is = let other = (bound_given _ _ _ is).1 in absurd (cc)
+insert_there schema name names tuples (bound.Update table sets cond) written is = let other = (bound_given _ _ _ is).1 in absurd (cc)
+insert_there schema name names tuples (bound.Delete table cond) written is = let other = (bound_given _ _ _ is).1 in absurd (cc)
+insert_there schema name names tuples (bound.Get subject) written is = let other = (bound_given _ _ _ is).1 in absurd (cc)
+insert_there schema name names tuples (bound.Forget subject) written is = let other = (bound_given _ _ _ is).1 in absurd (cc)
+insert_there schema name names tuples bound.Explain written is = let other = (bound_given _ _ _ is).1 in absurd (cc)
 
--- what a bound statement names is there
-pub names_there : (schema : Schema) (statement : Statement) (bound : Bound) → IsWritten STATEMENT_BYTES statement → bound_statement schema statement ≡ Ok bound → NamesThere schema bound
-names_there schema statement (bound.Select query) written is = select_there schema statement query is
-names_there schema statement (bound.Insert number rows) written is = let puts = puts_there schema statement number rows written is in (puts.there, puts.stored)
-names_there schema statement (bound.Update table sets cond) written is = tt
-names_there schema statement (bound.Delete table cond) written is = tt
-names_there schema statement (bound.Get subject) written is = tt
-names_there schema statement (bound.Forget subject) written is = tt
-names_there schema statement bound.Explain written is = tt
+-- and so does what a SELECT is bound to
+source_there : (schema : Schema) (select : Select) (got : Bound) → bound_statement schema (statement.Select select) ≡ Ok got → NamesThere schema got
+unfolding bound_statement faults meaning
+source_there schema select (bound.Select query) is = select_there schema (statement.Select select) query is
+source_there schema select (bound.Insert number rows) is = let other = (bound_given _ _ _ is).1 in absurd (cc)
+source_there schema select (bound.Update table sets cond) is = let other = (bound_given _ _ _ is).1 in absurd (cc)
+source_there schema select (bound.Delete table cond) is = let other = (bound_given _ _ _ is).1 in absurd (cc)
+source_there schema select (bound.Get subject) is = let other = (bound_given _ _ _ is).1 in absurd (cc)
+source_there schema select (bound.Forget subject) is = let other = (bound_given _ _ _ is).1 in absurd (cc)
+source_there schema select bound.Explain is = let other = (bound_given _ _ _ is).1 in absurd (cc)
+
+-- what a statement is bound to names what is there
+pub names_there : (schema : Schema) (statement : Statement) (bound : Bound) → IsBound statement → IsWritten STATEMENT_BYTES statement
+    → bound_statement schema statement ≡ Ok bound → NamesThere schema bound
+names_there schema (statement.Select select) bound runs written is = source_there schema select bound is
+names_there schema (statement.Insert name names tuples) bound runs written is = insert_there schema name names tuples bound written is
+names_there schema _ bound runs written is = absurd runs

@@ -10,8 +10,8 @@ use Rattle.own_model.specs.Db.{Db}
 use Rattle.own_model.specs.Stored.{holds_rows}
 use Rattle.schema_model.specs.WithTable.{with_table}
 use Rattle.text_model.specs.Canonical.{canonical}
-use Rattle.history_model.specs.Create.{create}
-use Rattle.history_model.specs.Run.{Outcome, create_table}
+use Rattle.state_model.specs.Create.{create}
+use Rattle.run_model.specs.Run.{Outcome, create_table}
 use Rattle.store_top.specs.State.{db_with}
 
 -- an outcome, by its parts

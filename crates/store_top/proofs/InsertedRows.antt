@@ -11,11 +11,11 @@ use Rattle.own_model.specs.declared.reply.Reply.TheVariants.{Counted, Refused}
 use Rattle.own_model.specs.declared.schema.TableDef.{TableDef}
 use Rattle.own_model.specs.Db.{Db, IsRising, Row}
 use Rattle.own_model.specs.Stored.{rows_at}
-use Rattle.history_model.specs.Insert.{with_tuples}
-use Rattle.history_model.specs.Run.{answered, insert}
-use Rattle.history_model.proofs.RisingKeys.{rising-at, rising-set}
-use Rattle.history_model.proofs.TableLemmas.{AreTogether, IfRows, together-with_tuples}
-use Rattle.query_eval.specs.Stored.{AreStored, IsStoredRow}
+use Rattle.run_model.specs.Insert.{with_tuples}
+use Rattle.run_model.specs.Run.{answered, insert}
+use Rattle.run_model.proofs.RisingKeys.{rising-at, rising-set}
+use Rattle.run_model.proofs.TableLemmas.{AreTogether, IfRows, together-with_tuples}
+use Rattle.query_model.specs.Stored.{AreStored, IsStoredRow}
 use Rattle.query_eval.proofs.TableRows.{stored_at}
 use Rattle.table_part.specs.Part.{Part, rows_of}
 use Rattle.store_top.specs.Kept.{IsKept}

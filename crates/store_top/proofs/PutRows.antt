@@ -1,5 +1,5 @@
 -- A row that is put into a part goes to its place by key.
-use Rattle.std.proofs.Common.{Bor, ◌≡◌, ◌∙◌, List, [], ◌∷◌, map, Bool, true, false, refl, ap, sym}
+use Rattle.std.proofs.Common.{Bor, ◌≡◌, ◌∙◌, List, [], ◌∷◌, map, Bool, true, false, refl, ap, subst, sym}
 use Rattle.std.specs.Prelude.{◌||◌, Option, Some, None, Ok, Err, cond, find, is_some}
 use Rattle.std.specs.List.{AllByRecursion, list_any}
 use Rattle.std.specs.Option.{option_copied}
@@ -13,8 +13,9 @@ use Rattle.own_model.proofs.KeyOrder.{key_order}
 use Rattle.own_model.specs.declared.schema.TableDef.{TableDef}
 use Rattle.own_model.specs.Db.{IsRising, Row, key_of}
 use Rattle.own_model.specs.Stored.{has_key}
-use Rattle.history_model.specs.Insert.{with_row, with_tuple}
-use Rattle.history_model.proofs.RisingKeys.{rising_next}
+use Rattle.run_model.specs.Insert.{with_row, with_tuple, with_tuples}
+use Rattle.run_model.proofs.TableLemmas.{IfRows}
+use Rattle.run_model.proofs.RisingKeys.{rising-with_tuples}
 use Rattle.page_model.specs.Changed.{above_key, below_key, with_change}
 use Rattle.page_model.specs.Found.{found}
 use Rattle.table_part.specs.KeyIn.{key_in}
@@ -105,5 +106,6 @@ put-absent table row rows new column key put rising absent same keyed kept is =
 -- which is one of the table's rows
 pub put-into : (table : TableDef) (row : Row) (rows : List Row) (part : Part) → IsRising table rows → Ok (rows_of part) ≡ with_tuple table rows row
     → part.key ≡ table.key → IsPartOf table part
+unfolding with_tuples
 put-into table row rows part rising is keyed =
-    record { keyed = keyed; rising = rising_next table (Ok rows) row rising (Ok (rows_of part)) (sym is) }
+    record { keyed = keyed; rising = subst (IfRows (IsRising table)) (sym is) (rising-with_tuples table rows (row ∷ []) rising) }

@@ -10,7 +10,7 @@ use Rattle.own_model.specs.Db.{empty}
 use Rattle.history_model.specs.History.{History}
 use Rattle.script_model.specs.Script.{HasCalls, IsScript}
 use Rattle.history_model.specs.Serial.{Serial}
-use Rattle.transcript_model.proofs.SerialLemmas.{serial-few, serial-ran}
+use Rattle.transcript_model.proofs.ShortHistories.{serial-none, serial-ran}
 use Rattle.store_top.specs.declared.served.TopFault.{TopFault}
 use Rattle.store_top.specs.declared.served.TopFault.TheVariants.{Usage, Read, Write, Disk, Damaged, Input, Memory}
 use Rattle.store_top.specs.Steps.{StopsAtCall, ToldBefore, ToldInPart}
@@ -80,8 +80,8 @@ module _ (remaining_old remaining_new written_old written_new : Option (List ℕ
       }
 
 -- the empty history is Serial
-pub serial-none : (history : History) → history ≡ [] → Serial empty history
-serial-none history is = subst (Serial empty) (sym is) (serial-few [] (omega arith) (omega arith) tt tt)
+pub serial-silent : (history : History) → history ≡ [] → Serial empty history
+serial-silent history is = subst (Serial empty) (sym is) serial-none
 
 serial_stopped : (bytes : List ℕ) (calls : List ScriptCall) (history : History) (Told : List ℕ → List ℕ → Type 0) → HasCalls bytes calls
     → StopsAtCall calls history Told → Serial empty history
@@ -95,9 +95,9 @@ pub serial-bytes : (bytes : List ℕ) (history : History) (old new : Option (Lis
 serial-bytes bytes history old new rose silent none None serves =
     serial-ran bytes serves.0 serves.0 [] history serves.2.text serves.1 (append-nil serves.0) serves.2.transcript
 serial-bytes bytes history old new rose silent none (Some Write) serves = serial_stopped bytes serves.0 history _ serves.1 serves.3
-serial-bytes bytes history old new rose silent none (Some Memory) (is_text, inl nothing) = serial-none history (none nothing)
+serial-bytes bytes history old new rose silent none (Some Memory) (is_text, inl nothing) = serial-silent history (none nothing)
 serial-bytes bytes history old new rose silent none (Some Memory) (is_text, inr some) = serial_stopped bytes some.0 history _ some.1 some.2
-serial-bytes bytes history old new rose silent none (Some (Input why)) serves = serial-none history (none serves.2)
+serial-bytes bytes history old new rose silent none (Some (Input why)) serves = serial-silent history (none serves.2)
 serial-bytes bytes history old new rose silent none (Some Usage) serves = absurd serves
 serial-bytes bytes history old new rose silent none (Some Read) serves = absurd serves
 serial-bytes bytes history old new rose silent none (Some Disk) serves = absurd serves

@@ -8,7 +8,9 @@ use Rattle.own_model.specs.Db.{empty}
 use Rattle.script_model.specs.Numbered.{AreNumbered}
 use Rattle.history_model.specs.History.{History}
 use Rattle.history_model.specs.Made.{Want, Spared, Unshown, Unmade, added, entry_of}
+use Rattle.transcript_model.specs.Short.{AreOfInput, IsShort}
 use Rattle.transcript_model.specs.Transcript.{text_of_call}
+use Rattle.transcript_model.proofs.ShortHistories.{short-next}
 use Rattle.transcript_model.proofs.PrintedLemmas.{CallsWithin, EntriesWithin}
 use Rattle.transcript_model.proofs.TranscriptLemmas.{calls_within-more, entries_within-more, transcript-more, transcript-none}
 use Rattle.store_top.specs.declared.steps.RunFault.{RunFault}
@@ -82,6 +84,12 @@ serving-more calls done call rest history after old mid new before served step =
       entries_within = rw step.history_is (entries_within-more empty done history call step.want next before.entries_within);
       few = let le = before.few in let more = few_added history call step.want in rw long (rw step.history_is (omega arith));
     }
+
+-- with the entry of the next call the history is short
+pub serving-short : (calls done : List ScriptCall) (call : ScriptCall) (rest : List ScriptCall) (history : History) (old mid : Option (List ℕ))
+    → AreOfInput calls → AreReadable calls → Serving calls done (call ∷ rest) history old mid → IsShort (history ++ entry_of empty history call ∷ [])
+serving-short calls done call rest history old mid input readable before =
+    short-next calls input readable done call rest history before.runs.text before.whole before.runs.transcript
 
 -- a fault comes at one more
 module _ (calls done : List ScriptCall) (call : ScriptCall) (rest : List ScriptCall) (history after : History) (old mid new : Option (List ℕ))

@@ -4,7 +4,7 @@ use Rattle.own_model.specs.declared.schema.Schema.{Schema}
 use Rattle.own_model.specs.Db.{Db, IsOrdered}
 use Rattle.query_model.specs.WithinLimits.{AreViewsWithin}
 use Rattle.query_eval.specs.Sources.{IsBaseOf}
-use Rattle.query_eval.specs.Stored.{AreStored}
+use Rattle.query_model.specs.Stored.{AreStored}
 
 -- the query of each view reads tables that are there
 abbrev pub AreViewsThere : Schema → Type 0

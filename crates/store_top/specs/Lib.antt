@@ -1,4 +1,5 @@
 pub mod BoundThere
+pub mod Built
 pub mod Engine
 pub mod Kept
 pub mod Put

@@ -4,7 +4,7 @@ ghost use Rattle.own_model.specs.declared.statement.Statement.TheVariants.{Creat
 ghost use Rattle.own_model.specs.declared.limit.TheConstants.{STATEMENT_BYTES};
 ghost use Rattle.grammar_model.specs.Readable.{IsWritten};
 ghost use Rattle.annot_schema.specs.Created.{IsAdmissible};
-ghost use Rattle.history_model.specs.Run.{create_table};
+ghost use Rattle.run_model.specs.Run.{create_table};
 ghost use Rattle.store_top.specs.State.{db_with};
 
 use crate::state::State;
@@ -18,7 +18,7 @@ use table_part::TablePart;
 
 impl State {
     /// CREATE TABLE, which the statement is. Where memory is refused, nothing changes.
-    #[tactic(auto, unfolding(history_model::specs::Run::create_table))]
+    #[tactic(auto, unfolding(run_model::specs::Run::create_table))]
     pub(crate) fn create(
         &mut self,
         alloc: Global,

@@ -6,6 +6,7 @@ ghost use Rattle.history_model.specs.History.{flat, reply};
 ghost use Rattle.history_model.specs.Made.{entry_of};
 ghost use Rattle.history_model.specs.MayBeUnmade.{MayBeUnmade};
 ghost use Rattle.transcript_model.specs.Printed.{Tells};
+ghost use Rattle.transcript_model.specs.Short.{IsShort};
 ghost use Rattle.store_top.specs.Engine.{HoldsFlat, HoldsFlatBeforeLast};
 
 use crate::state::State;
@@ -58,6 +59,7 @@ impl Engine {
         requires holds { HoldsFlat self.old }
         requires room { vec_len self.old.history < vec_capacity self.old.history }
         requires readable { IsReadable call.request }
+        requires short { IsShort (self.old.history.items ++ entry_of empty self.old.history.items call ∷ []) }
         ensures holds { HoldsFlat self.new }
         ensures made { OnOk result (self.new.history.items ≡ self.old.history.items ++ entry_of empty self.old.history.items call ∷ []) }
         ensures told { IfOk result (λ answered. (answered.place.0 ≡ length self.old.history.items)
@@ -94,6 +96,7 @@ impl Engine {
         requires before { HoldsFlatBeforeLast self.old }
         requires some { 0 < vec_len self.old.history }
         requires readable { (default : _) → IsReadable (slice_index_or self.old.history.items (vec_len self.old.history - 1) default).request }
+        requires short { IsShort self.old.history.items }
         ensures holds { HoldsFlat self.new }
         ensures made { OnOk result (self.new.history.items ≡ self.old.history.items) }
         ensures told { IfOk result (λ answered. (answered.place.0 + 1 ≡ vec_len self.old.history)

@@ -1,5 +1,5 @@
 ghost use Rattle.std.specs.Prelude.{◌≡◌, IfOk, OnErr};
-ghost use Rattle.history_model.specs.Insert.{and_tuple, with_tuple, with_tuples};
+ghost use Rattle.run_model.specs.Insert.{and_tuple, with_tuple, with_tuples};
 ghost use Rattle.table_part.specs.Part.{rows_of};
 ghost use Rattle.store_top.specs.Put.{rows_unless, IsPartOf, StaysWhere};
 
@@ -61,7 +61,7 @@ fn and_row(
 }
 
 /// Puts rows into the part of their table, one after another, up to the first whose key is there.
-#[tactic(auto, unfolding(history_model::specs::Insert::with_tuples))]
+#[tactic(auto, unfolding(run_model::specs::Insert::with_tuples))]
 fn put_each(
     alloc: Global,
     number: TableNo,
@@ -82,7 +82,7 @@ fn put_each(
 
 /// Puts rows into the part of their table, all of them or none; answers the first key that is there. More than one go
 /// into a part beside it first.
-#[tactic(auto, unfolding(history_model::specs::Insert::with_tuples))]
+#[tactic(auto, unfolding(run_model::specs::Insert::with_tuples))]
 pub(crate) fn put_rows(
     alloc: Global,
     number: TableNo,

@@ -5,6 +5,7 @@ ghost use Rattle.own_model.specs.declared.script.InputFault.{InputFault as Input
 ghost use Rattle.own_model.specs.Db.{empty};
 ghost use Rattle.script_model.specs.Numbered.{AreNumbered};
 ghost use Rattle.history_model.specs.Serial.{Serial};
+ghost use Rattle.transcript_model.specs.Short.{AreOfInput};
 ghost use Rattle.store_top.specs.Engine.{HoldsFlat};
 ghost use Rattle.store_top.specs.Status.{status_of};
 ghost use Rattle.store_words.specs.Words.{mode_of};
@@ -47,6 +48,7 @@ fn without_calls(alloc: Global, fault: TopFault) -> Ended
 fn serve_script<W: Sink>(alloc: Global, calls: Vec<ScriptCall>, sink: &mut W) -> Ended
     requires numbered { AreNumbered [] calls.items }
     requires readable { AreReadable calls.items }
+    requires input { AreOfInput calls.items }
     ensures { ServesCalls calls.items result.history (W.written sink.old) (W.written sink.new) (CountRose (W.faults sink.old) (W.faults sink.new))
         ((sink.new ≡ sink.old) × (result.history ≡ [])) result.fault }
 {
@@ -71,6 +73,7 @@ fn serve_engine<W: Sink>(
     requires room { vec_len calls ≤ vec_capacity engine.history }
     requires numbered { AreNumbered [] calls.items }
     requires readable { AreReadable calls.items }
+    requires input { AreOfInput calls.items }
     ensures { ServesCalls calls.items result.history (W.written sink.old) (W.written sink.new) (CountRose (W.faults sink.old) (W.faults sink.new))
         ((sink.new ≡ sink.old) × (result.history ≡ [])) result.fault }
 {

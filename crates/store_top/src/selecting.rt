@@ -8,7 +8,7 @@ ghost use Rattle.schema_model.specs.WithinLimits.{IsWithinLimits};
 ghost use Rattle.query_model.specs.Query.{query_rows, reply_of};
 ghost use Rattle.readable_model.specs.Sources.{IsThere};
 ghost use Rattle.grammar_model.specs.Readable.{IsWritten};
-ghost use Rattle.history_model.specs.Run as spec;
+ghost use Rattle.run_model.specs.Run as spec;
 ghost use Rattle.transcript_model.specs.Printed.{MayTell};
 ghost use Rattle.store_top.specs.Kept.{IsKept};
 

@@ -1,17 +1,19 @@
-ghost use Rattle.std.specs.Prelude.{◌≡◌, ◌≢◌, ◌<◌, length, IfOk, OnOk, OnErr};
+ghost use Rattle.std.specs.Prelude.{◌≡◌, ◌≢◌, ◌<◌, length, true, IfOk, OnOk, OnErr};
 ghost use Rattle.own_model.specs.declared.limit.TheConstants.{STATEMENT_BYTES};
 ghost use Rattle.own_model.specs.declared.refusal.Refusal.TheVariants.{Memory};
 ghost use Rattle.own_model.specs.declared.reply.Reply.TheVariants.{Graph, Refused};
 ghost use Rattle.grammar_model.specs.Readable.{IsReadable, IsWritten};
-ghost use Rattle.history_model.specs.History.{answer_to, left_by};
+ghost use Rattle.history_model.specs.Built.{is_built};
 ghost use Rattle.history_model.specs.MayBeUnmade.{MayBeUnmade, MayFail};
-ghost use Rattle.history_model.specs.Run.{insert, run, run_bound, run_unless};
+ghost use Rattle.run_model.specs.Run.{insert, run, run_bound, run_unless};
 ghost use Rattle.query_model.specs.BoundStatement.{bound_statement};
-ghost use Rattle.query_eval.specs.Stored.{AreStored};
+ghost use Rattle.query_model.specs.Stored.{AreStored};
 ghost use Rattle.schema_model.specs.Explained.{explained};
 ghost use Rattle.schema_model.specs.WithinLimits.{IsWithinLimits};
+ghost use Rattle.transcript_model.specs.PlainAnswer.{plain_answer, plain_left};
 ghost use Rattle.transcript_model.specs.Printed.{MayTell};
 ghost use Rattle.store_top.specs.BoundThere.{NamesThere};
+ghost use Rattle.store_top.specs.Built.{IsBound, IsBuilt};
 ghost use Rattle.store_top.specs.Kept.{IsKept};
 
 use crate::rows::put_rows;
@@ -34,7 +36,7 @@ fn refused(why: Refusal) -> Result<Reply, AllocError>
 
 impl State {
     /// INSERT that is bound.
-    #[tactic(auto, unfolding(history_model::specs::Run::insert))]
+    #[tactic(auto, unfolding(run_model::specs::Run::insert))]
     fn insert(
         &mut self,
         alloc: Global,
@@ -78,7 +80,7 @@ impl State {
     }
 
     /// Runs a bound statement. Where memory is refused for the rows of a SELECT, `Memory` is told in their place.
-    #[tactic(auto, unfolding(history_model::specs::Run::run_bound))]
+    #[tactic(auto, unfolding(run_model::specs::Run::run_bound))]
     fn run_bound(&mut self, alloc: Global, bound: Bound) -> Result<Reply, AllocError>
         requires kept { IsKept self.old }
         requires there { NamesThere self.old.schema bound }
@@ -103,7 +105,8 @@ impl State {
     /// Runs a statement by what it means, or refuses it.
     #[tactic(auto, using(readable_model::proofs::Within::statement_within))]
     fn run_by_meaning(&mut self, alloc: Global, statement: &Statement) -> Result<Reply, AllocError>
-        requires { IsWritten STATEMENT_BYTES statement.now }
+        requires written { IsWritten STATEMENT_BYTES statement.now }
+        requires bound { IsBound statement.now }
         ensures left { OnOk result (self.new ≡ (run_unless self.old (bound_statement self.old.schema statement.now)).db) }
         ensures told { IfOk result (λ reply. MayTell reply (run_unless self.old (bound_statement self.old.schema statement.now)).reply) }
         ensures err { OnErr result (self.new ≡ self.old) }
@@ -118,9 +121,10 @@ impl State {
 impl State {
     /// Runs a statement. Where memory is refused, nothing changes; where it is refused for what is shown alone, for the
     /// rows of a SELECT or the lines of EXPLAIN COMPLIANCE, `Memory` is told in their place.
-    #[tactic(auto, unfolding(history_model::specs::Run::run))]
+    #[tactic(auto, unfolding(run_model::specs::Run::run))]
     fn run(&mut self, alloc: Global, statement: &Statement) -> Result<Reply, AllocError>
-        requires { IsWritten STATEMENT_BYTES statement.now }
+        requires written { IsWritten STATEMENT_BYTES statement.now }
+        requires built { is_built self.old.schema statement.now ≡ true }
         ensures left { OnOk result (self.new ≡ (run self.old statement.now).db) }
         ensures told { IfOk result (λ reply. MayTell reply (run self.old statement.now).reply) }
         ensures err { OnErr result (self.new ≡ self.old) }
@@ -135,11 +139,12 @@ impl State {
 
     /// Answers a request. Where memory is refused, nothing changes; where it is refused for what is shown alone, `Memory`
     /// is told in its place.
-    #[tactic(auto, unfolding(history_model::specs::History::answer_to, history_model::specs::History::left_by))]
+    #[tactic(auto, unfolding(transcript_model::specs::PlainAnswer::plain_answer, transcript_model::specs::PlainAnswer::plain_left))]
     pub(crate) fn answer(&mut self, alloc: Global, request: &Request) -> Result<Reply, AllocError>
-        requires { IsReadable request.now }
-        ensures told { IfOk result (λ reply. MayTell reply (answer_to self.old request.now)) }
-        ensures left { OnOk result (self.new ≡ left_by self.old request.now) }
+        requires readable { IsReadable request.now }
+        requires built { IsBuilt self.old.schema request.now }
+        ensures told { IfOk result (λ reply. MayTell reply (plain_answer self.old request.now)) }
+        ensures left { OnOk result (self.new ≡ plain_left self.old request.now) }
         ensures err { OnErr result (self.new ≡ self.old) }
         ensures spared { OnErr result (MayBeUnmade request.now) }
     {

@@ -1,8 +1,11 @@
-ghost use Rattle.std.specs.Prelude.{◌≡◌, ◌<◌, ◌≤◌, [], vec_len, OnOk, Err};
+ghost use Rattle.std.specs.Prelude.{◌≡◌, ◌<◌, ◌≤◌, ◌++◌, ◌∷◌, [], vec_len, OnOk, Err};
 ghost use Rattle.std.specs.Vec.{vec_capacity};
 ghost use Rattle.outer_world.specs.FaultCount.{CountRose};
+ghost use Rattle.own_model.specs.Db.{empty};
 ghost use Rattle.grammar_model.specs.Readable.{IsReadable};
 ghost use Rattle.script_model.specs.Numbered.{AreNumbered};
+ghost use Rattle.history_model.specs.Made.{entry_of};
+ghost use Rattle.transcript_model.specs.Short.{AreOfInput, IsShort};
 ghost use Rattle.store_top.specs.Engine.{HoldsFlat};
 ghost use Rattle.store_top.specs.Steps.{AreReadable, MakesCall, MakesCallTo, RunsTo, StopsAtCall, ToldBefore, ToldInPart};
 
@@ -28,6 +31,7 @@ fn lines_of_call(engine: &mut Engine, alloc: Global, call: ScriptCall) -> Result
     requires holds { HoldsFlat engine.old }
     requires room { vec_len engine.old.history < vec_capacity engine.old.history }
     requires readable { IsReadable call.request }
+    requires short { IsShort (engine.old.history.items ++ entry_of empty engine.old.history.items call ∷ []) }
     ensures holds { HoldsFlat engine.new }
     ensures makes { MakesCall (λ text. text) call engine.old.history.items engine.new.history.items result }
     ensures room { vec_capacity engine.old.history ≤ vec_capacity engine.new.history }
@@ -65,6 +69,7 @@ fn serve_call<W: Sink>(
     requires holds { HoldsFlat engine.old }
     requires room { vec_len engine.old.history < vec_capacity engine.old.history }
     requires readable { IsReadable call.request }
+    requires short { IsShort (engine.old.history.items ++ entry_of empty engine.old.history.items call ∷ []) }
     ensures holds { HoldsFlat engine.new }
     ensures makes { MakesCallTo call engine.old.history.items engine.new.history.items (W.written sink.old) (W.written sink.new) result }
     ensures room { vec_capacity engine.old.history ≤ vec_capacity engine.new.history }
@@ -89,6 +94,7 @@ pub(crate) fn serve_calls<W: Sink>(
     requires room { vec_len calls ≤ vec_capacity engine.old.history }
     requires numbered { AreNumbered [] calls.items }
     requires readable { AreReadable calls.items }
+    requires input { AreOfInput calls.items }
 
     ensures served { OnOk result (RunsTo calls.items engine.new.history.items (W.written sink.old) (W.written sink.new)) }
     ensures broken { result ≡ Err RunFault.Write → StopsAtCall calls.items engine.new.history.items (ToldInPart (W.written sink.old) (W.written sink.new)) }

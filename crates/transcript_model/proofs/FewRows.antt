@@ -1,54 +1,58 @@
--- How few rows a statement leaves, and how light they are.
-use Rattle.std.proofs.Common.{◌≡◌, ℕ, ◌+◌, ◌*◌, ◌≤◌, List, [], ◌∷◌, ◌++◌, length, map, true, refl, arith}
-use Rattle.std.specs.Prelude.{Option, Some, None, Result, Ok, Err, flat_map, is_none, slice_get, sum_by, if◌then◌else◌}
+-- How few rows a statement leaves, how light they are, and that they stand in tables that take rows.
+use Rattle.std.proofs.Common.{◌≡◌, ℕ, ◌+◌, ◌*◌, ◌≤◌, List, [], ◌∷◌, ◌++◌, length, map, Bool, true, false, refl, arith}
+use Rattle.std.specs.Prelude.{◌==◌, Option, Some, None, Ok, flat_map, slice_get, slice_set, sum_by}
 use Rattle.std.specs.List.{AllByRecursion}
-use Rattle.std.specs.Option.{option_map_or}
-use Rattle.std.proofs.lemmas.List.{length-map}
+use Rattle.std.proofs.lemmas.Bool.{eq-eqb, eqb-true}
+use Rattle.std.proofs.lemmas.List.{get_or-set_other, length-map}
 use Rattle.std.proofs.lemmas.List.Sums.{sum_by_push, sum_by-cons}
 use Rattle.own_base.specs.Row.{row_size, value_size}
 use Rattle.own_base.specs.declared.row.TheConstants.{ROW_SIZE}
-use Rattle.own_base.specs.declared.value.Key.{Key}
 use Rattle.own_base.specs.declared.value.TheConstants.{VALUE_SIZE}
 use Rattle.own_base.specs.declared.value.Value.{Value}
 use Rattle.own_base.specs.declared.value.Value.TheVariants as value
-use Rattle.own_model.specs.declared.bound.BoundSelect.{BoundSelect}
-use Rattle.own_model.specs.declared.bound.Bound.TheVariants as bound
 use Rattle.own_model.specs.declared.create.CreateTable.{CreateTable}
-use Rattle.own_model.specs.declared.limit.TheConstants.{STATEMENT_BYTES, TABLE_COLUMNS}
-use Rattle.own_model.specs.declared.refusal.Refusal.{Refusal}
-use Rattle.own_model.specs.declared.refusal.Refusal.TheVariants.{NoTable}
-use Rattle.own_model.specs.declared.request.Request.{Request}
-use Rattle.own_model.specs.declared.request.Request.TheVariants.{Run, Syntax, Limit, End}
-use Rattle.own_model.specs.declared.schema.Column.{Column}
+use Rattle.own_model.specs.declared.limit.TheConstants.{PAYLOAD_BYTES, STATEMENT_BYTES, TABLE_COLUMNS}
+use Rattle.own_model.specs.declared.reply.Reply.{Reply}
+use Rattle.own_model.specs.declared.request.Request.TheVariants.{Run}
+use Rattle.own_model.specs.declared.schema.Schema.{Schema}
 use Rattle.own_model.specs.declared.schema.TableDef.{TableDef}
 use Rattle.own_model.specs.declared.statement.Statement.{Statement}
 use Rattle.own_model.specs.declared.statement.Statement.TheVariants as statement
 use Rattle.own_model.specs.Db.{Db, Row, empty}
-use Rattle.own_model.specs.Stored.{rows_at}
-use Rattle.own_model.specs.TextBytes.{asked_bytes, put_bytes, text_bytes, tuple_bytes}
-use Rattle.schema_model.specs.NewTable.{new_table}
+use Rattle.own_model.specs.Stored.{holds_rows, rows_at}
+use Rattle.own_model.specs.TextBytes.{put_bytes, text_bytes, tuple_bytes}
+use Rattle.schema_model.specs.Refusal.{refusal_of}
 use Rattle.schema_model.specs.WithTable.{with_table}
-use Rattle.schema_model.specs.WithinLimits.{IsTableWithin, IsWithinLimits}
+use Rattle.schema_model.specs.WithinLimits.{IsTableWithin}
 use Rattle.schema_model.proofs.Places.{all-at, append-none, flat_map-none}
-use Rattle.query_model.specs.BoundStatement.{bound_statement, bound_unless, faults, meaning}
-use Rattle.query_model.specs.Refused.{lowest}
-use Rattle.query_model.specs.Scope.{NameBytes, table_named}
-use Rattle.query_model.specs.WriteFaults.{insert_faults, insert_faults_in, list_faults, tuple_faults}
+use Rattle.query_model.specs.BoundStatement.{faults, meaning}
+use Rattle.query_model.specs.Scope.{NameBytes}
+use Rattle.query_model.specs.SelectFaults.{no_table}
+use Rattle.query_model.specs.SelectMeaning.{table_number}
+use Rattle.query_model.specs.WriteFaults.{insert_faults, list_faults, tuple_faults}
 use Rattle.query_model.specs.WriteMeaning.{put_row}
-use Rattle.grammar_model.specs.Readable.{IsReadable, IsWritten}
+use Rattle.grammar_model.specs.Readable.{IsReadable}
 use Rattle.readable_model.proofs.Literals.{no_sums}
 use Rattle.readable_model.proofs.NoFaults.{none-lowest}
-use Rattle.history_model.specs.Built.{built, is_built}
-use Rattle.history_model.specs.Create.{create}
-use Rattle.history_model.specs.Fault.{row_count, weight}
-use Rattle.history_model.specs.History.{left_by}
-use Rattle.history_model.specs.Run.{create_table, create_unless, insert, put, run, run_bound, run_unless}
-use Rattle.history_model.specs.Sound.{AreOfKinds, AreRowsOf, IsRowOf}
-use Rattle.history_model.proofs.TableLemmas.{AreTogether, IfRows, rows-append, rows-at, rows-set, rows-there, sum-set, together-with_tuples}
-use Rattle.transcript_model.proofs.BuiltStatements.{few-tuples, is_built-of, tuples_most}
-use Rattle.transcript_model.proofs.PlainKinds.{ArePlainTables, IsPlainTable, plain-with_table}
-use Rattle.transcript_model.proofs.PutRows.{IfNumbered, IsNoSum, bytes-put, numbered-found, rows-put}
-use Rattle.transcript_model.proofs.ShortTexts.{AreShort, written-short}
+use Rattle.state_model.specs.Create.{create}
+use Rattle.state_model.specs.Net.{net}
+use Rattle.state_model.specs.Payload.{payload_bytes}
+use Rattle.state_model.specs.Rows.{IsRowOf}
+use Rattle.state_model.specs.Sound.{IsKept}
+use Rattle.state_model.specs.Weight.{row_count}
+use Rattle.state_model.proofs.CreatedSchema.{plain-created, within-created}
+use Rattle.state_model.proofs.PlainKinds.{IsPlainTable}
+use Rattle.run_model.specs.Insert.{with_tuples}
+use Rattle.run_model.specs.Run.{Outcome, answered, run}
+use Rattle.run_model.proofs.Numbered.{named-at}
+use Rattle.run_model.proofs.Outcomes.{IfBinds, IfRuns, of-statement}
+use Rattle.run_model.proofs.PutRows.{bytes-put, rows-put}
+use Rattle.run_model.proofs.ShortTexts.{written-short}
+use Rattle.run_model.proofs.TableLemmas.{AreTogether, IfRows, rows-at, rows-there, sum-set, together-with_tuples}
+use Rattle.history_model.specs.Built.{is_built, is_built_insert, takes_rows}
+use Rattle.transcript_model.proofs.BuiltStatements.{few-tuples, into-taking, tuples_most}
+use Rattle.transcript_model.proofs.SmallNets.{length-of_kinds, small-create, small-put, small-same}
+use Rattle.transcript_model.proofs.TakeRows.{TakeRows, takes-create}
 
 -- a value takes its size without text, and its bytes
 size_of : (value : Value) → value_size value ≡ VALUE_SIZE + text_bytes value
@@ -66,13 +70,6 @@ size_of_all (value ∷ values) =
     let sizes = sum_by-cons value_size value values in
     let bytes = sum_by-cons text_bytes value values in
     omega arith
-
--- a row has as many values as there are columns
-length-of_kinds : (columns : List Column) (values : List Value) → AreOfKinds columns values → length values ≡ length columns
-length-of_kinds [] [] are = refl
-length-of_kinds [] (value ∷ values) are = absurd are
-length-of_kinds (column ∷ columns) [] are = absurd are
-length-of_kinds (column ∷ columns) (value ∷ values) are = let rest = length-of_kinds columns values are.1 in omega arith
 
 -- what a row takes at most without the bytes of its texts, in a table of as many columns as there may be
 abbrev row_most : ℕ
@@ -96,120 +93,118 @@ size-rows table (row ∷ rows) few are =
     let bytes = sum_by-cons tuple_bytes row rows in
     omega arith
 
--- A database of so few rows that hold so few bytes of texts: each row is one of its table's, and no column is of the kind
--- of sums.
+-- A database of so few rows that hold so few bytes of texts, which stand in tables that take rows, without views.
 pub record HasFew (db : Db) (most bytes : ℕ) : Type 0 where
-  pub rows : AreRowsOf db.schema.tables db.rows
-  pub plain : ArePlainTables db.schema
+  pub views : db.schema.views ≡ []
+  pub takes : TakeRows db.schema db.rows
   pub count : row_count db ≤ most
-  pub light : weight db ≤ row_most * most + bytes
+  pub light : sum_by (sum_by row_size) db.rows ≤ row_most * most + bytes
 
 -- the same database, where a few rows more may stand, and more bytes
-more : (db : Db) (most bytes other : ℕ) → HasFew db most bytes → HasFew db (most + tuples_most) (bytes + other)
-more db most bytes other few = record {
-  rows = few.rows;
-  plain = few.plain;
+pub few-more : (db : Db) (most bytes other : ℕ) → HasFew db most bytes → HasFew db (most + tuples_most) (bytes + other)
+few-more db most bytes other few = record {
+  views = few.views;
+  takes = few.takes;
   count = (let c = few.count in omega arith);
   light = (let w = few.light in omega arith);
 }
 
--- a few tuples more in a table, or none, where a key was there
-few-put : (db : Db) (number : ℕ) (table : TableDef) (tuples : List Row) (most bytes other : ℕ) → length table.columns ≤ TABLE_COLUMNS
-    → AllByRecursion (IsRowOf table) tuples → length tuples ≤ tuples_most → sum_by tuple_bytes tuples ≤ other
-    → slice_get db.schema.tables number ≡ Some table → HasFew db most bytes
-    → (r : Result (List Row) Key) → IfRows (AreTogether (IsRowOf table) (rows_at db.rows number) tuples) r
-    → HasFew (put db number table (length tuples) r).db (most + tuples_most) (bytes + other)
-few-put db number table tuples most bytes other within are short small is few (Err key) new = more db most bytes other few
-few-put db number table tuples most bytes other within are short small is few (Ok new) together =
-    let there = rows-there db.schema.tables db.rows number table few.rows is in
-    record {
-      rows = rows-set db.schema.tables db.rows number table new few.rows is together.each;
-      plain = few.plain;
-      count = (let longer = sum-set length db.rows number (rows_at db.rows number) new (length tuples) there together.counted in
-          let c = few.count in omega arith);
-      light = (let heavier = sum-set (sum_by row_size) db.rows number (rows_at db.rows number) new (sum_by row_size tuples) there together.sized in
-          let w = few.light in let s = size-rows table tuples within are in omega arith);
-    }
+-- other rows of a table that takes rows
+takes_step : (schema : Schema) (rows : List (List Row)) (place : ℕ) (new : List Row) (number : ℕ) (table : TableDef) → TakeRows schema rows
+    → (slice_get schema.tables place ≡ Some table → takes_rows schema place table ≡ true) → slice_get schema.tables number ≡ Some table
+    → holds_rows (slice_set rows place new) number ≡ true → (b : Bool) → (number == place) ≡ b → takes_rows schema number table ≡ true
+takes_step schema rows place new number table take own is holds true at =
+    let same = eqb-true number place at in rw same (own (rw (← same) is))
+takes_step schema rows place new number table take own is holds false at =
+    let rest : rows_at (slice_set rows place new) number ≡ rows_at rows number =
+    get_or-set_other rows place number new [] (λ same. let equal = eq-eqb number place same in cc) in
+    take number table is (rw rest at holds)
 
--- tuples that may stand in the table of a number are put into it, or none is
-few-insert : (db : Db) (number : ℕ) (table : TableDef) (tuples : List Row) (most bytes other : ℕ) → IsWithinLimits db.schema
-    → AllByRecursion (IsRowOf table) tuples → length tuples ≤ tuples_most → sum_by tuple_bytes tuples ≤ other
-    → slice_get db.schema.tables number ≡ Some table → HasFew db most bytes
-    → HasFew (insert db number tuples).db (most + tuples_most) (bytes + other)
-unfolding insert
-few-insert db number table tuples most bytes other within are short small is few =
-    rw is (few-put db number table tuples most bytes other (all-at IsTableWithin db.schema.tables within.each number table is).columns are short small is few _
-    (together-with_tuples (IsRowOf table) table (rows_at db.rows number) tuples (rows-at db.schema.tables db.rows number table few.rows is) are))
+takes-set : (schema : Schema) (rows : List (List Row)) (place : ℕ) (new : List Row) → TakeRows schema rows
+    → ((table : TableDef) → slice_get schema.tables place ≡ Some table → takes_rows schema place table ≡ true) → TakeRows schema (slice_set rows place new)
+takes-set schema rows place new take own number table is holds = takes_step schema rows place new number table take (own table) is holds _ refl
 
-module _ (db : Db) (name : NameBytes) (names : Option (List NameBytes)) (tuples : List (List Value)) (most bytes : ℕ) (within : IsWithinLimits db.schema)
-    (short : AreShort tuples) (sumless : AllByRecursion (AllByRecursion IsNoSum) tuples) (few_tuples : length tuples ≤ tuples_most) (few : HasFew db most bytes) where
-  -- the table of the name is there, and takes the rows of tuples without faults
-  insert_named : (found : Option (ℕ × TableDef)) → IfNumbered db.schema.tables found
-      → (if is_none found then NoTable name ∷ [] else []) ++ option_map_or (λ found. insert_faults_in names tuples found.1) found [] ≡ []
-      → HasFew (insert db (option_map_or (λ found. found.0) found 0) (option_map_or (λ found. map (put_row found.1 names) tuples) found [])).db
-      (most + tuples_most) (bytes + sum_by tuple_bytes tuples)
-  insert_named None there none = let never : ⊥ = cc in absurd never
-  insert_named (Some found) there none =
-      let faultless = append-none (list_faults found.1 names) (flat_map (tuple_faults found.1 names) tuples) none in
-      let plain = all-at IsPlainTable db.schema.tables few.plain found.0 found.1 there in
-      let rows = rows-put found.1 names tuples plain short sumless (flat_map-none (tuple_faults found.1 names) tuples faultless.1) in
-      let long = length-map tuples (put_row found.1 names) in
-      few-insert db found.0 found.1 (map (put_row found.1 names) tuples) most bytes (sum_by tuple_bytes tuples) within rows (omega arith)
-      (bytes-put found.1 names tuples) there few
+module _ (db : Db) (kept : IsKept db) (most bytes : ℕ) (few : HasFew db most bytes) where
+  -- the rows of a few tuples are put into a table that takes rows
+  few-put : (number : ℕ) (tuples : List Row) (other : ℕ) → length tuples ≤ tuples_most → sum_by tuple_bytes tuples ≤ other
+      → (table : TableDef) → AllByRecursion (IsRowOf table) tuples → takes_rows db.schema number table ≡ true
+      → (rows : List Row) → slice_get db.schema.tables number ≡ Some table → with_tuples table (rows_at db.rows number) tuples ≡ Ok rows
+      → HasFew (record db { rows = slice_set db.rows number rows }) (most + tuples_most) (bytes + other)
+  few-put number tuples other short small table are takes rows at new =
+      let there = rows-there db.schema.tables db.rows number table kept.rows at in
+      let together : IfRows (AreTogether (IsRowOf table) (rows_at db.rows number) tuples) (with_tuples table (rows_at db.rows number) tuples) =
+      together-with_tuples (IsRowOf table) table (rows_at db.rows number) tuples (rows-at db.schema.tables db.rows number table kept.rows at) are in
+      let all : AreTogether (IsRowOf table) (rows_at db.rows number) tuples rows = rw new at together in
+      let within = (all-at IsTableWithin db.schema.tables (within-created db kept.created).each number table at).columns in
+      record {
+        views = few.views;
+        takes = takes-set db.schema db.rows number rows few.takes (λ other at_other. let same : table ≡ other = cc in rw (← same) takes);
+        count = (let longer = sum-set length db.rows number (rows_at db.rows number) rows (length tuples) there all.counted in
+            let c = few.count in omega arith);
+        light = (let heavier = sum-set (sum_by row_size) db.rows number (rows_at db.rows number) rows (sum_by row_size tuples) there all.sized in
+            let w = few.light in let s = size-rows table tuples within are in omega arith);
+      }
 
-  -- and where there are faults nothing is put
-  insert_told : (told : Option Refusal) → lowest (insert_faults db.schema name names tuples) ≡ told
-      → HasFew (run_unless db (bound_unless told (meaning db.schema (statement.Insert name names tuples)))).db (most + tuples_most) (bytes + sum_by tuple_bytes tuples)
-  unfolding run_bound meaning insert_faults
-  insert_told (Some why) is = more db most bytes _ few
-  insert_told None is = insert_named (table_named db.schema name) (numbered-found db.schema.tables _) (none-lowest _ is)
+  -- a table more
+  few-create : (table : CreateTable) → refusal_of db.schema (holds_rows db.rows) table ≡ None → HasFew (create db table) most bytes
+  unfolding create with_table
+  few-create table none = record {
+    views = rw (few.views) refl;
+    takes = takes-create db.schema db.rows table none kept.ordered.rising few.takes;
+    count = (let same = sum_by_push length db.rows [] in let c = few.count in omega arith);
+    light = (let same = sum_by_push (sum_by row_size) db.rows [] in let w = few.light in omega arith);
+  }
 
--- a SELECT changes nothing
-select_told : (db : Db) (query : BoundSelect) (most bytes other : ℕ) → HasFew db most bytes → (told : Option Refusal)
-    → HasFew (run_unless db (bound_unless told (bound.Select query))).db (most + tuples_most) (bytes + other)
-unfolding run_bound
-select_told db query most bytes other few (Some why) = more db most bytes other few
-select_told db query most bytes other few None = more db most bytes other few
+-- A statement left few rows more, and what it changed takes no more bytes than a commit may.
+pub record LeavesFew (db after : Db) (most bytes : ℕ) : Type 0 where
+  pub few : HasFew after most bytes
+  pub small : payload_bytes (net db after) ≤ PAYLOAD_BYTES
 
--- a table more
-few-create : (db : Db) (most bytes : ℕ) (table : CreateTable) → IsWritten STATEMENT_BYTES (statement.CreateTable table) → HasFew db most bytes
-    → HasFew (create db table) most bytes
-unfolding create with_table
-few-create db most bytes table readable few = record {
-  rows = rows-append db.schema.tables db.rows (new_table db.schema table) few.rows;
-  plain = plain-with_table STATEMENT_BYTES db.schema table readable few.plain;
-  count = (let same = sum_by_push length db.rows [] in let c = few.count in omega arith);
-  light = (let same = sum_by_push (sum_by row_size) db.rows [] in let w = few.light in omega arith);
-}
+-- So does each statement that can be read and is built, with the texts that it puts.
+module _ (db : Db) (kept : IsKept db) (most bytes : ℕ) (few : HasFew db most bytes) where
+  abbrev FewAfter : ℕ → Outcome → Type 0
+  FewAfter other outcome = LeavesFew db outcome.db (most + tuples_most) (bytes + other)
 
--- or none, where the CREATE is refused
-create_step : (db : Db) (most bytes : ℕ) (table : CreateTable) → IsWritten STATEMENT_BYTES (statement.CreateTable table) → HasFew db most bytes
-    → (why : Option Refusal) → HasFew (create_unless db table why).db most bytes
-create_step db most bytes table readable few None = few-create db most bytes table readable few
-create_step db most bytes table readable few (Some why) = few
+  few-same : (other : ℕ) (reply : Reply) → FewAfter other (answered db reply)
+  few-same other reply = record { few = few-more db most bytes other few; small = small-same db }
 
--- a statement that can be read and is built adds a few rows at most, with the texts that it puts
-few-run : (db : Db) (found : Statement) (most bytes : ℕ) → IsReadable (Run found) → is_built db.schema found ≡ true → IsWithinLimits db.schema
-    → HasFew db most bytes → HasFew (run db found).db (most + tuples_most) (bytes + put_bytes found)
-unfolding run create_table put_bytes bound_statement faults meaning
-few-run db (statement.CreateTable table) most bytes readable is within few = more _ most bytes _ (create_step db most bytes table readable few _)
-few-run db statement.Explain most bytes readable is within few = more db most bytes _ few
-few-run db (statement.Select query) most bytes readable is within few = select_told db _ most bytes _ few _
-few-run db (statement.Insert name names tuples) most bytes readable is within few =
-    insert_told db name names tuples most bytes within (written-short STATEMENT_BYTES name names tuples readable) (no_sums name names tuples readable)
-    (few-tuples db.schema name tuples is) few _ refl
-few-run db _ most bytes readable is within few = cc
+  -- tuples of an INSERT
+  few-insert : (name : NameBytes) (names : Option (List NameBytes)) (tuples : List (List Value)) → IsReadable (Run (statement.Insert name names tuples))
+      → is_built_insert db.schema name tuples ≡ true
+      → IfBinds db (FewAfter (sum_by tuple_bytes tuples)) (statement.Insert name names tuples)
+  unfolding meaning faults insert_faults
+  few-insert name names tuples readable built told table rows at new =
+      let parts = append-none (no_table db.schema name) _ (none-lowest _ told) in
+      let named = named-at db.schema name table parts.0 at in
+      let own : list_faults table names ++ flat_map (tuple_faults table names) tuples ≡ [] = rw named at parts.1 in
+      let none = flat_map-none (tuple_faults table names) tuples (append-none (list_faults table names) _ own).1 in
+      let plain = all-at IsPlainTable db.schema.tables (plain-created db kept.created) (table_number db.schema name).0 table at in
+      let are = rows-put table names tuples plain (written-short STATEMENT_BYTES name names tuples readable) (no_sums name names tuples readable) none in
+      let long = length-map tuples (put_row table names) in
+      let short = few-tuples db.schema name tuples built in
+      let put : with_tuples table (rows_at db.rows (table_number db.schema name).0) (map (put_row table names) tuples) ≡ Ok rows = rw named at new in
+      record {
+        few = few-put db kept most bytes few (table_number db.schema name).0 (map (put_row table names) tuples) (sum_by tuple_bytes tuples) (omega arith)
+            (bytes-put table names tuples) table are (into-taking db.schema name tuples (table_number db.schema name).0 table built named) rows at put;
+        small = small-put db (table_number db.schema name).0 table (map (put_row table names) tuples) rows kept.rows
+            (all-at IsTableWithin db.schema.tables (within-created db kept.created).each (table_number db.schema name).0 table at).columns at are (omega arith) put;
+      }
 
--- so does such a request
-pub few-left_by : (db : Db) (session : ℕ) (request : Request) (most bytes : ℕ) → IsReadable request → built db.schema session request ≡ request
-    → IsWithinLimits db.schema → HasFew db most bytes → HasFew (left_by db request) (most + tuples_most) (bytes + asked_bytes request)
-unfolding left_by asked_bytes
-few-left_by db session (Run found) most bytes readable same within few =
-    few-run db found most bytes readable (is_built-of db.schema session found same) within few
-few-left_by db session (Syntax byte) most bytes readable same within few = more db most bytes _ few
-few-left_by db session (Limit passed) most bytes readable same within few = more db most bytes _ few
-few-left_by db session End most bytes readable same within few = more db most bytes _ few
+  few-table : (table : CreateTable) → refusal_of db.schema (holds_rows db.rows) table ≡ None → LeavesFew db (create db table) (most + tuples_most) (bytes + 0)
+  few-table table none = record { few = few-more (create db table) most bytes 0 (few-create db kept most bytes few table none); small = small-create db table }
+
+  runs : (found : Statement) → IsReadable (Run found) → is_built db.schema found ≡ true → IfRuns db (FewAfter (put_bytes found)) found
+  unfolding put_bytes
+  runs (statement.CreateTable table) readable built = few-table table
+  runs (statement.Insert name names tuples) readable built = few-insert name names tuples readable built
+  runs statement.Explain readable built = tt
+  runs (statement.Select query) readable built = tt
+  runs _ readable built = let never : false ≡ true = built in absurd (cc)
+
+  pub few-run : (found : Statement) → IsReadable (Run found) → is_built db.schema found ≡ true
+      → LeavesFew db (run db found).db (most + tuples_most) (bytes + put_bytes found)
+  few-run found readable built = of-statement db (FewAfter (put_bytes found)) (few-same _) found (runs found readable built)
 
 -- the empty database has none
 pub few-empty : HasFew empty 0 0
-few-empty = record { rows = tt; plain = tt; count = omega arith; light = omega arith }
+few-empty = record { views = refl; takes = λ number table is holds. let never : ◌≡◌ {A = Option TableDef} None (Some table) = is in absurd (cc); count = omega arith; light = omega arith }

@@ -1,10 +1,12 @@
 pub mod BuiltStatements
+pub mod BuiltWorlds
+pub mod Faultless
 pub mod FewRows
-pub mod Languages
-pub mod PlainKinds
+pub mod NoDisk
 pub mod PrintedLemmas
-pub mod PutRows
-pub mod SerialLemmas
-pub mod ShortTexts
+pub mod ShortHistories
+pub mod SmallNets
 pub mod SparedLemmas
+pub mod TakeRows
 pub mod TranscriptLemmas
+pub mod Unowned

@@ -1,28 +1,23 @@
 //! Laws of the definitions in `specs/`: each function does nothing, and what it ensures holds of every database,
 //! history and list of calls.
-ghost use Rattle.std.specs.Prelude.{◌≡◌, ℕ, ◌+◌, ◌≤◌, List, ◌++◌, length, sum_by};
-ghost use Rattle.std.specs.List.{AllByRecursion};
-ghost use Rattle.own_model.specs.declared.limit.TheConstants.{INPUT_BYTES, INPUT_CALLS, SESSIONS};
+ghost use Rattle.std.specs.Prelude.{◌≡◌, ℕ, List, [], ◌∷◌, ◌++◌, Some, length};
+ghost use Rattle.own_model.specs.declared.history.Entry.{Entry};
 ghost use Rattle.own_model.specs.declared.script.ScriptCall.{ScriptCall};
 ghost use Rattle.own_model.specs.Db.{Db, empty};
-ghost use Rattle.own_model.specs.TextBytes.{asked_bytes};
-ghost use Rattle.grammar_model.specs.Readable.{IsReadable};
-ghost use Rattle.history_model.specs.AreBuilt.{AreBuilt};
-ghost use Rattle.history_model.specs.History.{History};
+ghost use Rattle.history_model.specs.History.{History, flat, reply};
 ghost use Rattle.history_model.specs.Made.{Called, made};
-ghost use Rattle.history_model.specs.Serial.{Serial};
+ghost use Rattle.transcript_model.specs.PlainAnswer.{plain_answer, plain_left};
 ghost use Rattle.transcript_model.specs.Printed.{printed};
+ghost use Rattle.transcript_model.specs.Short.{IsShort};
 ghost use Rattle.transcript_model.specs.TellsMemory.{TellsMemory};
 ghost use Rattle.transcript_model.specs.Transcript.{IsSpared, IsTranscript, spared};
 
-/// Over the empty database a history of requests that can be read and are built passes no limit at any place, where it has
-/// at most one for each call that an input may have, and one for the end of each session, and where the texts that they put
-/// into rows have together no more bytes than an input may have; keys rise there, and rows have their tables' lengths and
-/// kinds.
-pub fn short_readable_history_is_serial()
-    ensures { (history : History) → length history ≤ INPUT_CALLS + SESSIONS
-        → sum_by (λ entry. asked_bytes entry.request) history ≤ INPUT_BYTES
-        → AllByRecursion (λ entry. IsReadable entry.request) history → AreBuilt empty history → Serial empty history }
+/// In a history over the empty database that the calls of an input can make, whose requests are built, each request is
+/// answered as its statement alone runs on the flat database, and leaves what that leaves: no commit is refused.
+pub fn short_history_is_answered_plainly()
+    ensures { (history : History) (entry : Entry) → IsShort (history ++ entry ∷ [])
+        → (reply empty (history ++ entry ∷ []) (length history) ≡ Some (plain_answer (flat empty history) entry.request))
+        × (flat empty (history ++ entry ∷ []) ≡ plain_left (flat empty history) entry.request) }
 {}
 
 /// Over one history, the text of calls is that of the first of them, and after it that of the rest.

@@ -1,6 +1,6 @@
 use Rattle.std.proofs.Common.{◌≡◌, fold}
 use Rattle.std.specs.Vec.Iter.{into_iter_items}
-use Rattle.history_model.specs.Insert.{and_tuple, with_tuples}
+use Rattle.run_model.specs.Insert.{and_tuple, with_tuples}
 use Rattle.table_part.specs.Part.{rows_of}
 use Rattle.store_top.specs.Put.{rows_unless, IsPartOf}
 use Rattle.store_top.proofs.rows.put_each.Given as goal

@@ -1,6 +1,6 @@
 use Rattle.std.proofs.Common.{arith}
 use Rattle.std.proofs.lemmas.Result.{err_from_is_err_and}
-use Rattle.store_top.proofs.Serving.{serving-none, serving-more, serving-breaks, serving-refused}
+use Rattle.store_top.proofs.Serving.{serving-none, serving-more, serving-short, serving-breaks, serving-refused}
 use Rattle.store_top.proofs.steps.serve_calls.Goals as goal
 
 pub loop-call-init : goal.loop-call-init
@@ -10,6 +10,13 @@ loop-call-init g c = record {
   counted = omega arith;
   serving = rw (c.into_iter-call-iterator.ensures.into_iter_gives.0, c.requires.fresh) (serving-none c.args.calls.items (g.W.Sink.written c.args.sink.now) c.requires.numbered c.requires.readable);
 }
+
+-- the history stays short
+pub serve_call-requires-clause-short : goal.serve_call-requires-clause-short
+serve_call-requires-clause-short g c =
+    let before = rw c.in-Some.ensures.steps.0 at c.loop-call.invariant.serving in
+    serving-short c.args.calls.items c.loop-call.yielded c.in-Some.call _ c.loop-call.engine.history.items (g.W.Sink.written c.args.sink.now)
+    (g.W.Sink.written c.loop-call.sink) c.requires.input c.requires.readable before
 
 pub loop-call-preserved : goal.loop-call-preserved
 loop-call-preserved g c =

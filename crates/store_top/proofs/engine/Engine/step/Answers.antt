@@ -13,6 +13,12 @@ answer_last-requires-clause-readable c =
     let grown = c.push_reserved.ensures.items ∙ ap (λ entry. history ++ entry ∷ []) c.entry_of-entry.ensures in
     readable-last history c.push_reserved.new.self.items c.args.call (vec_len c.push_reserved.new.self - 1) grown place c.requires.readable
 
+-- and with it the history is short
+pub answer_last-requires-clause-short : goal.answer_last-requires-clause-short
+answer_last-requires-clause-short c =
+    let history = c.args.self.now.history.items in
+    rw (c.push_reserved.ensures.items, c.entry_of-entry.ensures) c.requires.short
+
 -- what memory may keep from being made is the entry that the call would have
 pub returns-clause-spared : goal.returns-clause-spared
 returns-clause-spared c =

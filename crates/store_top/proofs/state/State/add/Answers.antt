@@ -1,8 +1,8 @@
 use Rattle.std.proofs.Common.{[]}
 use Rattle.std.proofs.lemmas.List.{map-append}
 use Rattle.std.proofs.lemmas.List.Elements.{All-nil, All-push}
-use Rattle.history_model.proofs.RisingKeys.{rising-append}
-use Rattle.query_eval.specs.Stored.{AreStored, IsStoredRow}
+use Rattle.state_model.proofs.KeptLemmas.{rising-append}
+use Rattle.query_model.specs.Stored.{AreStored, IsStoredRow}
 use Rattle.table_part.specs.Part.{rows_of}
 use Rattle.store_top.specs.State.{db_of}
 use Rattle.store_top.proofs.KeptViews.{views-append}

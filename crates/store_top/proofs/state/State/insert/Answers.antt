@@ -1,6 +1,6 @@
 use Rattle.std.proofs.Common.{◌<◌, ◌∙◌, ap, length, subst, sym}
 use Rattle.own_model.specs.Db.{Db}
-use Rattle.history_model.specs.Run.{insert}
+use Rattle.run_model.specs.Run.{insert}
 use Rattle.store_top.proofs.InsertedRows.{insert-after, insert-told, kept-after, part-of, parts-after, stored-put, table-there}
 use Rattle.store_top.proofs.state.State.insert.Goals.{in-None, in-Some+in_ok-table-in-Some}
 use Rattle.store_top.proofs.state.State.insert.Goals as goal

@@ -1,6 +1,6 @@
 use Rattle.std.proofs.Common.{ap, inl, sym}
 use Rattle.std.proofs.lemmas.Result.{IfOk-weaker}
-use Rattle.history_model.specs.Run.{Outcome, run_bound}
+use Rattle.run_model.specs.Run.{Outcome, run_bound}
 use Rattle.store_top.proofs.Results.{on_ok}
 use Rattle.store_top.proofs.state.State.run_bound.Goals as goal
 
