@@ -1,0 +1,11 @@
+//! Small histories whose replies are computed from the definitions. Each function does nothing: what it ensures is an
+//! equation without variables, between the lines of the replies and lines that are written out.
+#![tactic(auto)]
+
+pub mod disk;
+pub mod dooming;
+pub mod forgetting;
+pub mod locking;
+pub mod owning;
+pub mod reading;
+pub mod showing;
