@@ -1,1 +1,5 @@
 pub mod Computing
+pub mod Conditions
+pub mod KeyedReads
+pub mod KeyedSelect
+pub mod Steps

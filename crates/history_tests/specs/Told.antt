@@ -45,7 +45,7 @@ entries before (one ∷ rest) = record {
 } ∷ entries (before ++ one ∷ []) rest
 
 -- the lines of the replies to entries, from a world on
-abbrev pub told_from : World → History → List ℕ
+unfoldable pub told_from : World → History → List ℕ
 told_from world [] = []
 told_from world (entry ∷ rest) =
     reply_lines (Some world.place) entry.session.0 entry.call (answer world entry) ++ told_from (happens world entry) rest

@@ -5,6 +5,7 @@
 pub mod disk;
 pub mod dooming;
 pub mod forgetting;
+pub mod keyed;
 pub mod locking;
 pub mod owning;
 pub mod reading;
