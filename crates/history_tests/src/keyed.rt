@@ -3,9 +3,9 @@
 #![tactic(auto)]
 
 ghost use Rattle.std.specs.Prelude.{◌≡◌, [], ◌∷◌, ◌++◌};
-ghost use Rattle.history_tests.specs.Stores.{after, messages};
+ghost use Rattle.history_tests.specs.Stores.{after, messages, social};
 ghost use Rattle.history_tests.specs.Told.{lines, session, told, told_behind};
-ghost use Rattle.history_tests.specs.Written.{begin, commit, create, forget, id, insert, int, int_column, select_all, select_key};
+ghost use Rattle.history_tests.specs.Written.{begin, commit, constant, create, forget, get, id, insert, int, int_column, select_all, select_key, update};
 
 /// Two sessions read a key under which nothing stands. While the first still holds it, the second doesn't write there, nor
 /// create a table; then it does.
@@ -59,4 +59,30 @@ pub fn forget_leaves_a_reader_of_another_key()
         ∷ "6 2.1 forgot 1 removed 1 changed"
         ∷ "7 1.7 ok"
         ∷ []) }
+{}
+
+/// A comment is given another author: who wrote it reaches it no more; who saw it by the circle owns it now.
+pub fn comment_goes_to_another_author()
+    ensures { told_behind (after social) (session 1 (
+            get "users" 3
+            ∷ update "comments" "author" (constant (int 2)) 2
+            ∷ get "users" 3
+            ∷ get "users" 2
+            ∷ []))
+        ≡ lines (
+            "18 1.19 got 2"
+            ∷ "  users|3|'Cy'|NULL"
+            ∷ "  comments|2|1|3|'late'"
+            ∷ "19 1.20 ok 1"
+            ∷ "20 1.21 got 1"
+            ∷ "  users|3|'Cy'|NULL"
+            ∷ "21 1.22 got 7"
+            ∷ "  users|2|'Ben'|'b@x'"
+            ∷ "  circles|1|'chess'"
+            ∷ "  members|2|2|1"
+            ∷ "  posts|1|1|1|'first'"
+            ∷ "  comments|1|1|2|'nice'"
+            ∷ "  comments|2|1|2|'late'"
+            ∷ "  likes|1|1|2"
+            ∷ []) }
 {}
