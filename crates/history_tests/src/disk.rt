@@ -4,6 +4,7 @@
 ghost use Rattle.std.specs.Prelude.{◌≡◌, [], ◌∷◌, ◌++◌};
 ghost use Rattle.own_model.specs.declared.history.Verdict.TheVariants.{DiskFault, NoRoom};
 ghost use Rattle.own_model.specs.declared.request.Request.TheVariants.{End};
+ghost use Rattle.own_model.specs.declared.statement.Statement.TheVariants.{Checkpoint};
 ghost use Rattle.history_tests.specs.Stores.{after, messages};
 ghost use Rattle.history_tests.specs.Told.{lines, meeting, request, session, told_behind};
 ghost use Rattle.history_tests.specs.Written.{begin, commit, delete_all, get, insert, int, other, select_ids, text, update_all};
@@ -64,4 +65,20 @@ pub fn write_without_room_changes_nothing()
         ∷ "9 1.10 refused outside"
         ∷ "10 1.11 ok 1"
         ∷ []) }
+{}
+
+/// A CHECKPOINT asks for nothing but the disk, also while a transaction is open.
+pub fn checkpoint_needs_the_disk()
+    ensures { told_behind (after messages) (
+            session 1 (begin ∷ insert "users" ((int 8 ∷ text "Cy" ∷ []) ∷ []) ∷ [])
+            ++ session 2 (Checkpoint ∷ [])
+            ++ meeting DiskFault 2 Checkpoint
+            ++ session 1 (commit ∷ []))
+        ≡ lines (
+            "4 1.5 ok"
+            ∷ "5 1.6 ok 1"
+            ∷ "6 2.1 ok"
+            ∷ "7 2.2 disk"
+            ∷ "8 1.7 down 7"
+            ∷ []) }
 {}

@@ -2,9 +2,10 @@
 #![tactic(auto, unfolding(crate::proofs::Computing::history))]
 
 ghost use Rattle.std.specs.Prelude.{◌≡◌, [], ◌∷◌, ◌++◌};
+ghost use Rattle.own_model.specs.declared.history.Verdict.TheVariants.{NoRoom};
 ghost use Rattle.own_model.specs.declared.request.Request.TheVariants.{Syntax};
 ghost use Rattle.history_tests.specs.Stores.{after, messages};
-ghost use Rattle.history_tests.specs.Told.{lines, request, session, told_behind};
+ghost use Rattle.history_tests.specs.Told.{lines, meeting, request, session, told_behind};
 ghost use Rattle.history_tests.specs.Written.{begin, commit, forget, insert, int, null, select_all, select_ids, text};
 
 /// A transaction has read the users, one of whom is forgotten. It ends without effect, and is told so once.
@@ -97,4 +98,23 @@ pub fn doom_is_told_once()
         ∷ "  5"
         ∷ "  8"
         ∷ []) }
+{}
+
+/// A FORGET for which there is no room changes nothing, and dooms nobody.
+pub fn forget_without_room_dooms_nobody()
+    ensures { told_behind (after messages) (
+            session 1 (begin ∷ select_ids "users" ∷ [])
+            ++ meeting NoRoom 2 (forget "users" 5)
+            ++ session 1 (commit ∷ select_ids "users" ∷ []))
+        ≡ lines (
+            "4 1.5 ok"
+            ∷ "5 1.6 rows 2"
+            ∷ "  5"
+            ∷ "  7"
+            ∷ "6 2.1 refused limit room 4611686018427387904"
+            ∷ "7 1.7 ok"
+            ∷ "8 1.8 rows 2"
+            ∷ "  5"
+            ∷ "  7"
+            ∷ []) }
 {}

@@ -4,7 +4,7 @@
 ghost use Rattle.std.specs.Prelude.{◌≡◌, [], ◌∷◌, ◌++◌};
 ghost use Rattle.history_tests.specs.Stores.{after, messages, pages, social};
 ghost use Rattle.history_tests.specs.Told.{lines, session, told, told_behind};
-ghost use Rattle.history_tests.specs.Written.{forget, get, insert, int, select_all, text};
+ghost use Rattle.history_tests.specs.Written.{create, create_subject, forget, get, id, insert, int, int_column, not_null, other, plain, select_all, text, update_all};
 
 /// The message has another owner, so it stays: without its sender, who isn't there now, and without its note, which goes
 /// with the sender.
@@ -111,5 +111,36 @@ pub fn forget_leaves_no_reference_to_what_it_removes()
         ∷ "20 1.21 rows 1"
         ∷ "  NULL|2"
         ∷ "21 1.22 rows 0"
+        ∷ []) }
+{}
+
+/// What FORGET leaves may be NULL where no statement puts NULL.
+pub fn forget_leaves_null_in_a_column_that_takes_none()
+    ensures { told (session 1 (
+            create_subject "users" (id ∷ [])
+            ∷ create "notes" (id ∷ int_column "about" (not_null ∷ plain "users" ∷ []) ∷ [])
+            ∷ insert "users" ((int 5 ∷ []) ∷ [])
+            ∷ insert "notes" ((int 1 ∷ int 5 ∷ []) ∷ [])
+            ∷ forget "users" 5
+            ∷ select_all "notes"
+            ∷ update_all "notes" "about" (other "about")
+            ∷ []))
+        ≡ lines (
+            "0 1.1 ok"
+            ∷ "1 1.2 ok"
+            ∷ "2 1.3 ok 1"
+            ∷ "3 1.4 ok 1"
+            ∷ "4 1.5 forgot 1 removed 1 changed"
+            ∷ "5 1.6 rows 1"
+            ∷ "  1|NULL"
+            ∷ "6 1.7 refused null about"
+            ∷ []) }
+{}
+
+/// Nobody is forgotten where there is no such subject, and a row of another table isn't one.
+pub fn forget_is_of_subjects_that_are_there()
+    ensures { told_behind (after messages) (session 1 (forget "users" 6 ∷ forget "msgs" 9 ∷ [])) ≡ lines (
+        "4 1.5 refused absent users 6"
+        ∷ "5 1.6 refused subject msgs"
         ∷ []) }
 {}

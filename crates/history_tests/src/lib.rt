@@ -2,11 +2,11 @@
 //! equation without variables, between the lines of the replies and lines that are written out.
 #![tactic(auto)]
 
+pub mod committing;
 pub mod disk;
 pub mod dooming;
 pub mod forgetting;
 pub mod keyed;
 pub mod locking;
-pub mod owning;
 pub mod reading;
 pub mod showing;

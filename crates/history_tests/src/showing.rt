@@ -1,7 +1,8 @@
-//! What a GDPR GET shows.
+//! What a GDPR GET and an EXPLAIN COMPLIANCE show.
 #![tactic(auto, unfolding(crate::proofs::Computing::history))]
 
 ghost use Rattle.std.specs.Prelude.{◌≡◌, [], ◌∷◌, ◌++◌};
+ghost use Rattle.own_model.specs.declared.statement.Statement.TheVariants.{Explain};
 ghost use Rattle.history_tests.specs.Stores.{after, messages, social};
 ghost use Rattle.history_tests.specs.Told.{lines, session, told, told_behind};
 ghost use Rattle.history_tests.specs.Written.{constant, get, insert, int, text, update_all};
@@ -77,5 +78,16 @@ pub fn comments_go_to_another_author()
         ∷ "  comments|1|1|2|'nice'"
         ∷ "  comments|2|1|2|'late'"
         ∷ "  likes|1|1|2"
+        ∷ []) }
+{}
+
+/// Who owns what, with the rules of each edge.
+pub fn explain_shows_tables_and_edges()
+    ensures { told_behind (after messages) (session 1 (Explain ∷ [])) ≡ lines (
+        "4 1.5 graph 4"
+        ∷ "  users subject"
+        ∷ "  msgs private"
+        ∷ "  msgs.sender OWNED_BY users DEL (note)"
+        ∷ "  msgs.receiver OWNED_BY users GET (note)"
         ∷ []) }
 {}

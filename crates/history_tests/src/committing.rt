@@ -1,10 +1,10 @@
-//! Rows of private tables have owners, at each commit.
+//! What a commit is refused for.
 #![tactic(auto, unfolding(crate::proofs::Computing::history))]
 
 ghost use Rattle.std.specs.Prelude.{◌≡◌, [], ◌∷◌, ◌++◌};
-ghost use Rattle.history_tests.specs.Stores.{after, groups, messages};
+ghost use Rattle.history_tests.specs.Stores.{after, groups, messages, social};
 ghost use Rattle.history_tests.specs.Told.{lines, session, told, told_behind};
-ghost use Rattle.history_tests.specs.Written.{begin, commit, delete_all, get, insert, int, text};
+ghost use Rattle.history_tests.specs.Written.{begin, commit, delete_all, get, insert, int, null, text};
 
 /// A group without a member is refused by itself, and taken in one transaction with its first member.
 pub fn group_comes_with_its_first_member()
@@ -36,4 +36,16 @@ pub fn group_comes_with_its_first_member()
 /// Users whom a message refers to aren't deleted.
 pub fn delete_leaves_no_reference_to_nothing()
     ensures { told_behind (after messages) (session 1 (delete_all "users" ∷ [])) ≡ lines ("4 1.5 refused reference msgs 9 sender" ∷ []) }
+{}
+
+/// Two rows hold one value of a UNIQUE column: the first of them is named. NULL may stand there twice.
+pub fn unique_column_holds_a_value_once()
+    ensures { told_behind (after social) (session 1 (
+            insert "users" ((int 4 ∷ text "Di" ∷ text "a@x" ∷ []) ∷ [])
+            ∷ insert "users" ((int 4 ∷ text "Di" ∷ null ∷ []) ∷ [])
+            ∷ []))
+        ≡ lines (
+            "18 1.19 refused unique users 1 mail"
+            ∷ "19 1.20 ok 1"
+            ∷ []) }
 {}
