@@ -1,0 +1,6 @@
+pub mod Computing
+pub mod Conditions
+pub mod KeyedReads
+pub mod KeyedSelect
+pub mod KeyedUpdate
+pub mod Steps
