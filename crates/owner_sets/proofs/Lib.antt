@@ -5,3 +5,7 @@ pub mod Searched
 pub mod SettledLists
 pub mod DerivedOrder
 pub mod Standing
+pub mod LinkLemmas
+pub mod GatheredLemmas
+pub mod SetsLemmas
+pub mod InOrder

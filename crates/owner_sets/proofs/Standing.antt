@@ -70,7 +70,7 @@ module _ (db : Db) (name : RowName) (place : ℕ) where
       and_true false = refl
 
 -- a row that a table's definition and a place give has a name
-pub standing_at : (db : Db) (table : TableNo) (place : ℕ) (definition : TableDef) (row : Row) → slice_get db.schema.tables table.0 ≡ Some definition → slice_get (rows_at db.rows table.0) place ≡ Some row
+abbrev pub standing_at : (db : Db) (table : TableNo) (place : ℕ) (definition : TableDef) (row : Row) → slice_get db.schema.tables table.0 ≡ Some definition → slice_get (rows_at db.rows table.0) place ≡ Some row
     → StandsAt db (record { table = table; key = key_of definition row }) place
 standing_at db table place definition row table_is row_is = record { definition = definition; row = row; table_is = table_is; row_is = row_is; key_is = refl }
 
@@ -131,3 +131,46 @@ pub record Named (db : Db) (column : ℕ) (holder_table other_table : TableNo) (
   pub of_holder : holder.table ≡ holder_table
   pub of_other : other.table ≡ other_table
   pub is : NamesRow db column holder other at named
+
+module _ (db : Db) (column : ℕ) (holder_table other_table : TableNo) (at named : ℕ) (definition : TableDef) where
+  named_by_key : IsOrdered db → (row : Row) (key : Key) → slice_get db.schema.tables holder_table.0 ≡ Some definition → slice_get (rows_at db.rows holder_table.0) at ≡ Some row
+      → slice_get row column ≡ Some (value_of key) → (o : Option TableDef) → slice_get db.schema.tables other_table.0 ≡ o
+      → option_and_then (λ other. position (has_key other key) (rows_at db.rows other_table.0)) o ≡ Some named → Named db column holder_table other_table at named
+  named_by_key ordered row key table_is row_is value_is None other_is found = let never : ◌≡◌ {A = Option ℕ} None (Some named) = found in cc
+  named_by_key ordered row key table_is row_is value_is (Some other) other_is found =
+      let holder : RowName = record { table = holder_table; key = key_of definition row } in
+      let stands : StandsAt db holder at = standing_at db holder_table at definition row table_is row_is in
+      let is = position-some (has_key other key) (rows_at db.rows other_table.0) named found in
+      record {
+        holder = holder;
+        other = record { table = other_table; key = key };
+        of_holder = refl;
+        of_other = refl;
+        is = record {
+          holder_stands = stands;
+          other_stands = record { definition = other; row = is.0; table_is = other_is; row_is = is.1; key_is = one_key (key_of other is.0) key is.2 };
+          names = ap (option_and_then (λ row. slice_get row column)) (row_of-standing db holder at ordered stands) ∙ value_is;
+        };
+      }
+
+  named_by_value : IsOrdered db → (row : Row) (value : Value) → slice_get db.schema.tables holder_table.0 ≡ Some definition → slice_get (rows_at db.rows holder_table.0) at ≡ Some row
+      → slice_get row column ≡ Some value → (o : Option Key) → literal_key value ≡ o
+      → option_and_then (place_of db.schema db.rows other_table.0) o ≡ Some named → Named db column holder_table other_table at named
+  unfolding place_of
+  named_by_value ordered row value table_is row_is value_is None key_is found = let never : ◌≡◌ {A = Option ℕ} None (Some named) = found in cc
+  named_by_value ordered row value table_is row_is value_is (Some key) key_is found =
+      named_by_key ordered row key table_is row_is (value_is ∙ ap Some (key_of_literal value key key_is)) (slice_get db.schema.tables other_table.0) refl found
+
+  named_by_cell : IsOrdered db → (row : Row) → slice_get db.schema.tables holder_table.0 ≡ Some definition → slice_get (rows_at db.rows holder_table.0) at ≡ Some row
+      → (o : Option Value) → slice_get row column ≡ o → place_named db.schema db.rows other_table.0 o ≡ Some named → Named db column holder_table other_table at named
+  named_by_cell ordered row table_is row_is None value_is found = let never : ◌≡◌ {A = Option ℕ} None (Some named) = found in cc
+  named_by_cell ordered row table_is row_is (Some value) value_is found = named_by_value ordered row value table_is row_is value_is (literal_key value) refl found
+
+  named_by_row : IsOrdered db → slice_get db.schema.tables holder_table.0 ≡ Some definition → (o : Option Row) → slice_get (rows_at db.rows holder_table.0) at ≡ o
+      → place_named db.schema db.rows other_table.0 (option_and_then (λ row. slice_get row column) o) ≡ Some named → Named db column holder_table other_table at named
+  named_by_row ordered table_is None row_is found = let never : ◌≡◌ {A = Option ℕ} None (Some named) = found in cc
+  named_by_row ordered table_is (Some row) row_is found = named_by_cell ordered row table_is row_is (slice_get row column) refl found
+
+  pub place_named-row : IsOrdered db → slice_get db.schema.tables holder_table.0 ≡ Some definition
+      → place_named db.schema db.rows other_table.0 (held_at db holder_table.0 column at) ≡ Some named → Named db column holder_table other_table at named
+  place_named-row ordered table_is found = named_by_row ordered table_is (slice_get (rows_at db.rows holder_table.0) at) refl found
