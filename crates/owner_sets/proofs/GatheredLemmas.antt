@@ -1,6 +1,6 @@
 -- What is gathered for a row are the subjects that have it by the local equation.
-use Rattle.std.proofs.Common.{◌≡◌, ℕ, ◌<◌, List, [], ◌∷◌, ◌++◌, length, Bool, true, false, cond, eqb, get_or, inl, inr, refl, ap, sym, ◌∙◌, subst, arith, eq-eqb, map}
-use Rattle.std.specs.Prelude.{◌⊎◌, ◌↔◌, ◌==◌, Contains, Option, Some, None, IsFalse, IsTrue, filter, flat_map, slice_get}
+use Rattle.std.proofs.Common.{◌≡◌, ℕ, ◌<◌, List, [], ◌∷◌, length, Bool, true, false, cond, eqb, get_or, inl, inr, refl, ap, sym, ◌∙◌, subst, eq-eqb, map}
+use Rattle.std.specs.Prelude.{◌⊎◌, ◌↔◌, ◌==◌, Contains, Option, Some, IsFalse, filter, flat_map, slice_get}
 use Rattle.std.proofs.lemmas.Bool.{eqb-true}
 use Rattle.std.proofs.lemmas.List.Elements.{Contains-append_cases, Contains-append_left, Contains-append_right}
 use Rattle.std.proofs.lemmas.Option.{same_Some, slice_get_read}
@@ -17,7 +17,6 @@ use Rattle.schema_model.specs.OwnerSchema.{IsOwnerEdge, IsOwnerSchema, named_tab
 use Rattle.schema_model.specs.Tables.{is_subject}
 use Rattle.schema_model.proofs.EdgeEnds.{ends-old}
 use Rattle.subject_model.specs.LocalEquation.{HasByEdge, IsSubject}
-use Rattle.subject_model.specs.Named.{name_of}
 use Rattle.subject_model.specs.Paths.{is_subject_row}
 use Rattle.subject_model.proofs.Members.{all_contained, contains_cases, contains_filter, contains_flat_map, contains_here, contains_map, contains_none, contains_of_filter, contains_of_flat_map, contains_of_map}
 use Rattle.owner_sets.specs.declared.link.Link.{Link}

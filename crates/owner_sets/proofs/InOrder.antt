@@ -1,6 +1,6 @@
 -- The tables get their sets in the graph's order.
 use Rattle.std.proofs.Common.{◌≡◌, ℕ, ◌+◌, ◌<◌, ◌≤◌, List, [], length, get_or, set, inl, inr, refl, ap, sym, ◌∙◌, subst, arith, get_or-set_other, get_or-set_same, length-set}
-use Rattle.std.specs.Prelude.{◌⊎◌, ◌==◌, Contains, Option, Some, filter, map, slice_get, IsPermutation}
+use Rattle.std.specs.Prelude.{◌==◌, Contains, Option, Some, filter, map, slice_get}
 use Rattle.std.specs.List.{range_with_len}
 use Rattle.std.proofs.lemmas.Bool.{cases_eq, cases_lt, eqb-true}
 use Rattle.std.proofs.lemmas.List.FromFn.{get_or-range_with_len, length-range_with_len}

@@ -1,5 +1,4 @@
 pub mod AbsentColumns
-pub mod MoreLemmas
 pub mod Ranges
 pub mod Searched
 pub mod SettledLists

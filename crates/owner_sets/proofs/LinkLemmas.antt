@@ -1,6 +1,6 @@
 -- The links of an edge are the pairs of rows that it joins.
-use Rattle.std.proofs.Common.{◌≡◌, ℕ, ◌<◌, List, [], ◌∷◌, length, Bool, true, false, cond, eqb, inl, inr, refl, ap, sym, ◌∙◌, subst, arith, eq-eqb}
-use Rattle.std.specs.Prelude.{◌⊎◌, Contains, Option, Some, None, option_map, flat_map, slice_get}
+use Rattle.std.proofs.Common.{◌≡◌, ℕ, ◌<◌, length, Bool, true, false, cond, eqb, inl, inr, refl, ap, sym, ◌∙◌, subst, eq-eqb}
+use Rattle.std.specs.Prelude.{◌⊎◌, Contains, Option, Some, None, option_map, slice_get}
 use Rattle.std.specs.List.{range_with_len}
 use Rattle.std.specs.Option.{option_to_list}
 use Rattle.std.proofs.lemmas.Bool.{eqb-true}
@@ -10,7 +10,7 @@ use Rattle.own_model.specs.declared.schema.Edge.{Edge}
 use Rattle.own_model.specs.declared.schema.TableDef.{TableDef}
 use Rattle.own_model.specs.Db.{Db, IsOrdered}
 use Rattle.own_model.specs.Stored.{rows_at}
-use Rattle.owner_model.specs.Joins.{Joins, holder_of, other_of, value_at, value_of}
+use Rattle.owner_model.specs.Joins.{Joins, value_at, value_of}
 use Rattle.schema_model.specs.OwnerSchema.{named_table}
 use Rattle.schema_model.proofs.Places.{at-place, place-lt}
 use Rattle.subject_model.proofs.Members.{contains_flat_map, contains_of_flat_map}
@@ -18,7 +18,7 @@ use Rattle.owner_sets.specs.declared.link.Link.{Link}
 use Rattle.owner_sets.specs.Gathered.{IsWithin}
 use Rattle.owner_sets.specs.Links.{link, link_at, links, place_named}
 use Rattle.owner_sets.proofs.Ranges.{contains_of_option, contains_option, contains_range}
-use Rattle.owner_sets.proofs.Standing.{Named, NamesRow, StandsAt, held_at, place_named-names, place_named-row, standing_there, there-standing}
+use Rattle.owner_sets.proofs.Standing.{Named, NamesRow, StandsAt, held_at, place_named-names, place_named-row, there-standing}
 
 -- An edge joins the rows at the places of a link.
 pub record Linked (db : Db) (edge : Edge) (lower_at upper_at : ℕ) : Type 0 where

@@ -1,5 +1,5 @@
 -- Ranges of places.
-use Rattle.std.proofs.Common.{◌≡◌, ℕ, ◌+◌, ◌<◌, List, [], ◌∷◌, ◌++◌, inl, inr, refl, ap, ◌∙◌, sym, arith}
+use Rattle.std.proofs.Common.{◌≡◌, ℕ, ◌+◌, ◌<◌, List, [], ◌∷◌, ◌++◌, inl, inr, ap, ◌∙◌, sym, arith}
 use Rattle.std.specs.Prelude.{Contains, Option, Some, None, flat_map}
 use Rattle.std.specs.List.{range_with_len}
 use Rattle.std.specs.Option.{option_to_list}
@@ -33,4 +33,3 @@ module _ {X : Type 0} where
 
   pub contains_option : (o : Option X) (x : X) → o ≡ Some x → Contains (option_to_list o) x
   contains_option o x is = rw is (contains_here x [])
-

@@ -8,7 +8,6 @@ use Rattle.own_base.specs.declared.number.TableNo.{TableNo}
 use Rattle.own_base.specs.declared.row_name.RowName.{RowName}
 use Rattle.own_base.specs.declared.row_name.Subject.{Subject}
 use Rattle.own_model.specs.declared.schema.Edge.{Edge}
-use Rattle.own_model.specs.declared.schema.TableDef.{TableDef}
 use Rattle.own_model.specs.Db.{Db, IsOrdered, Row}
 use Rattle.own_model.specs.Stored.{rows_at}
 use Rattle.schema_model.specs.OwnerSchema.{IsOwnerSchema}
@@ -71,11 +70,11 @@ module _ (which : Which) (db : Db) (done : Sets) (ordered : IsOrdered db) (owner
       let meets = listed_meet which db ordered owner in
       same_rising name_order (names_of set) (listed which db name) (names_rise set settled.rising) (listed_rise which db name ordered)
       (λ subject.
-          let whose = gathered-iff_whose which db done ordered owner name place edges stands same_out above (as_subject subject) in
-          let local = meets.local subject name (there-standing db name place ordered stands) in (
-            (λ among. local.1 (whose.0 ((settled.same (as_subject subject)).0 ((names_of-subject set subject).0 among)))),
-            (λ among. (names_of-subject set subject).1 ((settled.same (as_subject subject)).1 (whose.1 (local.0 among)))),
-          ))
+      let whose = gathered-iff_whose which db done ordered owner name place edges stands same_out above (as_subject subject) in
+      let local = meets.local subject name (there-standing db name place ordered stands) in (
+        (λ among. local.1 (whose.0 ((settled.same (as_subject subject)).0 ((names_of-subject set subject).0 among)))),
+        (λ among. (names_of-subject set subject).1 ((settled.same (as_subject subject)).1 (whose.1 (local.0 among)))),
+      ))
 
   -- what is gathered for each row of a table, as a set, is its set
   pub settled_sets : (lists sets : List (List Subject)) → ((place : ℕ) (row : Row) → slice_get (rows_at db.rows table.0) place ≡ Some row → get_or lists place [] ≡ gathered which db.schema db.rows done table.0 edges place)

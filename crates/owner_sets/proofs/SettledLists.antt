@@ -1,6 +1,5 @@
 -- A list that is sorted and has no subject twice is a set.
 use Rattle.std.proofs.Common.{◌≡◌, ℕ, zero, suc, List, [], ◌∷◌, ◌++◌, get_or, refl, ap, sym, ◌∙◌, subst, append-nil, append_assoc}
-use Rattle.std.specs.Prelude.{Contains, slice_index_or}
 use Rattle.std.specs.Cmp.{IsTotalOrder}
 use Rattle.std.specs.List.Sorted.{IsStrictlySortedBy}
 use Rattle.std.proofs.lemmas.Cmp.{on_total}

@@ -1,5 +1,5 @@
 -- Rows at places of tables, and their names.
-use Rattle.std.proofs.Common.{◌≡◌, ℕ, ◌<◌, List, [], ◌∷◌, length, Bool, true, false, ◌&&◌, inl, inr, refl, ap, sym, ◌∙◌, subst, arith}
+use Rattle.std.proofs.Common.{◌≡◌, ℕ, Bool, true, false, ◌&&◌, refl, ap, sym, ◌∙◌, subst}
 use Rattle.std.specs.Prelude.{Option, Some, None, find, is_some, position, slice_get}
 use Rattle.std.specs.Option.{option_and_then}
 use Rattle.own_base.specs.Key.{key_cmp}
@@ -16,7 +16,6 @@ use Rattle.owner_model.specs.Joins.{row_of, value_at, value_of}
 use Rattle.query_model.specs.Footprints.{literal_key}
 use Rattle.schema_model.specs.Tables.{is_subject}
 use Rattle.schema_model.proofs.Found.{find-only, find-some, position-some}
-use Rattle.schema_model.proofs.Places.{place-lt}
 use Rattle.subject_model.specs.Named.{is_there, name_of}
 use Rattle.subject_model.specs.Paths.{is_subject_row}
 use Rattle.subject_model.proofs.NamedLemmas.{key_is, one_key}
@@ -42,8 +41,8 @@ module _ (db : Db) (name : RowName) (place : ℕ) where
       rw (stands.table_is)
       (find-only (has_key stands.definition name.key) (rows_at db.rows name.table.0) place stands.row stands.row_is passes
       (λ other row at also.
-          let key : key_of stands.definition row ≡ name.key = one_key (key_of stands.definition row) name.key also in
-          one_place stands.definition (rows_at db.rows name.table.0) other place row stands.row rising at stands.row_is (key ∙ sym stands.key_is)))
+      let key : key_of stands.definition row ≡ name.key = one_key (key_of stands.definition row) name.key also in
+      one_place stands.definition (rows_at db.rows name.table.0) other place row stands.row rising at stands.row_is (key ∙ sym stands.key_is)))
 
   -- and is there
   pub there-standing : IsOrdered db → StandsAt db name place → is_there db name ≡ true

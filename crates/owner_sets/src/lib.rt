@@ -6,8 +6,8 @@ mod gather;
 mod link;
 mod places;
 mod set_at;
-mod settle;
 mod sets;
+mod settle;
 mod which;
 
 pub use sets::OwnerSets;

@@ -84,11 +84,7 @@ fn sets_of<V: StoreView>(
 impl OwnerSets {
     /// The sets of a store's rows, by the graph of its schema's edges. Each table's rows are gone through once for each edge
     /// whose column the table holds, and the rows that they name are looked up; no path is listed.
-    pub fn of<V: StoreView>(
-        alloc: Global,
-        view: &V,
-        graph: &Graph,
-    ) -> Result<OwnerSets, AllocError>
+    pub fn of<V: StoreView>(alloc: Global, view: &V, graph: &Graph) -> Result<OwnerSets, AllocError>
         requires ordered { IsOrdered (db_of (V.schema_of view.now) (V.rows view.now)) }
         requires owner { IsOwnerSchema (V.schema_of view.now) }
         requires graph { IsGraphOf (length (V.schema_of view.now).tables) (V.schema_of view.now).edges graph.now }

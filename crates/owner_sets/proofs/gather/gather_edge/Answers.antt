@@ -1,4 +1,4 @@
-use Rattle.std.proofs.Common.{◌≡◌, List, take, ap, ◌∙◌, subst}
+use Rattle.std.proofs.Common.{◌≡◌, List, take, ◌∙◌, subst}
 use Rattle.std.specs.List.{flat_map}
 use Rattle.std.proofs.lemmas.List.{take_all}
 use Rattle.owner_sets.specs.declared.link.Link.{Link}

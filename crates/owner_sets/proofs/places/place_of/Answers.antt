@@ -1,7 +1,6 @@
-use Rattle.std.proofs.Common.{◌≡◌, Some, ap, sym, ◌∙◌, subst, length, get_or, refl}
+use Rattle.std.proofs.Common.{◌≡◌, Some, ap, ◌∙◌, length, refl}
 use Rattle.std.specs.Prelude.{slice_get}
 use Rattle.std.proofs.lemmas.Option.{slice_get_read}
-use Rattle.own_model.specs.Db.{IsRising}
 use Rattle.owner_sets.proofs.Searched.{rising_at}
 use Rattle.owner_sets.proofs.places.place_of.Goals as goal
 

@@ -1,4 +1,4 @@
-use Rattle.std.proofs.Common.{◌≡◌, ◌+◌, ◌-◌, ◌<◌, ◌≤◌, sym, ap, ◌∙◌, arith}
+use Rattle.std.proofs.Common.{sym, ap, ◌∙◌, arith}
 use Rattle.own_model.specs.Db.{as_key, key_of}
 use Rattle.own_model.specs.Stored.{is_equal, rows_at}
 use Rattle.subject_model.proofs.NamedLemmas.{one_key}

@@ -30,6 +30,6 @@ returns g c =
     (λ (sets : List (List Subject)). (place : ℕ) → IsSettled (get_or c.in_ok-lists.lists.items place []) (get_or sets place []))
     (AreSetsOfTable db (listed c.args.which db) c.args.table.0)
     (λ sets settled.
-        settled_sets c.args.which db c.args.done.now c.requires.ordered c.requires.owner c.args.table c.args.edges.now c.requires.edges c.requires.above c.in_ok-lists.lists.items sets
-        (λ place row at. c.in_ok-lists.ensures place (place-lt (rows_at db.rows c.args.table.0) place row at)) settled)
+    settled_sets c.args.which db c.args.done.now c.requires.ordered c.requires.owner c.args.table c.args.edges.now c.requires.edges c.requires.above c.in_ok-lists.lists.items sets
+    (λ place row at. c.in_ok-lists.ensures place (place-lt (rows_at db.rows c.args.table.0) place row at)) settled)
     c.as_sets.ensures

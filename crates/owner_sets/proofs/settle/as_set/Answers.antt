@@ -1,12 +1,10 @@
-use Rattle.std.proofs.Common.{◌≡◌, List, sym, ◌∙◌, subst}
-use Rattle.std.specs.Prelude.{Contains}
+use Rattle.std.proofs.Common.{◌≡◌, sym, ◌∙◌, subst}
 use Rattle.std.specs.List.{dedup}
 use Rattle.std.proofs.lemmas.List.Filters.{dedup_is}
 use Rattle.std.proofs.lemmas.List.Kept.{Contains-dedup, Contains-from_dedup, IsStrictlySortedBy-dedup}
 use Rattle.std.proofs.lemmas.List.Sorted.{Contains-permutation, IsPermutation-sym}
-use Rattle.own_base.specs.declared.row_name.Subject.{Subject}
 use Rattle.owner_sets.specs.Settled.{IsSettled}
-use Rattle.owner_sets.proofs.DerivedOrder.{derived_cmp, derived_eq, derived_equal, derived_exact, derived_ties, derived_total, rising_by_name}
+use Rattle.owner_sets.proofs.DerivedOrder.{derived_eq, derived_equal, derived_exact, derived_ties, derived_total, rising_by_name}
 use Rattle.owner_sets.proofs.settle.as_set.Goals as goal
 
 -- the sort puts them in order, and equal ones then stand side by side
