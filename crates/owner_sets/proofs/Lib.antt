@@ -1,0 +1,10 @@
+pub mod AbsentColumns
+pub mod Ranges
+pub mod Searched
+pub mod SettledLists
+pub mod DerivedOrder
+pub mod Standing
+pub mod LinkLemmas
+pub mod GatheredLemmas
+pub mod SetsLemmas
+pub mod InOrder

@@ -1,0 +1,205 @@
+ghost use Rattle.std.specs.Prelude.{◌≡◌, ℕ, ◌<◌, [], ◌++◌, IfOk, OnOk, length, map, slice_index_or, unwrap_or};
+ghost use Rattle.std.specs.List.{AllByRecursion, range_with_len};
+ghost use Rattle.std.specs.Option.{option_copied};
+ghost use Rattle.own_model.specs.Db.{IsOrdered, as_key};
+ghost use Rattle.own_model.specs.Stored.{rows_at};
+ghost use Rattle.owner_sets.specs.Gathered.{HasMore, IsWithin, gathered, handed_down, over_edge, over_link, own_set, row_alone};
+ghost use Rattle.owner_sets.specs.Sets.{db_of};
+ghost use Rattle.schema_model.specs.Tables as spec;
+ghost use Rattle.subject_model.specs.Named.{name_of};
+
+use crate::edges::links;
+use crate::link::Link;
+use crate::set_at::set_at;
+use crate::which::Which;
+use own_base::{Key, List, MakeCopy, Row, RowName, Subject, TableNo, Value};
+use own_model::{Edge, Schema, StoreView, TableDef};
+use std::alloc::{AllocError, Global};
+
+/// Whether the rows of a table are data subjects. Takes no memory.
+fn is_subject(schema: &Schema, table: TableNo) -> bool
+    ensures { result ≡ spec.is_subject schema.now table.0 }
+{
+    match schema.tables.items().get(table.0 as usize) {
+        Some(definition) => definition.subject,
+        None => false,
+    }
+}
+
+/// A value as a key. What stands in no primary key counts as 0.
+fn as_key(alloc: Global, value: Option<&Value>) -> Result<Key, AllocError>
+    ensures { IfOk result (λ key. key ≡ as_key (unwrap_or (option_copied value.entry) Value.Null)) }
+{
+    match value {
+        Some(Value::Int(number)) => Ok(Key::Int(*number)),
+        Some(Value::Text(text)) => Ok(Key::Text(text.copy(alloc)?)),
+        Some(Value::Null | Value::Sum(_)) | None => Ok(Key::Int(0)),
+    }
+}
+
+/// The name of a row of a table.
+#[tactic(auto, unfolding(own_model::specs::Db::key_of), using(crate::proofs::AbsentColumns::absent_columns))]
+fn row_name(
+    alloc: Global,
+    table: TableNo,
+    definition: &TableDef,
+    row: &Row,
+) -> Result<RowName, AllocError>
+    ensures { IfOk result (λ name. name ≡ name_of table.0 definition.now row.now) }
+{
+    let key = as_key(alloc, row.get(definition.key))?;
+    Ok(RowName { table, key })
+}
+
+/// Adds the row at a place of a table, where there is one.
+#[tactic(auto, unfolding(crate::specs::Gathered::row_alone))]
+fn add_row<V: StoreView>(
+    alloc: Global,
+    view: &V,
+    table: TableNo,
+    at: u64,
+    subjects: &mut List<Subject>,
+) -> Result<(), AllocError>
+    requires { table.0 < length (V.schema_of view.now).tables }
+    ensures { OnOk result (subjects.new ≡ subjects.old ++ row_alone (V.schema_of view.now) (V.rows view.now) table.0 at) }
+{
+    let definition = &view.schema().tables.items()[table.0 as usize];
+    match view.row_at(table, at) {
+        Some(row) => {
+            let name = row_name(alloc, table, definition, row)?;
+            subjects.add(Subject(name))
+        }
+        None => Ok(()),
+    }
+}
+
+/// What a row has by itself: a subject row itself, and any other none.
+fn own_set<V: StoreView>(
+    alloc: Global,
+    view: &V,
+    table: TableNo,
+    at: u64,
+) -> Result<List<Subject>, AllocError>
+    requires { table.0 < length (V.schema_of view.now).tables }
+    ensures { IfOk result (λ set. set ≡ own_set (V.schema_of view.now) (V.rows view.now) table.0 at) }
+{
+    let mut set = List::new(alloc);
+    if is_subject(view.schema(), table) {
+        add_row(alloc, view, table, at, &mut set)?;
+    }
+    Ok(set)
+}
+
+/// What each row of a table has by itself.
+fn own_sets<V: StoreView>(
+    alloc: Global,
+    view: &V,
+    table: TableNo,
+) -> Result<Vec<List<Subject>>, AllocError>
+    requires { table.0 < length (V.schema_of view.now).tables }
+    ensures { IfOk result (λ sets. sets.items ≡ map (own_set (V.schema_of view.now) (V.rows view.now) table.0)
+        (range_with_len 0 (length (rows_at (V.rows view.now) table.0)))) }
+{
+    let mut sets = Vec::new(alloc);
+    for at in 0..view.count(table) {
+        sets.push(own_set(alloc, view, table, at)?)?;
+    }
+    Ok(sets)
+}
+
+/// Adds copies of some subjects.
+fn add_copies(
+    alloc: Global,
+    more: &[Subject],
+    subjects: &mut List<Subject>,
+) -> Result<(), AllocError>
+    ensures { OnOk result (subjects.new ≡ subjects.old ++ more.now) }
+{
+    for subject in more {
+        subjects.add(subject.copy(alloc)?)?;
+    }
+    Ok(())
+}
+
+/// Adds what the upper row at a place of a table hands down: itself where it is a subject row, and else its set.
+fn hand_down<V: StoreView>(
+    alloc: Global,
+    view: &V,
+    done: &[List<List<Subject>>],
+    table: TableNo,
+    at: u64,
+    subjects: &mut List<Subject>,
+) -> Result<(), AllocError>
+    requires { table.0 < length (V.schema_of view.now).tables }
+    ensures { OnOk result (subjects.new ≡ subjects.old ++ handed_down (V.schema_of view.now) (V.rows view.now) done.now table.0 at) }
+{
+    if is_subject(view.schema(), table) {
+        add_row(alloc, view, table, at, subjects)
+    } else {
+        add_copies(alloc, set_at(done, table, at), subjects)
+    }
+}
+
+/// Adds what comes down over one link of an edge, to the list of its lower row.
+fn gather_link<V: StoreView>(
+    alloc: Global,
+    view: &V,
+    done: &[List<List<Subject>>],
+    edge: &Edge,
+    link: &Link,
+    gathered: &mut Vec<List<Subject>>,
+) -> Result<(), AllocError>
+    requires { edge.now.upper.0 < length (V.schema_of view.now).tables }
+    ensures { OnOk result (HasMore (λ place. over_link (V.schema_of view.now) (V.rows view.now) done.now edge.now place link.now) gathered.old.items gathered.new.items) }
+{
+    let lower = link.lower as usize;
+    if lower < gathered.len() {
+        let subjects = &mut gathered[lower];
+        hand_down(alloc, view, done, edge.upper, link.upper, subjects)?;
+    }
+    Ok(())
+}
+
+/// Adds what comes down over an edge, to the lists of its lower rows.
+fn gather_edge<V: StoreView>(
+    alloc: Global,
+    view: &V,
+    done: &[List<List<Subject>>],
+    edge: &Edge,
+    gathered: &mut Vec<List<Subject>>,
+) -> Result<(), AllocError>
+    requires within { IsWithin (V.schema_of view.now) edge.now }
+    requires ordered { IsOrdered (db_of (V.schema_of view.now) (V.rows view.now)) }
+    ensures { OnOk result (HasMore (over_edge (V.schema_of view.now) (V.rows view.now) done.now edge.now) gathered.old.items gathered.new.items) }
+{
+    let links = links(alloc, view, edge)?;
+    for link in &links {
+        gather_link(alloc, view, done, edge, link, gathered)?;
+    }
+    Ok(())
+}
+
+/// For each row of a table all that it has by itself and that comes down to it, over those of the edges out of it that
+/// count. What the upper tables' rows have is done.
+pub(crate) fn gathered<V: StoreView>(
+    alloc: Global,
+    view: &V,
+    which: Which,
+    done: &[List<List<Subject>>],
+    table: TableNo,
+    edges: &[Edge],
+) -> Result<Vec<List<Subject>>, AllocError>
+    requires there { table.0 < length (V.schema_of view.now).tables }
+    requires within { AllByRecursion (IsWithin (V.schema_of view.now)) edges.now }
+    requires ordered { IsOrdered (db_of (V.schema_of view.now) (V.rows view.now)) }
+    ensures { IfOk result (λ lists. (place : ℕ) → place < length (rows_at (V.rows view.now) table.0)
+        → slice_index_or lists.items place [] ≡ gathered which (V.schema_of view.now) (V.rows view.now) done.now table.0 edges.now place) }
+{
+    let mut lists = own_sets(alloc, view, table)?;
+    for edge in edges {
+        if which.counts(edge) {
+            gather_edge(alloc, view, done, edge, &mut lists)?;
+        }
+    }
+    Ok(lists)
+}

@@ -1,0 +1,13 @@
+//! Which data subjects own each row of a store, and which reach it.
+#![tactic(auto)]
+
+mod edges;
+mod gather;
+mod link;
+mod places;
+mod set_at;
+mod sets;
+mod settle;
+mod which;
+
+pub use sets::OwnerSets;

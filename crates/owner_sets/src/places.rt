@@ -1,0 +1,104 @@
+ghost use Rattle.std.specs.Prelude.{◌≡◌, ◌<◌, Some, length, slice_get};
+ghost use Rattle.std.specs.Option.{option_copied};
+ghost use Rattle.own_base.specs.Key.{key_cmp};
+ghost use Rattle.own_base.specs.declared.value.Key.TheVariants.{Int};
+ghost use Rattle.own_model.specs.Db.{IsOrdered, IsRising, as_key, key_of};
+ghost use Rattle.own_model.specs.Stored.{rows_at};
+ghost use Rattle.owner_sets.specs.Links.{place_named, place_of};
+ghost use Rattle.owner_sets.specs.Sets.{db_of};
+
+use own_base::{Row, TableNo, Value};
+use own_model::{StoreView, TableDef};
+use std::cmp::Ordering;
+
+/// How a number stands to a value as a key.
+fn compared_number(left: &i64, right: &Value) -> Ordering
+    ensures { result ≡ key_cmp (Int left.now) (as_key right.now) }
+{
+    match right {
+        Value::Int(right) => left.cmp(right),
+        Value::Text(_) => Ordering::Less,
+        Value::Null | Value::Sum(_) => left.cmp(&0),
+    }
+}
+
+/// How a value stands to another as a key. What stands in no primary key counts as 0.
+fn compared_value(left: &Value, right: &Value) -> Ordering
+    ensures { result ≡ key_cmp (as_key left.now) (as_key right.now) }
+{
+    match left {
+        Value::Int(left) => compared_number(left, right),
+        Value::Text(left) => match right {
+            Value::Text(right) => left.cmp(right),
+            Value::Int(_) | Value::Null | Value::Sum(_) => Ordering::Greater,
+        },
+        Value::Null | Value::Sum(_) => compared_number(&0, right),
+    }
+}
+
+/// How the key of a row stands to a value as a key. Takes no memory.
+#[tactic(auto, unfolding(own_model::specs::Db::key_of), using(crate::proofs::AbsentColumns::absent_columns))]
+fn compared(definition: &TableDef, row: &Row, value: &Value) -> Ordering
+    ensures { result ≡ key_cmp (key_of definition.now row.now) (as_key value.now) }
+{
+    match row.get(definition.key) {
+        Some(key) => compared_value(key, value),
+        None => compared_number(&0, value),
+    }
+}
+
+/// The place of the row of a table that has this key, among rows whose keys rise. It takes as many looks as the number of
+/// rows has bits, and no memory.
+fn searched<V: StoreView>(
+    view: &V,
+    table: TableNo,
+    definition: &TableDef,
+    key: &Value,
+) -> Option<u64>
+    requires there { slice_get (V.schema_of view.now).tables table.0 ≡ Some definition.now }
+    requires rising { IsRising definition.now (rows_at (V.rows view.now) table.0) }
+    ensures { result ≡ place_of (V.schema_of view.now) (V.rows view.now) table.0 (as_key key.now) }
+{
+    let mut low = 0;
+    let mut high = view.count(table);
+    while low < high {
+        let middle = low + (high - low) / 2;
+        let row = view.row_at(table, middle)?;
+        match compared(definition, row, key) {
+            Ordering::Less => low = middle + 1,
+            Ordering::Equal => return Some(middle),
+            Ordering::Greater => high = middle,
+        }
+    }
+    None
+}
+
+/// The place of the row of a table that has this key, where there is one.
+fn place_of<V: StoreView>(view: &V, table: TableNo, key: &Value) -> Option<u64>
+    requires there { table.0 < length (V.schema_of view.now).tables }
+    requires ordered { IsOrdered (db_of (V.schema_of view.now) (V.rows view.now)) }
+    ensures { result ≡ place_of (V.schema_of view.now) (V.rows view.now) table.0 (as_key key.now) }
+{
+    let definition = &view.schema().tables.items()[table.0 as usize];
+    searched(view, table, definition, key)
+}
+
+/// The place of the row of a table that a value names, where it is a key and there is one. Takes no memory.
+pub(crate) fn place_named<V: StoreView>(
+    view: &V,
+    table: TableNo,
+    value: Option<&Value>,
+) -> Option<u64>
+    requires there { table.0 < length (V.schema_of view.now).tables }
+    requires ordered { IsOrdered (db_of (V.schema_of view.now) (V.rows view.now)) }
+    ensures { result ≡ place_named (V.schema_of view.now) (V.rows view.now) table.0 (option_copied value.entry) }
+{
+    match value {
+        Some(value) => match value {
+            Value::Int(_) => place_of(view, table, value),
+            Value::Text(_) => place_of(view, table, value),
+            Value::Null | Value::Sum(_) => None,
+        },
+        None => None,
+    }
+}
