@@ -35,7 +35,7 @@ use Rattle.run_model.specs.Run.{Outcome, answered, run, run_bound, run_unless, s
 use Rattle.run_model.specs.Update.{Sets, update_faults, updated, updated_rows}
 use Rattle.history_model.specs.History.{after_reply, left_by}
 use Rattle.history_model.specs.World.{Outside, World}
-use Rattle.history_tests.specs.Written.{equals, here, int, update}
+use Rattle.history_tests.specs.Written.{here, int, update}
 use Rattle.history_tests.proofs.Conditions.{faults_are, holds, means}
 use Rattle.history_tests.proofs.KeyedSelect.{written_as}
 use Rattle.history_tests.proofs.Steps.{call_of}
@@ -63,10 +63,10 @@ pub bound_update_is : (schema : Schema) (table name : String) (to : Expr) (numbe
 unfolding bound_statement faults meaning faults_of_update
 bound_update_is schema table name to number right =
     ap (λ found. bound_unless (lowest (faults_before schema table name to ++ found)) (meaning schema (update table name to number)))
-        (faults_are (table_scope schema (codes table)) (here "id") Eq (operand.Literal (int number)))
+    (faults_are (table_scope schema (codes table)) (here "id") Eq (operand.Literal (int number)))
     ∙ ap (λ found. bound_unless found (meaning schema (update table name to number))) right
     ∙ ap (λ condition. Ok (bound.Update (table_number schema (codes table)) (sets_meant schema table name to) (Some condition)))
-        (means (table_scope schema (codes table)) (here "id") Eq (operand.Literal (int number)))
+    (means (table_scope schema (codes table)) (here "id") Eq (operand.Literal (int number)))
 
 -- whether a row has the key
 abbrev pub has_key_of : Schema → String → ℕ → Row → Bool
@@ -97,7 +97,7 @@ update_runs db table name to number right =
     ap (run_unless db) (bound_update_is db.schema table name to number right)
     ∙ update_in_is db (table_number db.schema (codes table)).0 (sets_meant db.schema table name to) _ (slice_get db.schema.tables (table_number db.schema (codes table)).0)
     ∙ ap (λ test. update_where db (table_number db.schema (codes table)).0 (sets_meant db.schema table name to) test (slice_get db.schema.tables (table_number db.schema (codes table)).0))
-        (fun_ext (λ row. ap is_true (holds row _ Eq (bound_operand.Literal (int number)))))
+    (fun_ext (λ row. ap is_true (holds row _ Eq (bound_operand.Literal (int number)))))
 
 -- the database after a write outside of transactions
 pub write_leaves : (world : World) (session call count : ℕ) (asked : Statement) (outcome : Outcome) → world.standing session ≡ Outside

@@ -4,3 +4,4 @@ pub mod KeyedReads
 pub mod KeyedSelect
 pub mod KeyedUpdate
 pub mod Steps
+pub mod Texts

@@ -41,11 +41,11 @@ pub fn delete_leaves_no_reference_to_nothing()
 /// Two rows hold one value of a UNIQUE column: the first of them is named. NULL may stand there twice.
 pub fn unique_column_holds_a_value_once()
     ensures { told_behind (after social) (session 1 (
-            insert "users" ((int 4 ∷ text "Di" ∷ text "a@x" ∷ []) ∷ [])
-            ∷ insert "users" ((int 4 ∷ text "Di" ∷ null ∷ []) ∷ [])
-            ∷ []))
+        insert "users" ((int 4 ∷ text "Di" ∷ text "a@x" ∷ []) ∷ [])
+        ∷ insert "users" ((int 4 ∷ text "Di" ∷ null ∷ []) ∷ [])
+        ∷ []))
         ≡ lines (
-            "18 1.19 refused unique users 1 mail"
-            ∷ "19 1.20 ok 1"
-            ∷ []) }
+        "18 1.19 refused unique users 1 mail"
+        ∷ "19 1.20 ok 1"
+        ∷ []) }
 {}

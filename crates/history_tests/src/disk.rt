@@ -70,15 +70,15 @@ pub fn write_without_room_changes_nothing()
 /// A CHECKPOINT asks for nothing but the disk, also while a transaction is open.
 pub fn checkpoint_needs_the_disk()
     ensures { told_behind (after messages) (
-            session 1 (begin ∷ insert "users" ((int 8 ∷ text "Cy" ∷ []) ∷ []) ∷ [])
-            ++ session 2 (Checkpoint ∷ [])
-            ++ meeting DiskFault 2 Checkpoint
-            ++ session 1 (commit ∷ []))
+        session 1 (begin ∷ insert "users" ((int 8 ∷ text "Cy" ∷ []) ∷ []) ∷ [])
+        ++ session 2 (Checkpoint ∷ [])
+        ++ meeting DiskFault 2 Checkpoint
+        ++ session 1 (commit ∷ []))
         ≡ lines (
-            "4 1.5 ok"
-            ∷ "5 1.6 ok 1"
-            ∷ "6 2.1 ok"
-            ∷ "7 2.2 disk"
-            ∷ "8 1.7 down 7"
-            ∷ []) }
+        "4 1.5 ok"
+        ∷ "5 1.6 ok 1"
+        ∷ "6 2.1 ok"
+        ∷ "7 2.2 disk"
+        ∷ "8 1.7 down 7"
+        ∷ []) }
 {}

@@ -103,18 +103,18 @@ pub fn doom_is_told_once()
 /// A FORGET for which there is no room changes nothing, and dooms nobody.
 pub fn forget_without_room_dooms_nobody()
     ensures { told_behind (after messages) (
-            session 1 (begin ∷ select_ids "users" ∷ [])
-            ++ meeting NoRoom 2 (forget "users" 5)
-            ++ session 1 (commit ∷ select_ids "users" ∷ []))
+        session 1 (begin ∷ select_ids "users" ∷ [])
+        ++ meeting NoRoom 2 (forget "users" 5)
+        ++ session 1 (commit ∷ select_ids "users" ∷ []))
         ≡ lines (
-            "4 1.5 ok"
-            ∷ "5 1.6 rows 2"
-            ∷ "  5"
-            ∷ "  7"
-            ∷ "6 2.1 refused limit room 4611686018427387904"
-            ∷ "7 1.7 ok"
-            ∷ "8 1.8 rows 2"
-            ∷ "  5"
-            ∷ "  7"
-            ∷ []) }
+        "4 1.5 ok"
+        ∷ "5 1.6 rows 2"
+        ∷ "  5"
+        ∷ "  7"
+        ∷ "6 2.1 refused limit room 4611686018427387904"
+        ∷ "7 1.7 ok"
+        ∷ "8 1.8 rows 2"
+        ∷ "  5"
+        ∷ "  7"
+        ∷ []) }
 {}

@@ -117,24 +117,24 @@ pub fn forget_leaves_no_reference_to_what_it_removes()
 /// What FORGET leaves may be NULL where no statement puts NULL.
 pub fn forget_leaves_null_in_a_column_that_takes_none()
     ensures { told (session 1 (
-            create_subject "users" (id ∷ [])
-            ∷ create "notes" (id ∷ int_column "about" (not_null ∷ plain "users" ∷ []) ∷ [])
-            ∷ insert "users" ((int 5 ∷ []) ∷ [])
-            ∷ insert "notes" ((int 1 ∷ int 5 ∷ []) ∷ [])
-            ∷ forget "users" 5
-            ∷ select_all "notes"
-            ∷ update_all "notes" "about" (other "about")
-            ∷ []))
+        create_subject "users" (id ∷ [])
+        ∷ create "notes" (id ∷ int_column "about" (not_null ∷ plain "users" ∷ []) ∷ [])
+        ∷ insert "users" ((int 5 ∷ []) ∷ [])
+        ∷ insert "notes" ((int 1 ∷ int 5 ∷ []) ∷ [])
+        ∷ forget "users" 5
+        ∷ select_all "notes"
+        ∷ update_all "notes" "about" (other "about")
+        ∷ []))
         ≡ lines (
-            "0 1.1 ok"
-            ∷ "1 1.2 ok"
-            ∷ "2 1.3 ok 1"
-            ∷ "3 1.4 ok 1"
-            ∷ "4 1.5 forgot 1 removed 1 changed"
-            ∷ "5 1.6 rows 1"
-            ∷ "  1|NULL"
-            ∷ "6 1.7 refused null about"
-            ∷ []) }
+        "0 1.1 ok"
+        ∷ "1 1.2 ok"
+        ∷ "2 1.3 ok 1"
+        ∷ "3 1.4 ok 1"
+        ∷ "4 1.5 forgot 1 removed 1 changed"
+        ∷ "5 1.6 rows 1"
+        ∷ "  1|NULL"
+        ∷ "6 1.7 refused null about"
+        ∷ []) }
 {}
 
 /// Nobody is forgotten where there is no such subject, and a row of another table isn't one.

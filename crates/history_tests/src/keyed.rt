@@ -4,8 +4,14 @@
 
 ghost use Rattle.std.specs.Prelude.{◌≡◌, [], ◌∷◌, ◌++◌};
 ghost use Rattle.history_tests.specs.Stores.{after, messages, social};
-ghost use Rattle.history_tests.specs.Told.{lines, session, told, told_behind};
+ghost use Rattle.history_tests.specs.Told.{lines, session, texts, told, told_behind};
 ghost use Rattle.history_tests.specs.Written.{begin, commit, constant, create, forget, get, id, insert, int, int_column, select_all, select_key, update};
+
+/// What is asked of one row.
+pub fn calls_by_key_are_these_texts()
+    ensures select { texts (select_key "users" 5 ∷ []) ≡ lines ("SELECT * FROM users WHERE id = 5" ∷ []) }
+    ensures update { texts (update "comments" "author" (constant (int 2)) 2 ∷ []) ≡ lines ("UPDATE comments SET author = 2 WHERE id = 2" ∷ []) }
+{}
 
 /// Two sessions read a key under which nothing stands. While the first still holds it, the second doesn't write there, nor
 /// create a table; then it does.
@@ -64,25 +70,25 @@ pub fn forget_leaves_a_reader_of_another_key()
 /// A comment is given another author: who wrote it reaches it no more; who saw it by the circle owns it now.
 pub fn comment_goes_to_another_author()
     ensures { told_behind (after social) (session 1 (
-            get "users" 3
-            ∷ update "comments" "author" (constant (int 2)) 2
-            ∷ get "users" 3
-            ∷ get "users" 2
-            ∷ []))
+        get "users" 3
+        ∷ update "comments" "author" (constant (int 2)) 2
+        ∷ get "users" 3
+        ∷ get "users" 2
+        ∷ []))
         ≡ lines (
-            "18 1.19 got 2"
-            ∷ "  users|3|'Cy'|NULL"
-            ∷ "  comments|2|1|3|'late'"
-            ∷ "19 1.20 ok 1"
-            ∷ "20 1.21 got 1"
-            ∷ "  users|3|'Cy'|NULL"
-            ∷ "21 1.22 got 7"
-            ∷ "  users|2|'Ben'|'b@x'"
-            ∷ "  circles|1|'chess'"
-            ∷ "  members|2|2|1"
-            ∷ "  posts|1|1|1|'first'"
-            ∷ "  comments|1|1|2|'nice'"
-            ∷ "  comments|2|1|2|'late'"
-            ∷ "  likes|1|1|2"
-            ∷ []) }
+        "18 1.19 got 2"
+        ∷ "  users|3|'Cy'|NULL"
+        ∷ "  comments|2|1|3|'late'"
+        ∷ "19 1.20 ok 1"
+        ∷ "20 1.21 got 1"
+        ∷ "  users|3|'Cy'|NULL"
+        ∷ "21 1.22 got 7"
+        ∷ "  users|2|'Ben'|'b@x'"
+        ∷ "  circles|1|'chess'"
+        ∷ "  members|2|2|1"
+        ∷ "  posts|1|1|1|'first'"
+        ∷ "  comments|1|1|2|'nice'"
+        ∷ "  comments|2|1|2|'late'"
+        ∷ "  likes|1|1|2"
+        ∷ []) }
 {}

@@ -10,3 +10,4 @@ pub mod keyed;
 pub mod locking;
 pub mod reading;
 pub mod showing;
+pub mod telling;

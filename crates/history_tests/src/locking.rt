@@ -206,72 +206,72 @@ pub fn conflict_names_the_lowest_session()
 /// Inside a transaction these calls are refused before anything else is asked of them.
 pub fn some_calls_stand_outside_alone()
     ensures { told_behind (after messages) (session 1 (
-            begin
-            ∷ begin
-            ∷ get "nobody" 5
-            ∷ forget "users" 5
-            ∷ create "users" []
-            ∷ Checkpoint
-            ∷ Explain
-            ∷ select_all "nobody"
-            ∷ rollback
-            ∷ rollback
-            ∷ []))
+        begin
+        ∷ begin
+        ∷ get "nobody" 5
+        ∷ forget "users" 5
+        ∷ create "users" []
+        ∷ Checkpoint
+        ∷ Explain
+        ∷ select_all "nobody"
+        ∷ rollback
+        ∷ rollback
+        ∷ []))
         ≡ lines (
-            "4 1.5 ok"
-            ∷ "5 1.6 refused inside"
-            ∷ "6 1.7 refused inside"
-            ∷ "7 1.8 refused inside"
-            ∷ "8 1.9 refused inside"
-            ∷ "9 1.10 refused inside"
-            ∷ "10 1.11 refused inside"
-            ∷ "11 1.12 refused table nobody"
-            ∷ "12 1.13 ok"
-            ∷ "13 1.14 refused outside"
-            ∷ []) }
+        "4 1.5 ok"
+        ∷ "5 1.6 refused inside"
+        ∷ "6 1.7 refused inside"
+        ∷ "7 1.8 refused inside"
+        ∷ "8 1.9 refused inside"
+        ∷ "9 1.10 refused inside"
+        ∷ "10 1.11 refused inside"
+        ∷ "11 1.12 refused table nobody"
+        ∷ "12 1.13 ok"
+        ∷ "13 1.14 refused outside"
+        ∷ []) }
 {}
 
 /// A text that is no statement leaves its transaction open. The end of a session ends it without effect.
 pub fn end_of_a_session_ends_its_transaction()
     ensures { told_behind (after messages) (
-            session 1 (begin ∷ insert "users" ((int 8 ∷ text "Cy" ∷ []) ∷ []) ∷ [])
-            ++ request 1 (Syntax 3)
-            ++ session 2 (insert "users" ((int 8 ∷ text "Di" ∷ []) ∷ []) ∷ [])
-            ++ request 1 End
-            ++ session 2 (insert "users" ((int 8 ∷ text "Di" ∷ []) ∷ []) ∷ []))
+        session 1 (begin ∷ insert "users" ((int 8 ∷ text "Cy" ∷ []) ∷ []) ∷ [])
+        ++ request 1 (Syntax 3)
+        ++ session 2 (insert "users" ((int 8 ∷ text "Di" ∷ []) ∷ []) ∷ [])
+        ++ request 1 End
+        ++ session 2 (insert "users" ((int 8 ∷ text "Di" ∷ []) ∷ []) ∷ []))
         ≡ lines (
-            "4 1.5 ok"
-            ∷ "5 1.6 ok 1"
-            ∷ "6 1.7 refused syntax 3"
-            ∷ "7 2.1 refused conflict 1 users 8"
-            ∷ "8 1.8 end"
-            ∷ "9 2.2 ok 1"
-            ∷ []) }
+        "4 1.5 ok"
+        ∷ "5 1.6 ok 1"
+        ∷ "6 1.7 refused syntax 3"
+        ∷ "7 2.1 refused conflict 1 users 8"
+        ∷ "8 1.8 end"
+        ∷ "9 2.2 ok 1"
+        ∷ []) }
 {}
 
 /// A view is read with its tables whole: those of comments, then those of posts and users.
 pub fn view_holds_its_tables()
     ensures { told_behind (after social) (
-            session 1 (begin ∷ select_all "per_post" ∷ [])
-            ++ session 2 (
-                insert "comments" ((int 3 ∷ int 1 ∷ int 3 ∷ text "x" ∷ []) ∷ [])
-                ∷ insert "posts" ((int 2 ∷ int 1 ∷ null ∷ text "y" ∷ []) ∷ [])
-                ∷ [])
-            ++ session 1 (select_all "shown" ∷ [])
-            ++ session 2 (
-                insert "posts" ((int 3 ∷ int 1 ∷ null ∷ text "z" ∷ []) ∷ [])
-                ∷ insert "likes" ((int 2 ∷ int 1 ∷ int 2 ∷ []) ∷ [])
-                ∷ []))
+        session 1 (begin ∷ select_all "per_post" ∷ [])
+        ++ session 2 (
+        insert "comments" ((int 3 ∷ int 1 ∷ int 3 ∷ text "x" ∷ []) ∷ [])
+        ∷ insert "posts" ((int 2 ∷ int 1 ∷ null ∷ text "y" ∷ []) ∷ [])
+        ∷ [])
+        ++ session 1 (select_all "shown" ∷ [])
+        ++ session 2 (
+        insert "posts" ((int 3 ∷ int 1 ∷ null ∷ text "z" ∷ []) ∷ [])
+        ∷ insert "likes" ((int 2 ∷ int 1 ∷ int 2 ∷ []) ∷ [])
+        ∷ []))
         ≡ lines (
-            "18 1.19 ok"
-            ∷ "19 1.20 rows 1"
-            ∷ "  1|2"
-            ∷ "20 2.1 refused conflict 1 comments 3"
-            ∷ "21 2.2 ok 1"
-            ∷ "22 1.21 rows 2"
-            ∷ "  1|'Ada'"
-            ∷ "  2|'Ada'"
-            ∷ "23 2.3 refused conflict 1 posts 3"
-            ∷ "24 2.4 ok 1"
-            ∷ []) }
+        "18 1.19 ok"
+        ∷ "19 1.20 rows 1"
+        ∷ "  1|2"
+        ∷ "20 2.1 refused conflict 1 comments 3"
+        ∷ "21 2.2 ok 1"
+        ∷ "22 1.21 rows 2"
+        ∷ "  1|'Ada'"
+        ∷ "  2|'Ada'"
+        ∷ "23 2.3 refused conflict 1 posts 3"
+        ∷ "24 2.4 ok 1"
+        ∷ []) }
 {}
