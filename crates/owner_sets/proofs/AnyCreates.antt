@@ -1,5 +1,5 @@
 -- How a database's tables were created has no part in whose its rows are.
-use Rattle.std.proofs.Common.{◌≡◌, Bool, inl, inr, refl, ap, sym, ◌∙◌, subst, map}
+use Rattle.std.proofs.Common.{◌≡◌, inl, inr, refl, ap, sym, ◌∙◌, map}
 use Rattle.std.specs.Prelude.{◌⊎◌, ◌↔◌, Contains, IsFalse, IsTrue}
 use Rattle.own_base.specs.declared.row_name.RowName.{RowName}
 use Rattle.own_model.specs.declared.schema.Edge.{Edge}
