@@ -8,3 +8,4 @@ pub mod LinkLemmas
 pub mod GatheredLemmas
 pub mod SetsLemmas
 pub mod InOrder
+pub mod AnyCreates

@@ -28,12 +28,12 @@ use Rattle.owner_sets.proofs.GatheredLemmas.{gathered-iff_whose}
 use Rattle.owner_sets.proofs.Standing.{StandsAt, standing_at, there-standing}
 
 -- the lists of either kind meet its local equation
-listed_meet : (which : Which) (db : Db) → IsOrdered db → IsOwnerSchema db.schema → MeetsLocalEquation db (counts which) (λ subject name. Contains (listed which db name) subject)
+pub listed_meet : (which : Which) (db : Db) → IsOrdered db → IsOwnerSchema db.schema → MeetsLocalEquation db (counts which) (λ subject name. Contains (listed which db name) subject)
 listed_meet Owners db ordered owner = owners_meet db ordered owner
 listed_meet Reach db ordered owner = reach_meets db ordered owner
 
 -- and rise
-listed_rise : (which : Which) (db : Db) (name : RowName) → IsOrdered db → IsStrictlySortedBy name_cmp (listed which db name)
+pub listed_rise : (which : Which) (db : Db) (name : RowName) → IsOrdered db → IsStrictlySortedBy name_cmp (listed which db name)
 listed_rise Owners db name ordered = owners_rise db name ordered
 listed_rise Reach db name ordered = reach_rise db name ordered
 
