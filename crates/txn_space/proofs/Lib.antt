@@ -1,0 +1,2 @@
+mod PlaceSteps
+mod SpotLemmas
