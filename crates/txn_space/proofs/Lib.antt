@@ -1,2 +1,5 @@
+mod CountLemmas
+mod CutLemmas
 mod PlaceSteps
 mod SpotLemmas
+mod WalkLemmas

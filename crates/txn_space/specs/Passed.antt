@@ -23,7 +23,7 @@ pub record IsPartFrom (rows : List Row) (place : ℕ) (run : List Row) : Type 0 
 -- so many places behind rows, and the rows behind an entry are those of the base from a place on
 pub record IsBehind (table : TableDef) (entry : Entry) (rows : List Row) (from place next left : ℕ) : Type 0 where
   pub within : next ≤ length rows
-  pub place : place ≡ length (upto_entry table entry (drop from rows)) + left
+  pub sums : place ≡ length (upto_entry table entry (drop from rows)) + left
   pub above : above_key (key_of table) key_cmp (entry_key entry) (drop from rows) ≡ drop next rows
 
 abbrev pub IsPassed : TableDef → Entry → List Row → ℕ → ℕ → Passed → Type 0

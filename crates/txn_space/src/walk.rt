@@ -101,9 +101,10 @@ pub(crate) fn run_from<'a, V: StoreView>(
             }
         }
     }
-    match from.checked_add(left) {
-        Some(place) => base.rows_from(table, place),
-        None => &[],
+    if left < base.count(table) - from {
+        base.rows_from(table, from + left)
+    } else {
+        &[]
     }
 }
 
