@@ -1,5 +1,6 @@
 mod CountLemmas
 mod CutLemmas
 mod PlaceSteps
+mod RoomLemmas
 mod SpotLemmas
 mod WalkLemmas

@@ -1,5 +1,6 @@
 -- The changed rows of a transaction: for each table, by its number, its entries by rising key.
 use Rattle.std.specs.Prelude.{ℕ, List, [], Option, map, slice_index_or}
+use Rattle.own_base.specs.declared.change.Change.{Change}
 use Rattle.own_base.specs.declared.value.Key.{Key}
 use Rattle.own_model.specs.Db.{Row}
 use Rattle.page_model.specs.Paged.{Paged, items}
@@ -20,3 +21,7 @@ seen tables = map items tables
 -- those of the table that has this number
 abbrev pub entries_at : List (List Entry) → ℕ → List Entry
 entries_at space number = slice_index_or space number []
+
+-- the entry that a change puts
+abbrev pub entry_of : Change → Entry
+entry_of change = record { key = change.name.key; row = change.after }

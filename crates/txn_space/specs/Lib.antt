@@ -1,3 +1,7 @@
 pub mod Changed
 pub mod Entries
+pub mod HasPut
 pub mod Passed
+pub mod Put
+pub mod Shown
+pub mod Sound

@@ -3,7 +3,7 @@
 
 mod entry;
 //mod over;
-//mod put;
+mod put;
 mod row_key;
 //mod space;
 mod spot;
