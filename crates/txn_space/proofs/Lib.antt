@@ -1,6 +1,7 @@
 mod CountLemmas
 mod CutLemmas
 mod PlaceSteps
+mod PutLemmas
 mod RoomLemmas
 mod SpotLemmas
 mod WalkLemmas

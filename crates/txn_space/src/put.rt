@@ -35,7 +35,8 @@ fn put_one(
     }
     let key = change.name.key.copy(alloc)?;
     let row = change.after.copy(alloc)?;
-    entries.change(alloc, &Putting(Entry { key, row }))
+    entries.change(alloc, &Putting(Entry { key, row }))?;
+    Ok(())
 }
 
 /// Makes changes in the entries of their tables, one after another.
