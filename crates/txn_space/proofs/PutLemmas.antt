@@ -41,7 +41,7 @@ module _ (table : TableDef) where
       each_with_changes entry_key key_order entry_key (λ (e : Entry). Some e) (λ e. IfSome (entry_row e) (λ row. key_of table row ≡ entry_key e)) (entry ∷ []) entries all (keyed, tt)
 
   -- a key's row, by its entry or the base
-  row_of : (key : Key) (entries : List Entry) (rows : List Row) → IsRising entry_key key_cmp entries → AreKeyed (key_of table) entry_key entry_row entries
+  pub row_of : (key : Key) (entries : List Entry) (rows : List Row) → IsRising entry_key key_cmp entries → AreKeyed (key_of table) entry_key entry_row entries
       → found (key_of table) key_cmp key (rows_with table entries rows) ≡ option_map_or entry_row (found entry_key key_cmp key entries) (found (key_of table) key_cmp key rows)
   unfolding found
   row_of key entries rows rising keyed = found_with_changes (key_of table) key_order entry_key entry_row key entries rows keyed (rising_differ key_cmp (map entry_key entries) rising)

@@ -2,13 +2,13 @@
 #![tactic(auto)]
 
 mod entry;
-//mod over;
+mod over;
 mod put;
 mod row_key;
-//mod space;
+mod space;
 mod spot;
 mod walk;
 
 pub use entry::Entry;
-//pub use over::Over;
-//pub use space::Space;
+pub use over::Over;
+pub use space::Space;

@@ -1,0 +1,154 @@
+ghost use Rattle.std.specs.Prelude.{◌≡◌, ◌<◌, [], IfOk, MatchOption, OnErr, OnOk, length, slice_get};
+ghost use Rattle.std.specs.List.{AllByRecursion};
+ghost use Rattle.std.specs.Option.{option_copied};
+ghost use Rattle.own_model.specs.Db.{AreRising};
+ghost use Rattle.own_model.specs.Stored.{IsRunFrom, row_named, rows_at};
+ghost use Rattle.page_model.specs.Paged.{items};
+ghost use Rattle.txn_space.specs.Changed.{changed_rows};
+ghost use Rattle.txn_space.specs.Entries.{entries_at};
+ghost use Rattle.txn_space.specs.Put.{IsChangeOf, put_rows};
+ghost use Rattle.txn_space.specs.Sound.{IsBase, IsSpaceOf};
+
+use crate::entry::{ByKey, Entries, Entry};
+use crate::over::Over;
+use crate::put::put_all;
+use crate::row_key::definition_of;
+use crate::walk::{count_with, run_from};
+use own_base::{Change, List, MakeCopy, Row, RowName, TableNo};
+use own_model::StoreView;
+use page_tree::Pages;
+use std::alloc::{AllocError, Global};
+use std::marker::Model;
+
+/// What a transaction changes, which contracts see as the list of its entries for each table, by number: each the key of a
+/// row, and the row that stands there now.
+#[derive(Drop)]
+pub struct Space {
+    tables: List<Pages<Entry, ByKey>>,
+}
+
+impl Model for Space {
+    ghost use Rattle.std.specs.Prelude.{List as Seq};
+    ghost use Rattle.txn_space.specs.declared.entry.Entry.{Entry as Changed};
+    ghost use Rattle.txn_space.specs.Entries.{seen};
+
+    ghost Value = { Seq (Seq Changed) };
+
+    ghost view = { λ space. seen space.tables };
+}
+
+impl Space {
+    /// No change. Takes no memory.
+    pub fn new(alloc: Global) -> Space
+        ensures nothing { result ≡ [] }
+        ensures sound { (tables : _) → IsSpaceOf tables result }
+    {
+        Space {
+            tables: List::new(alloc),
+        }
+    }
+
+    /// The base's rows, as changed. Takes no memory.
+    pub fn over<'a, V: StoreView>(&'a self, base: &'a V) -> Over<'a, V>
+        requires base { IsBase (V.schema_of base.now).tables (V.rows base.now) }
+        requires space { IsSpaceOf (V.schema_of base.now).tables self.now }
+        ensures schema { result.schema ≡ V.schema_of base.now }
+        ensures rows { result.rows ≡ changed_rows (V.schema_of base.now).tables (V.rows base.now) self.now }
+        ensures rising { AreRising (V.schema_of base.now).tables result.rows }
+    {
+        Over::new(self, base)
+    }
+
+    /// Makes changes, one after another: all of them, or none where memory is refused.
+    pub fn put<V: StoreView>(
+        &mut self,
+        alloc: Global,
+        base: &V,
+        changes: &[Change],
+    ) -> Result<(), AllocError>
+        requires base { IsBase (V.schema_of base.now).tables (V.rows base.now) }
+        requires space { IsSpaceOf (V.schema_of base.now).tables self.old }
+        requires changes { AllByRecursion (IsChangeOf (V.schema_of base.now).tables) changes.now }
+        ensures sound { IsSpaceOf (V.schema_of base.now).tables self.new }
+        ensures put { OnOk result (changed_rows (V.schema_of base.now).tables (V.rows base.now) self.new
+            ≡ put_rows (V.schema_of base.now).tables changes.now (changed_rows (V.schema_of base.now).tables (V.rows base.now) self.old)) }
+        ensures unchanged { OnErr result (self.new ≡ self.old) }
+    {
+        let _ = base;
+        let mut tables = self.tables.copy(alloc)?.into_vec();
+        put_all(alloc, &mut tables, changes)?;
+        self.tables = List::from_vec(tables);
+        Ok(())
+    }
+
+    /// The entries of a table, where there are any. Takes no memory.
+    fn entries(&self, table: TableNo) -> Option<&Entries>
+        ensures { MatchOption result (entries_at self.now table.0 ≡ []) (λ entries. items entries.now ≡ entries_at self.now table.0) }
+    {
+        self.tables.items().get(table.0 as usize)
+    }
+
+    /// How many rows a table has. Takes no memory.
+    pub(crate) fn count<V: StoreView>(&self, base: &V, table: TableNo) -> u64
+        requires base { IsBase (V.schema_of base.now).tables (V.rows base.now) }
+        requires space { IsSpaceOf (V.schema_of base.now).tables self.now }
+        requires there { table.0 < length (V.schema_of base.now).tables }
+        ensures { result ≡ length (rows_at (changed_rows (V.schema_of base.now).tables (V.rows base.now) self.now) table.0) }
+    {
+        match self.entries(table) {
+            None => base.count(table),
+            Some(entries) => count_with(base, table, definition_of(base, table), entries),
+        }
+    }
+
+    /// A run of a table's rows that begins at a place. Takes no memory.
+    pub(crate) fn rows_from<'a, V: StoreView>(
+        &'a self,
+        base: &'a V,
+        table: TableNo,
+        at: u64,
+    ) -> &'a [Row]
+        requires base { IsBase (V.schema_of base.now).tables (V.rows base.now) }
+        requires space { IsSpaceOf (V.schema_of base.now).tables self.now }
+        requires there { table.0 < length (V.schema_of base.now).tables }
+        ensures { IsRunFrom (rows_at (changed_rows (V.schema_of base.now).tables (V.rows base.now) self.now) table.0) at result.now }
+    {
+        match self.entries(table) {
+            None => base.rows_from(table, at),
+            Some(entries) => run_from(base, table, definition_of(base, table), entries, at),
+        }
+    }
+
+    /// The row at a place of a table. Takes no memory.
+    pub(crate) fn row_at<'a, V: StoreView>(
+        &'a self,
+        base: &'a V,
+        table: TableNo,
+        at: u64,
+    ) -> Option<&'a Row>
+        requires base { IsBase (V.schema_of base.now).tables (V.rows base.now) }
+        requires space { IsSpaceOf (V.schema_of base.now).tables self.now }
+        requires there { table.0 < length (V.schema_of base.now).tables }
+        ensures { option_copied result ≡ slice_get (rows_at (changed_rows (V.schema_of base.now).tables (V.rows base.now) self.now) table.0) at }
+    {
+        self.rows_from(base, table, at).first()
+    }
+
+    /// The row of a name. Takes no memory.
+    pub(crate) fn row<'a, V: StoreView>(&'a self, base: &'a V, name: &RowName) -> Option<&'a Row>
+        requires base { IsBase (V.schema_of base.now).tables (V.rows base.now) }
+        requires space { IsSpaceOf (V.schema_of base.now).tables self.now }
+        requires there { name.now.table.0 < length (V.schema_of base.now).tables }
+        ensures { option_copied result ≡ row_named (V.schema_of base.now) (changed_rows (V.schema_of base.now).tables (V.rows base.now) self.now) name.now }
+    {
+        let Some(entries) = self.entries(name.table) else {
+            return base.row(name);
+        };
+        // By the clauses of `len` the keys of the entries rise.
+        let _entries = entries.len();
+        match entries.get(&name.key) {
+            None => base.row(name),
+            Some(entry) => entry.row.as_ref(),
+        }
+    }
+}
