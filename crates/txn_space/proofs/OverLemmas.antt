@@ -31,6 +31,12 @@ next number place = omega arith
 same : (number : ℕ) → number + 0 ≡ number
 same number = omega arith
 
+-- a table of a number that is there
+pub table_there : (tables : List TableDef) (place : ℕ) → place < length tables → (table : TableDef) × (slice_get tables place ≡ Some table)
+table_there [] place within = absurd (omega arith)
+table_there (table ∷ tables) zero within = (table, refl)
+table_there (table ∷ tables) (suc place) within = table_there tables place (omega arith)
+
 -- a table's rows rise
 pub rising_at : (tables : List TableDef) (rows : List (List Row)) (place : ℕ) (table : TableDef) → AreRising tables rows → slice_get tables place ≡ Some table → IsRising (key_of table) key_cmp (rows_at rows place)
 rising_at [] rows place table rising is = cc
@@ -62,16 +68,9 @@ rows_of_table tables rows space place table rising is =
 pub rows_of_other : (tables : List TableDef) (rows : List (List Row)) (space : List (List Entry)) (place : ℕ) → AreRising tables rows → place < length tables → entries_at space place ≡ []
     → rows_at (changed_rows tables rows space) place ≡ rows_at rows place
 unfolding with_changes
-rows_of_other tables rows space place rising within none = by (slice_get tables place) refl
-  where
-    past : (ts : List TableDef) (n : ℕ) → n < length ts → slice_get ts n ≡ None → ⊥
-    past [] n within is = absurd (omega arith)
-    past (t ∷ ts) zero within is = cc
-    past (t ∷ ts) (suc n) within is = past ts n (omega arith) is
-
-    by : (o : Option TableDef) → slice_get tables place ≡ o → rows_at (changed_rows tables rows space) place ≡ rows_at rows place
-    by None is = absurd (past tables place within is)
-    by (Some table) is = rows_of_table tables rows space place table rising is ∙ ap (λ es. rows_with table es (rows_at rows place)) none
+rows_of_other tables rows space place rising within none =
+    let found = table_there tables place within in
+    rows_of_table tables rows space place found.0 rising found.1 ∙ ap (λ es. rows_with found.0 es (rows_at rows place)) none
 
 -- the rows of each table rise
 rising_from : (number : ℕ) (tables : List TableDef) (rows : List (List Row)) (space : List (List Entry)) → AreRising tables rows
@@ -125,10 +124,26 @@ unfolding row_named key_in key_of
 named_in schema rows name table is = rw is (sym (found-has_key table name.key (rows_at rows name.table.0)))
 
 -- it is the one that the entry of its key puts, else the base's
-pub named_changed : (schema : Schema) (rows : List (List Row)) (space : List (List Entry)) (name : RowName) (table : TableDef) → IsBase schema.tables rows → IsSpaceOf schema.tables space → slice_get schema.tables name.table.0 ≡ Some table
+named_changed : (schema : Schema) (rows : List (List Row)) (space : List (List Entry)) (name : RowName) → IsBase schema.tables rows → IsSpaceOf schema.tables space → name.table.0 < length schema.tables
     → row_named schema (changed_rows schema.tables rows space) name ≡ option_map_or entry_row (found entry_key key_cmp name.key (entries_at space name.table.0)) (row_named schema rows name)
-named_changed schema rows space name table base sound is =
-    named_in schema (changed_rows schema.tables rows space) name table is
-    ∙ (ap (found (key_of table) key_cmp name.key) (rows_of_table schema.tables rows space name.table.0 table base.rising is)
-    ∙ (row_of table name.key (entries_at space name.table.0) (rows_at rows name.table.0) (sound.rising name.table.0) (sound.keyed name.table.0 table is)
-    ∙ ap (option_map_or entry_row (found entry_key key_cmp name.key (entries_at space name.table.0))) (sym (named_in schema rows name table is))))
+named_changed schema rows space name base sound within =
+    let there = table_there schema.tables name.table.0 within in
+    named_in schema (changed_rows schema.tables rows space) name there.0 there.1
+    ∙ (ap (found (key_of there.0) key_cmp name.key) (rows_of_table schema.tables rows space name.table.0 there.0 base.rising there.1)
+    ∙ (row_of there.0 name.key (entries_at space name.table.0) (rows_at rows name.table.0) (sound.rising name.table.0) (sound.keyed name.table.0 there.0 there.1)
+    ∙ ap (option_map_or entry_row (found entry_key key_cmp name.key (entries_at space name.table.0))) (sym (named_in schema rows name there.0 there.1))))
+
+module _ (schema : Schema) (rows : List (List Row)) (space : List (List Entry)) (name : RowName) (base : IsBase schema.tables rows) (sound : IsSpaceOf schema.tables space) (within : name.table.0 < length schema.tables) where
+  pub named_alone : entries_at space name.table.0 ≡ [] → row_named schema (changed_rows schema.tables rows space) name ≡ row_named schema rows name
+  unfolding found
+  named_alone none = named_changed schema rows space name base sound within ∙ ap (λ es. option_map_or entry_row (found entry_key key_cmp name.key es) (row_named schema rows name)) none
+
+  pub named_unchanged : (entries : List Entry) → entries ≡ entries_at space name.table.0 → found entry_key key_cmp name.key entries ≡ None → row_named schema (changed_rows schema.tables rows space) name ≡ row_named schema rows name
+  named_unchanged entries here none =
+      named_changed schema rows space name base sound within
+      ∙ ap (λ one. option_map_or entry_row one (row_named schema rows name)) (ap (found entry_key key_cmp name.key) (sym here) ∙ none)
+
+  pub named_entry : (entries : List Entry) (entry : Entry) → entries ≡ entries_at space name.table.0 → found entry_key key_cmp name.key entries ≡ Some entry → row_named schema (changed_rows schema.tables rows space) name ≡ entry_row entry
+  named_entry entries entry here is =
+      named_changed schema rows space name base sound within
+      ∙ ap (λ one. option_map_or entry_row one (row_named schema rows name)) (ap (found entry_key key_cmp name.key) (sym here) ∙ is)

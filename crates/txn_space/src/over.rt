@@ -23,6 +23,9 @@ impl<'a, V: StoreView> Model for Over<'a, V> {
 
     ghost coded = { Prim.hlevel (codes, cond.the_row.coded) };
 
+    ghost use Rattle.txn_space.specs.Changed.{changed_rows};
+    ghost use Rattle.txn_space.specs.Sound.{IsBase, IsSpaceOf};
+
     ghost view = { λ over. record {
       schema = V.schema_of over.base.now;
       rows = changed_rows (V.schema_of over.base.now).tables (V.rows over.base.now) over.space.now;

@@ -141,14 +141,12 @@ impl Space {
         requires there { name.now.table.0 < length (V.schema_of base.now).tables }
         ensures { option_copied result ≡ row_named (V.schema_of base.now) (changed_rows (V.schema_of base.now).tables (V.rows base.now) self.now) name.now }
     {
-        let Some(entries) = self.entries(name.table) else {
-            return base.row(name);
-        };
-        // By the clauses of `len` the keys of the entries rise.
-        let _entries = entries.len();
-        match entries.get(&name.key) {
+        match self.entries(name.table) {
             None => base.row(name),
-            Some(entry) => entry.row.as_ref(),
+            Some(entries) => match entries.get(&name.key) {
+                None => base.row(name),
+                Some(entry) => entry.row.as_ref(),
+            },
         }
     }
 }
