@@ -1,9 +1,11 @@
 mod CountLemmas
 mod CutLemmas
+mod MadeLemmas
 pub mod OverLemmas
 mod PlaceSteps
 mod PutLemmas
 mod RoomLemmas
+mod SameLemmas
 pub mod SoundLemmas
 mod SpotLemmas
 mod WalkLemmas

@@ -1,5 +1,6 @@
 pub mod Changed
 pub mod Entries
+pub mod EntryNet
 pub mod HasPut
 pub mod Passed
 pub mod Put

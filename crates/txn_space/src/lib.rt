@@ -2,6 +2,7 @@
 #![tactic(auto)]
 
 mod entry;
+mod net;
 mod over;
 mod put;
 mod row_key;

@@ -24,7 +24,7 @@ pub(crate) enum Passed<'a> {
 }
 
 /// The entry at a place.
-fn entry_at(entries: &Entries, number: usize) -> &Entry
+pub(crate) fn entry_at(entries: &Entries, number: usize) -> &Entry
     requires { number < length (items entries.now) }
     ensures { slice_get (items entries.now) number ≡ Some result.now }
 {
