@@ -1,6 +1,8 @@
 mod CountLemmas
 mod CutLemmas
+mod KeysLemmas
 mod MadeLemmas
+mod NetLemmas
 pub mod OverLemmas
 mod PlaceSteps
 mod PutLemmas

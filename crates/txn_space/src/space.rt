@@ -4,12 +4,15 @@ ghost use Rattle.std.specs.Option.{option_copied};
 ghost use Rattle.own_model.specs.Db.{AreRising};
 ghost use Rattle.own_model.specs.Stored.{IsRunFrom, row_named, rows_at};
 ghost use Rattle.page_model.specs.Paged.{items};
+ghost use Rattle.state_model.specs.Net.{net};
 ghost use Rattle.txn_space.specs.Changed.{changed_rows};
 ghost use Rattle.txn_space.specs.Entries.{entries_at};
+ghost use Rattle.txn_space.specs.EntryNet.{database};
 ghost use Rattle.txn_space.specs.Put.{IsChangeOf, put_rows};
 ghost use Rattle.txn_space.specs.Sound.{IsBase, IsSpaceOf};
 
 use crate::entry::{ByKey, Entries, Entry};
+use crate::net::add_changes;
 use crate::over::Over;
 use crate::put::put_all;
 use crate::row_key::definition_of;
@@ -79,6 +82,21 @@ impl Space {
         put_all(alloc, &mut tables, changes)?;
         self.tables = List::from_vec(tables);
         Ok(())
+    }
+
+    /// The rows that differ between the base and its rows as changed: by table, then key, each with what it was and what
+    /// it is.
+    pub fn changes<V: StoreView>(&self, alloc: Global, base: &V) -> Result<List<Change>, AllocError>
+        requires base { IsBase (V.schema_of base.now).tables (V.rows base.now) }
+        requires space { IsSpaceOf (V.schema_of base.now).tables self.now }
+        ensures { IfOk result (λ changes. changes ≡ net (database (V.schema_of base.now) (V.rows base.now)) (database (V.schema_of base.now) (changed_rows (V.schema_of base.now).tables (V.rows base.now) self.now))) }
+    {
+        let mut changes = List::new(alloc);
+        let tables = self.tables.items();
+        for number in 0..tables.len() {
+            add_changes(alloc, base, TableNo(number as u32), &tables[number], &mut changes)?;
+        }
+        Ok(changes)
     }
 
     /// The entries of a table, where there are any. Takes no memory.
