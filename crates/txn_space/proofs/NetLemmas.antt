@@ -1,9 +1,10 @@
 -- The net of a transaction is read off its entries.
-use Rattle.std.proofs.Common.{◌≡◌, refl, sym, ◌∙◌, ap, subst, ℕ, zero, suc, ◌+◌, ◌<◌, ◌≤◌, List, [], ◌∷◌, ◌++◌, length, append-nil, filter_map, arith}
+use Rattle.std.proofs.Common.{◌≡◌, refl, sym, ◌∙◌, ap, subst, ℕ, zero, suc, ◌+◌, ◌<◌, ◌≤◌, List, [], ◌∷◌, ◌++◌, length, drop, append-nil, append_assoc, filter_map, arith}
 use Rattle.std.specs.Prelude.{Bool, true, false, cond, Option, Some, None, IfSome, find, slice_get}
 use Rattle.std.specs.Option.{option_and_then, option_map_or, option_or}
 use Rattle.std.specs.List.Sorted.{IsStrictlySortedBy}
 use Rattle.std.specs.Ordering.{is_eq}
+use Rattle.std.proofs.lemmas.List.{drop_all, drop_more}
 use Rattle.std.proofs.lemmas.List.Folds.{find-append}
 use Rattle.own_base.specs.Key.{key_cmp}
 use Rattle.own_base.specs.declared.change.Change.{Change}
@@ -18,7 +19,7 @@ use Rattle.own_model.proofs.KeyOrder.{key_order}
 use Rattle.page_model.specs.Changed.{AreKeyed}
 use Rattle.page_model.specs.Found.{found}
 use Rattle.page_model.specs.Rising.{IsRising}
-use Rattle.state_model.specs.Net.{change_at, change_unless_same, keys_in, net_from, net_in}
+use Rattle.state_model.specs.Net.{change_at, change_unless_same, keys_in, net, net_from, net_in}
 use Rattle.state_model.specs.Same.{is_same_state}
 use Rattle.subject_model.proofs.NamedLemmas.{one_key}
 use Rattle.table_part.specs.Changes.{changed_key}
@@ -29,9 +30,11 @@ use Rattle.table_part.proofs.SameFound.{same_found}
 use Rattle.txn_space.specs.declared.entry.Entry.{Entry}
 use Rattle.txn_space.specs.Changed.{changed_from, rows_with}
 use Rattle.txn_space.specs.Entries.{entries_at, entry_key, entry_row}
-use Rattle.txn_space.specs.EntryNet.{entry_change, entry_changes, entry_name}
+use Rattle.txn_space.specs.EntryNet.{database, entry_change, entry_changes}
+use Rattle.txn_space.specs.Sound.{IsBase, IsSpaceOf}
 use Rattle.txn_space.proofs.KeysLemmas.{itself, keys_missing, keys_rise}
 use Rattle.txn_space.proofs.MadeLemmas.{found_has, found_made, rising_made}
+use Rattle.txn_space.proofs.OverLemmas.{from_none, named_in, next, same}
 use Rattle.txn_space.proofs.PutLemmas.{row_of}
 use Rattle.txn_space.proofs.SameLemmas.{equal_is, same_state}
 
@@ -83,7 +86,7 @@ module _ (number : ℕ) (table : TableDef) where
     where
       none : found itself key_cmp key (keys_in table (before ++ after)) ≡ None → change_at number table before after key ≡ None
       none missing =
-          let parts = or_none _ _ (sym (found_both key before after) ∙ (keys_missing table key (before ++ after) [] missing).1) in
+          let parts = or_none (found (key_of table) key_cmp key before) (found (key_of table) key_cmp key after) (sym (found_both key before after) ∙ (keys_missing table key (before ++ after) [] missing).1) in
           change-is before after key ∙ rw (parts.0, parts.1) refl
 
       by : (o : Option Key) → found itself key_cmp key (keys_in table (before ++ after)) ≡ o → option_and_then (change_at number table before after) o ≡ change_at number table before after key
@@ -118,3 +121,63 @@ module _ (number : ℕ) (table : TableDef) where
       (rising_made itself changed_key (change_at number table before (rows_with table entries before)) (λ k. named _ _ _) (keys_in table (before ++ rows_with table entries before)) (keys_rise table (before ++ rows_with table entries before) [] (few_rise key_cmp [] (omega arith))))
       (rising_made entry_key changed_key (change_in before) (λ entry. named _ _ _) entries rising)
       (λ key. net_found before (rows_with table entries before) key ∙ sym (entries_found before entries key rising keyed))
+
+filter_map_same : {X Y : Type 0} (f g : X → Option Y) → ((x : X) → f x ≡ g x) → (xs : List X) → filter_map f xs ≡ filter_map g xs
+filter_map_same f g same [] = refl
+filter_map_same f g same (x ∷ xs) = rw (same x, filter_map_same f g same xs) refl
+
+module _ (schema : Schema) (rows : List (List Row)) (space : List (List Entry)) (sound : IsSpaceOf schema.tables space) where
+  -- what becomes of the row of an entry, by its table
+  by_table : (number : ℕ) (table : TableDef) (before : List Row) → slice_get schema.tables number ≡ Some table → before ≡ rows_at rows number → (entry : Entry) → change_in number table before entry ≡ entry_change schema rows (record { 0 = number }) entry
+  by_table number table before is here entry =
+      let name : RowName = record { table = record { 0 = number }; key = entry_key entry } in
+      ap (λ row. change_unless_same name row (entry_row entry)) (ap (found (key_of table) key_cmp (entry_key entry)) here ∙ sym (named_in schema rows name table is))
+
+  net_of : (number : ℕ) (tables : List TableDef) (befores : List (List Row)) (left : List (List Entry)) → AreRising tables befores → length left ≤ length tables
+      → ((n : ℕ) → entries_at space (number + n) ≡ entries_at left n)
+      → ((n : ℕ) (table : TableDef) → slice_get tables n ≡ Some table → slice_get schema.tables (number + n) ≡ Some table)
+      → ((n : ℕ) → rows_at befores n ≡ rows_at rows (number + n))
+      → net_from number tables befores (changed_from number tables befores space) ≡ entry_changes schema rows number left
+  unfolding net_from changed_from entry_changes
+  net_of number [] befores [] rising few here tables_are rows_are = refl
+  net_of number [] befores (entries ∷ left) rising few here tables_are rows_are = absurd (omega arith)
+  net_of number (table ∷ tables) [] left rising few here tables_are rows_are = absurd rising
+  net_of number (table ∷ tables) (before ∷ befores) [] rising few here tables_are rows_are =
+      let is : slice_get schema.tables number ≡ Some table = ap (slice_get schema.tables) (sym (same number)) ∙ tables_are 0 table refl in
+      let none : entries_at space number ≡ [] = ap (entries_at space) (sym (same number)) ∙ here 0 in
+      let first : net_in number table before (rows_with table (entries_at space number) before) ≡ [] =
+      table_net number table before (entries_at space number) (sound.rising number) (sound.keyed number table is) ∙ ap (filter_map (change_in number table before)) none in
+      let others = net_of (number + 1) tables befores [] rising.1 (omega arith) (λ n. ap (entries_at space) (next number n) ∙ here (suc n)) (λ n t found. ap (slice_get schema.tables) (next number n) ∙ tables_are (suc n) t found) (λ n. rows_are (suc n) ∙ ap (rows_at rows) (sym (next number n))) in
+      ap (λ changes. changes ++ net_from (number + 1) tables befores (changed_from (number + 1) tables befores space)) first ∙ others
+  net_of number (table ∷ tables) (before ∷ befores) (entries ∷ left) rising few here tables_are rows_are =
+      let is : slice_get schema.tables number ≡ Some table = ap (slice_get schema.tables) (sym (same number)) ∙ tables_are 0 table refl in
+      let own : entries_at space number ≡ entries = ap (entries_at space) (sym (same number)) ∙ here 0 in
+      let rows_here : before ≡ rows_at rows number = rows_are 0 ∙ ap (rows_at rows) (same number) in
+      let first : net_in number table before (rows_with table (entries_at space number) before) ≡ filter_map (entry_change schema rows (record { 0 = number })) entries =
+      table_net number table before (entries_at space number) (sound.rising number) (sound.keyed number table is)
+      ∙ (ap (filter_map (change_in number table before)) own ∙ filter_map_same _ _ (by_table number table before is rows_here) entries) in
+      let others = net_of (number + 1) tables befores left rising.1 (omega arith) (λ n. ap (entries_at space) (next number n) ∙ here (suc n)) (λ n t found. ap (slice_get schema.tables) (next number n) ∙ tables_are (suc n) t found) (λ n. rows_are (suc n) ∙ ap (rows_at rows) (sym (next number n))) in
+      ap (λ changes. changes ++ net_from (number + 1) tables befores (changed_from (number + 1) tables befores space)) first
+      ∙ ap (λ changes. filter_map (entry_change schema rows (record { 0 = number })) entries ++ changes) others
+
+  -- the net between a base and its rows as changed
+  pub net_is : IsBase schema.tables rows → net (database schema rows) (database schema (changed_from 0 schema.tables rows space)) ≡ entry_changes schema rows 0 space
+  unfolding net
+  net_is base =
+      net_of 0 schema.tables rows space base.rising sound.within (λ n. ap (entries_at space) (from_none n)) (λ n table found. ap (slice_get schema.tables) (from_none n) ∙ found) (λ n. ap (rows_at rows) (sym (from_none n)))
+
+-- the changes of a table more
+pub table_more : (schema : Schema) (rows : List (List Row)) (number : ℕ) (space : List (List Entry)) (entries : List Entry) (before all : List Change) → number < length space → entries ≡ entries_at space number
+    → before ++ entry_changes schema rows number (drop number space) ≡ all
+    → (before ++ filter_map (entry_change schema rows (record { 0 = number })) entries) ++ entry_changes schema rows (number + 1) (drop (number + 1) space) ≡ all
+unfolding entry_changes
+table_more schema rows number space entries before all within is so_far =
+    let here : drop number space ≡ entries ∷ drop (number + 1) space = drop_more space number [] within ∙ ap (λ es. es ∷ drop (number + 1) space) (sym is) in
+    append_assoc before (filter_map (entry_change schema rows (record { 0 = number })) entries) (entry_changes schema rows (number + 1) (drop (number + 1) space))
+    ∙ (ap (λ left. before ++ entry_changes schema rows number left) (sym here) ∙ so_far)
+
+-- and of all
+pub all_tables : (schema : Schema) (rows : List (List Row)) (number : ℕ) (space : List (List Entry)) (before all : List Change) → length space ≤ number → before ++ entry_changes schema rows number (drop number space) ≡ all → before ≡ all
+unfolding entry_changes
+all_tables schema rows number space before all past so_far =
+    sym (append-nil before) ∙ (ap (λ left. before ++ entry_changes schema rows number left) (sym (drop_all number space past)) ∙ so_far)

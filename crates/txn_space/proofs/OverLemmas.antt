@@ -25,10 +25,10 @@ use Rattle.txn_space.specs.Put.{is_of_table, put_from, rows_put}
 use Rattle.txn_space.specs.Sound.{IsBase, IsSpaceOf}
 use Rattle.txn_space.proofs.PutLemmas.{entries_more, row_of}
 
-next : (number place : ℕ) → number + 1 + place ≡ number + suc place
+pub next : (number place : ℕ) → number + 1 + place ≡ number + suc place
 next number place = omega arith
 
-same : (number : ℕ) → number + 0 ≡ number
+pub same : (number : ℕ) → number + 0 ≡ number
 same number = omega arith
 
 -- a table of a number that is there
@@ -56,7 +56,7 @@ rows_from number (first ∷ tables) (one ∷ rows) space zero table rising is =
 rows_from number (first ∷ tables) (one ∷ rows) space (suc place) table rising is =
     rows_from (number + 1) tables rows space place table rising.1 is ∙ ap (λ n. rows_with table (entries_at space n) (rows_at rows place)) (next number place)
 
-from_none : (place : ℕ) → 0 + place ≡ place
+pub from_none : (place : ℕ) → 0 + place ≡ place
 from_none place = omega arith
 
 pub rows_of_table : (tables : List TableDef) (rows : List (List Row)) (space : List (List Entry)) (place : ℕ) (table : TableDef) → AreRising tables rows → slice_get tables place ≡ Some table

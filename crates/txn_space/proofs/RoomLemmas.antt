@@ -40,7 +40,7 @@ length_set [] place table = refl
 length_set (first ∷ tables) zero table = refl
 length_set (first ∷ tables) (suc place) table = ap suc (length_set tables place table)
 
-got_entries : (tables : List (Paged ByKey Entry)) (place : ℕ) (table : Paged ByKey Entry) → place < length tables → table ≡ get_or tables place table → items table ≡ entries_at (seen tables) place
+pub got_entries : (tables : List (Paged ByKey Entry)) (place : ℕ) (table : Paged ByKey Entry) → place < length tables → table ≡ get_or tables place table → items table ≡ entries_at (seen tables) place
 got_entries [] place table within is = absurd (omega arith)
 got_entries (first ∷ tables) zero table within is = ap items is
 got_entries (first ∷ tables) (suc place) table within is = got_entries tables place table (omega arith) is

@@ -18,7 +18,7 @@ use Rattle.txn_space.specs.Put.{IsChangeOf, is_of_table}
 use Rattle.txn_space.specs.Sound.{IsSpaceOf}
 use Rattle.txn_space.proofs.PutLemmas.{changes_keyed, changes_there, keyed_more, rising_more}
 
-length_seen : (tables : List (Paged ByKey Entry)) → length (seen tables) ≡ length tables
+pub length_seen : (tables : List (Paged ByKey Entry)) → length (seen tables) ≡ length tables
 length_seen [] = refl
 length_seen (table ∷ tables) = ap suc (length_seen tables)
 
