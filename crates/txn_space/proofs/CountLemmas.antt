@@ -1,6 +1,6 @@
 -- Counting rows with entries, entry by entry.
-use Rattle.std.proofs.Common.{◌≡◌, refl, sym, ◌∙◌, ap, ℕ, zero, suc, ◌+◌, ◌-◌, ◌<◌, ◌≤◌, List, [], ◌∷◌, ◌++◌, Option, Some, None, length, take, drop, get_or, length-append, arith}
-use Rattle.std.specs.Prelude.{Bool, true, false, is_some}
+use Rattle.std.proofs.Common.{◌≡◌, refl, ◌∙◌, ap, ℕ, zero, suc, ◌+◌, ◌-◌, ◌<◌, ◌≤◌, List, [], ◌∷◌, Option, Some, None, length, take, drop, get_or, length-append, arith}
+use Rattle.std.specs.Prelude.{true, false, is_some}
 use Rattle.std.specs.Option.{option_to_list}
 use Rattle.std.proofs.lemmas.List.{length-drop, length-take-le}
 use Rattle.own_base.specs.Key.{key_cmp}

@@ -1,6 +1,6 @@
 -- The keys of rows, rising, each once.
-use Rattle.std.proofs.Common.{◌≡◌, refl, sym, ◌∙◌, ap, subst, List, [], ◌∷◌, ◌++◌, fold}
-use Rattle.std.specs.Prelude.{Bool, true, false, cond, Option, Some, None, find}
+use Rattle.std.proofs.Common.{◌≡◌, refl, ◌∙◌, ap, List, [], ◌∷◌, fold}
+use Rattle.std.specs.Prelude.{Bool, true, false, cond, Option, Some, None}
 use Rattle.std.specs.List.{AllByRecursion as Each}
 use Rattle.std.specs.List.Sorted.{IsStrictlySortedBy}
 use Rattle.std.specs.Ordering.{is_eq}
@@ -14,7 +14,7 @@ use Rattle.own_model.proofs.KeyOrder.{key_order}
 use Rattle.page_model.specs.Found.{found}
 use Rattle.page_model.specs.Rising.{IsRising}
 use Rattle.page_model.proofs.Ordered.{below_from_above}
-use Rattle.page_model.proofs.RisingLemmas.{each_map, each_mapped, each_weaker, rising_behind, rising_tail}
+use Rattle.page_model.proofs.RisingLemmas.{each_mapped, each_weaker, rising_behind, rising_tail}
 use Rattle.query_model.specs.Footprints.{at_first, with_key}
 
 -- a key itself

@@ -1,20 +1,18 @@
 -- The net of a transaction is read off its entries.
-use Rattle.std.proofs.Common.{◌≡◌, refl, sym, ◌∙◌, ap, subst, ℕ, zero, suc, ◌+◌, ◌<◌, ◌≤◌, List, [], ◌∷◌, ◌++◌, length, drop, append-nil, append_assoc, filter_map, arith}
+use Rattle.std.proofs.Common.{◌≡◌, refl, sym, ◌∙◌, ap, ℕ, suc, ◌+◌, ◌<◌, ◌≤◌, List, [], ◌∷◌, ◌++◌, length, drop, append-nil, append_assoc, filter_map, arith}
 use Rattle.std.specs.Prelude.{Bool, true, false, cond, Option, Some, None, IfSome, find, slice_get}
 use Rattle.std.specs.Option.{option_and_then, option_map_or, option_or}
-use Rattle.std.specs.List.Sorted.{IsStrictlySortedBy}
 use Rattle.std.specs.Ordering.{is_eq}
 use Rattle.std.proofs.lemmas.List.{drop_all, drop_more}
 use Rattle.std.proofs.lemmas.List.Folds.{find-append}
 use Rattle.own_base.specs.Key.{key_cmp}
 use Rattle.own_base.specs.declared.change.Change.{Change}
-use Rattle.own_base.specs.declared.number.TableNo.{TableNo}
 use Rattle.own_base.specs.declared.row_name.RowName.{RowName}
 use Rattle.own_base.specs.declared.value.Key.{Key}
 use Rattle.own_model.specs.declared.schema.Schema.{Schema}
 use Rattle.own_model.specs.declared.schema.TableDef.{TableDef}
 use Rattle.own_model.specs.Db.{AreRising, Row, key_of}
-use Rattle.own_model.specs.Stored.{has_key, row_named, rows_at}
+use Rattle.own_model.specs.Stored.{has_key, rows_at}
 use Rattle.own_model.proofs.KeyOrder.{key_order}
 use Rattle.page_model.specs.Changed.{AreKeyed}
 use Rattle.page_model.specs.Found.{found}

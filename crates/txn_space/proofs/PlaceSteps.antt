@@ -1,5 +1,5 @@
 -- Looking for the place of a key by halves.
-use Rattle.std.proofs.Common.{◌≡◌, refl, sym, ◌∙◌, ap, subst, ℕ, ◌+◌, ◌-◌, ◌<◌, ◌≤◌, List, Some, length, drop, get_or, arith}
+use Rattle.std.proofs.Common.{◌≡◌, refl, sym, ◌∙◌, ap, ℕ, ◌+◌, ◌-◌, ◌<◌, ◌≤◌, List, Some, length, drop, get_or, arith}
 use Rattle.std.specs.Prelude.{Bool, true, false, slice_get}
 use Rattle.std.specs.Ordering.{is_lt}
 use Rattle.std.proofs.lemmas.List.{get_or-drop, length-drop}
@@ -66,8 +66,7 @@ pub search_ends : (table : TableDef) (key : Key) (rows : List Row) (from low hig
 search_ends table key rows from low high searched none =
     let bound = searched.within in
     let front = searched.behind in
-    place_from_partition (key_of table) key_order key (drop from rows) (low - from) (omega (arith, length-drop from rows))
-    (
+    place_from_partition (key_of table) key_order key (drop from rows) (low - from) (omega (arith, length-drop from rows)) (
       (λ k d low_k high_k. ap (is_below table key) (get_or-drop from rows k d) ∙ searched.below (from + k) d (omega arith) (omega arith)),
       (λ k d low_k high_k. ap (is_below table key) (get_or-drop from rows k d) ∙ searched.others (from + k) d (omega arith) (omega (arith, length-drop from rows))),
     )

@@ -1,6 +1,6 @@
 -- The rows of a base after changes of a transaction's entries.
-use Rattle.std.proofs.Common.{◌≡◌, refl, sym, ◌∙◌, ap, subst, inl, inr, ℕ, zero, suc, ◌+◌, ◌<◌, ◌≤◌, List, [], ◌∷◌, ◌++◌, length, map, arith}
-use Rattle.std.specs.Prelude.{◌^◌, Option, Some, None, Bool, true, false, ◌==◌, cond, filter, find, slice_get, IfSome, IsSomeAnd}
+use Rattle.std.proofs.Common.{◌≡◌, refl, sym, ◌∙◌, ap, subst, ℕ, ◌<◌, List, [], ◌∷◌, length, map}
+use Rattle.std.specs.Prelude.{Option, Some, None, Bool, true, false, cond, filter, slice_get, IfSome, IsSomeAnd}
 use Rattle.std.specs.List.{AllByRecursion as Each}
 use Rattle.std.specs.Option.{option_map_or}
 use Rattle.std.specs.Ordering.{is_eq}
@@ -10,7 +10,7 @@ use Rattle.own_base.specs.Key.{key_cmp}
 use Rattle.own_base.specs.declared.change.Change.{Change}
 use Rattle.own_base.specs.declared.value.Key.{Key}
 use Rattle.own_model.specs.declared.schema.TableDef.{TableDef}
-use Rattle.own_model.specs.Db.{AreRising, Row, key_of}
+use Rattle.own_model.specs.Db.{Row, key_of}
 use Rattle.own_model.proofs.KeyOrder.{key_order}
 use Rattle.page_model.specs.Changed.{AreKeyed, with_change, with_changes}
 use Rattle.page_model.specs.Found.{found}
@@ -18,13 +18,12 @@ use Rattle.page_model.specs.Rising.{IsRising}
 use Rattle.page_model.proofs.ChangedLemmas.{each_with_changes, rising_with_changes}
 use Rattle.table_part.specs.Changes.{changed_key, row_after}
 use Rattle.table_part.proofs.FoundChanged.{found_changed, found_with_changes}
-use Rattle.table_part.proofs.InOrder.{is_of, rising_differ}
+use Rattle.table_part.proofs.InOrder.{rising_differ}
 use Rattle.table_part.proofs.SameFound.{same_found}
 use Rattle.txn_space.specs.declared.entry.Entry.{Entry}
-use Rattle.txn_space.specs.Changed.{changed_from, rows_with}
-use Rattle.txn_space.specs.Entries.{entries_at, entry_key, entry_of, entry_row}
-use Rattle.txn_space.specs.HasPut.{entries_put}
-use Rattle.txn_space.specs.Put.{IsChangeOf, is_of_table, put_from, rows_put}
+use Rattle.txn_space.specs.Changed.{rows_with}
+use Rattle.txn_space.specs.Entries.{entry_key, entry_of, entry_row}
+use Rattle.txn_space.specs.Put.{IsChangeOf, is_of_table}
 
 -- the entries with one more
 abbrev and_entry : Entry → List Entry → List Entry

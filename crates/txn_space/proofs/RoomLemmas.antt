@@ -1,6 +1,6 @@
 -- Entries of tables, where those of one change.
 use Rattle.std.proofs.Common.{◌≡◌, refl, sym, ◌∙◌, ap, subst, ℕ, zero, suc, ◌+◌, ◌<◌, ◌≤◌, List, [], ◌∷◌, ◌++◌, length, take, get_or, arith}
-use Rattle.std.specs.Prelude.{◌^◌, Option, Some, Bool, true, false, ◌==◌, cond, filter, slice_set}
+use Rattle.std.specs.Prelude.{◌^◌, Option, Some, Bool, true, false, cond, filter, slice_set}
 use Rattle.std.specs.List.{AllByRecursion as Each}
 use Rattle.std.proofs.lemmas.Bool.{eqb-true}
 use Rattle.std.proofs.lemmas.Bool.Decides.{nat_tests}
@@ -19,7 +19,7 @@ use Rattle.table_part.specs.Changes.{changed_key}
 use Rattle.txn_space.specs.declared.entry.ByKey.{ByKey}
 use Rattle.txn_space.specs.declared.entry.Entry.{Entry}
 use Rattle.txn_space.specs.Entries.{entries_at, entry_key, entry_of, seen}
-use Rattle.txn_space.specs.HasPut.{AreFew, HasPut, HasRoom, HavePut, entries_put, entries_with}
+use Rattle.txn_space.specs.HasPut.{AreFew, HasPut, HasRoom, HavePut, entries_with}
 use Rattle.txn_space.specs.Put.{is_of_table}
 
 -- the entries of the table of which some are set, and of another

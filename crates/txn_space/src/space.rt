@@ -94,7 +94,13 @@ impl Space {
         let mut changes = List::new(alloc);
         let tables = self.tables.items();
         for number in 0..tables.len() {
-            add_changes(alloc, base, TableNo(number as u32), &tables[number], &mut changes)?;
+            add_changes(
+                alloc,
+                base,
+                TableNo(number as u32),
+                &tables[number],
+                &mut changes,
+            )?;
         }
         Ok(changes)
     }

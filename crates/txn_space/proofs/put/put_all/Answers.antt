@@ -1,7 +1,3 @@
-use Rattle.std.proofs.Common.{◌≡◌, ◌<◌, subst, sym, length, arith}
-use Rattle.std.proofs.lemmas.Bool.Decides.{nat_tests}
-use Rattle.std.proofs.lemmas.List.{take_all}
-use Rattle.txn_space.specs.HasPut.{HavePut}
 use Rattle.txn_space.proofs.RoomLemmas.{none_put, put_more}
 use Rattle.txn_space.proofs.put.put_all.Goals as goal
 

@@ -1,4 +1,4 @@
-use Rattle.std.proofs.Common.{◌≡◌, ◌<◌, ◌-◌, Some, None, length, drop, true, false, sym, ◌∙◌, ap, arith}
+use Rattle.std.proofs.Common.{◌-◌, drop, sym, ◌∙◌, ap, arith}
 use Rattle.std.specs.Ordering.{is_eq}
 use Rattle.std.proofs.lemmas.Option.{slice_get_within}
 use Rattle.own_model.specs.Db.{key_of}

@@ -1,5 +1,4 @@
-use Rattle.std.proofs.Common.{◌≡◌, ◌+◌, ◌-◌, ◌<◌, ◌≤◌, length, drop, sym, ◌∙◌, ap, arith}
-use Rattle.std.specs.Prelude.{is_some}
+use Rattle.std.proofs.Common.{◌+◌, ◌-◌, ◌<◌, ◌≤◌, length, drop, sym, ◌∙◌, ap, arith}
 use Rattle.std.proofs.lemmas.Bool.Decides.{nat_tests}
 use Rattle.std.proofs.lemmas.Option.{get_or_from_slice_get}
 use Rattle.own_model.specs.Stored.{rows_at}
@@ -18,19 +17,19 @@ loop-number-preserved g c =
     let rest = drop (c.loop-number.number + 1) entries in
     elim c.if-is_some.branch [
       | then-is_some w ↦ record {
-          within = c.spot_from-below.ensures.within;
-          few = omega arith;
-          counted = counted_some c.args.definition.now entries rows c.len-number-end.ensures.rising c.requires.keyed c.loop-number.count c.loop-number.from c.loop-number.number c.spot_from-below.result.0 c.spot_from-below.result.1 c.entry_at-entry.result.now
-              within is c.loop-number.invariant.counted c.spot_from-below.ensures.behind c.spot_from-below.ensures.order c.spot_from-below.ensures.within c.spot_from-below.ensures.below c.spot_from-below.ensures.above (sym c.is_some.ensures ∙ w.if-is_some.true)
-              ∙ ap (λ n. n + length (rows_with c.args.definition.now rest (drop c.spot_from-below.result.1 rows))) (sym w.count-is);
-        }
+        within = c.spot_from-below.ensures.within;
+        few = omega arith;
+        counted = counted_some c.args.definition.now entries rows c.len-number-end.ensures.rising c.requires.keyed c.loop-number.count c.loop-number.from c.loop-number.number c.spot_from-below.result.0 c.spot_from-below.result.1 c.entry_at-entry.result.now
+            within is c.loop-number.invariant.counted c.spot_from-below.ensures.behind c.spot_from-below.ensures.order c.spot_from-below.ensures.within c.spot_from-below.ensures.below c.spot_from-below.ensures.above (sym c.is_some.ensures ∙ w.if-is_some.true)
+            ∙ ap (λ n. n + length (rows_with c.args.definition.now rest (drop c.spot_from-below.result.1 rows))) (sym w.count-is);
+      }
       | else-is_some w ↦ record {
-          within = c.spot_from-below.ensures.within;
-          few = omega arith;
-          counted = counted_none c.args.definition.now entries rows c.len-number-end.ensures.rising c.requires.keyed c.loop-number.count c.loop-number.from c.loop-number.number c.spot_from-below.result.0 c.spot_from-below.result.1 c.entry_at-entry.result.now
-              within is c.loop-number.invariant.counted c.spot_from-below.ensures.behind c.spot_from-below.ensures.order c.spot_from-below.ensures.within c.spot_from-below.ensures.below c.spot_from-below.ensures.above (sym c.is_some.ensures ∙ w.if-is_some.false)
-              ∙ ap (λ n. n + length (rows_with c.args.definition.now rest (drop c.spot_from-below.result.1 rows))) (sym w.count-is);
-        }
+        within = c.spot_from-below.ensures.within;
+        few = omega arith;
+        counted = counted_none c.args.definition.now entries rows c.len-number-end.ensures.rising c.requires.keyed c.loop-number.count c.loop-number.from c.loop-number.number c.spot_from-below.result.0 c.spot_from-below.result.1 c.entry_at-entry.result.now
+            within is c.loop-number.invariant.counted c.spot_from-below.ensures.behind c.spot_from-below.ensures.order c.spot_from-below.ensures.within c.spot_from-below.ensures.below c.spot_from-below.ensures.above (sym c.is_some.ensures ∙ w.if-is_some.false)
+            ∙ ap (λ n. n + length (rows_with c.args.definition.now rest (drop c.spot_from-below.result.1 rows))) (sym w.count-is);
+      }
     ]
 
 pub returns : goal.returns

@@ -1,9 +1,8 @@
-use Rattle.std.proofs.Common.{◌≡◌, ◌<◌, ◌≤◌, ◌+◌, ◌++◌, length, drop, sym, ◌∙◌, ap, subst, arith}
+use Rattle.std.proofs.Common.{◌≡◌, ◌<◌, ◌≤◌, ◌+◌, ◌++◌, length, drop, sym, ◌∙◌, ap, arith}
 use Rattle.std.proofs.lemmas.Bool.Decides.{nat_tests}
 use Rattle.page_model.specs.Paged.{items}
-use Rattle.txn_space.specs.Entries.{entries_at, seen}
+use Rattle.txn_space.specs.Entries.{seen}
 use Rattle.txn_space.specs.EntryNet.{entry_changes}
-use Rattle.txn_space.specs.Sound.{IsSpaceOf}
 use Rattle.txn_space.proofs.NetLemmas.{all_tables, net_is, table_more}
 use Rattle.txn_space.proofs.RoomLemmas.{got_entries}
 use Rattle.txn_space.proofs.SoundLemmas.{length_seen}

@@ -1,4 +1,4 @@
-use Rattle.std.proofs.Common.{◌≡◌, [], ap, sym, subst}
+use Rattle.std.proofs.Common.{ap, sym, subst}
 use Rattle.txn_space.specs.Entries.{seen}
 use Rattle.txn_space.specs.Sound.{IsSpaceOf}
 use Rattle.txn_space.proofs.SoundLemmas.{none_sound}

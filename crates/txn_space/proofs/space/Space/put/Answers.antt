@@ -1,7 +1,4 @@
-use Rattle.std.proofs.Common.{◌≡◌, List, sym, ◌∙◌, ap, subst}
-use Rattle.page_model.specs.Paged.{Paged}
-use Rattle.txn_space.specs.declared.entry.ByKey.{ByKey}
-use Rattle.txn_space.specs.declared.entry.Entry.{Entry}
+use Rattle.std.proofs.Common.{◌≡◌, sym, ◌∙◌, ap, subst}
 use Rattle.txn_space.specs.Changed.{changed_rows}
 use Rattle.txn_space.specs.Entries.{seen}
 use Rattle.txn_space.specs.HasPut.{HavePut}

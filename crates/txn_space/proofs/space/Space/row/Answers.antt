@@ -1,4 +1,4 @@
-use Rattle.std.proofs.Common.{◌≡◌, ℕ, sym, ◌∙◌, ap}
+use Rattle.std.proofs.Common.{sym, ◌∙◌}
 use Rattle.page_model.specs.Paged.{items}
 use Rattle.txn_space.proofs.OverLemmas.{named_alone, named_entry, named_unchanged}
 use Rattle.txn_space.proofs.space.Space.row.Goals as goal
@@ -18,4 +18,3 @@ returns-in-Some-get g c =
     c.as_ref.ensures.value
     ∙ sym (named_entry (g.V.StoreView.schema_of c.args.base.now) (g.V.StoreView.rows c.args.base.now) c.args.self.now c.args.name.now c.requires.base c.requires.space c.requires.there
     (items c.in-Some.entries.now) c.in-Some-get.entry.now c.in-Some.ensures (sym c.in-Some-get.ensures))
-
