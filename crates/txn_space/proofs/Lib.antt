@@ -1,3 +1,4 @@
+mod Applied
 mod CountLemmas
 mod CutLemmas
 mod KeysLemmas

@@ -41,7 +41,7 @@ named_by : (same : Bool) (name : RowName) (before after : Option Row) → IfSome
 named_by true name before after = tt
 named_by false name before after = refl
 
-named : (name : RowName) (before after : Option Row) → IfSome (change_unless_same name before after) (λ change. changed_key change ≡ name.key)
+pub named : (name : RowName) (before after : Option Row) → IfSome (change_unless_same name before after) (λ change. changed_key change ≡ name.key)
 named name before after = named_by (is_same_state before after) name before after
 
 -- nothing becomes of what stays
@@ -63,7 +63,7 @@ module _ (number : ℕ) (table : TableDef) where
   change_in rows entry = change_unless_same (record { table = record { 0 = number }; key = entry_key entry }) (found (key_of table) key_cmp (entry_key entry) rows) (entry_row entry)
 
   -- and of a key
-  abbrev change_of : List Row → List Row → Key → Option Change
+  abbrev pub change_of : List Row → List Row → Key → Option Change
   change_of before after key = change_unless_same (record { table = record { 0 = number }; key = key }) (found (key_of table) key_cmp key before) (found (key_of table) key_cmp key after)
 
   found_both : (key : Key) (before after : List Row) → found (key_of table) key_cmp key (before ++ after) ≡ option_or (found (key_of table) key_cmp key before) (found (key_of table) key_cmp key after)
@@ -92,7 +92,7 @@ module _ (number : ℕ) (table : TableDef) where
       by (Some one) here = ap (change_at number table before after) (same_key one key (found_has itself key (keys_in table (before ++ after)) one here))
 
   -- and among those of entries
-  entries_found : (before : List Row) (entries : List Entry) (key : Key) → IsRising entry_key key_cmp entries → AreKeyed (key_of table) entry_key entry_row entries
+  pub entries_found : (before : List Row) (entries : List Entry) (key : Key) → IsRising entry_key key_cmp entries → AreKeyed (key_of table) entry_key entry_row entries
       → found changed_key key_cmp key (filter_map (change_in before) entries) ≡ change_of before (rows_with table entries before) key
   entries_found before entries key rising keyed =
       found_made entry_key changed_key (change_in before) (λ entry. named _ _ _) key entries rising
@@ -120,13 +120,13 @@ module _ (number : ℕ) (table : TableDef) where
       (rising_made entry_key changed_key (change_in before) (λ entry. named _ _ _) entries rising)
       (λ key. net_found before (rows_with table entries before) key ∙ sym (entries_found before entries key rising keyed))
 
-filter_map_same : {X Y : Type 0} (f g : X → Option Y) → ((x : X) → f x ≡ g x) → (xs : List X) → filter_map f xs ≡ filter_map g xs
+pub filter_map_same : {X Y : Type 0} (f g : X → Option Y) → ((x : X) → f x ≡ g x) → (xs : List X) → filter_map f xs ≡ filter_map g xs
 filter_map_same f g same [] = refl
 filter_map_same f g same (x ∷ xs) = rw (same x, filter_map_same f g same xs) refl
 
 module _ (schema : Schema) (rows : List (List Row)) (space : List (List Entry)) (sound : IsSpaceOf schema.tables space) where
   -- what becomes of the row of an entry, by its table
-  by_table : (number : ℕ) (table : TableDef) (before : List Row) → slice_get schema.tables number ≡ Some table → before ≡ rows_at rows number → (entry : Entry) → change_in number table before entry ≡ entry_change schema rows (record { 0 = number }) entry
+  pub by_table : (number : ℕ) (table : TableDef) (before : List Row) → slice_get schema.tables number ≡ Some table → before ≡ rows_at rows number → (entry : Entry) → change_in number table before entry ≡ entry_change schema rows (record { 0 = number }) entry
   by_table number table before is here entry =
       let name : RowName = record { table = record { 0 = number }; key = entry_key entry } in
       ap (λ row. change_unless_same name row (entry_row entry)) (ap (found (key_of table) key_cmp (entry_key entry)) here ∙ sym (named_in schema rows name table is))

@@ -1,12 +1,13 @@
 -- Whether two rows are the same.
 use Rattle.std.proofs.Common.{◌≡◌, refl, sym, ◌∙◌, ap, ℕ, suc, ◌+◌, ◌<◌, ◌≤◌, List, [], ◌∷◌, length, drop, get_or}
 use Rattle.std.specs.Prelude.{Bool, true, false, ◌&&◌, Option, Some, None, bytes_eq}
-use Rattle.std.specs.Ordering.{is_eq}
+use Rattle.std.specs.Ordering.{int_cmp, is_eq}
 use Rattle.std.specs.declared.cmp.Ordering.{Ordering}
 use Rattle.std.specs.declared.cmp.Ordering.TheVariants.{Less, Equal, Greater}
-use Rattle.std.proofs.lemmas.Bool.{eq-eqb}
+use Rattle.std.proofs.lemmas.Bool.{and_parts, eq-eqb, eqb-true}
 use Rattle.std.proofs.lemmas.List.{drop_all, drop_more}
 use Rattle.std.proofs.lemmas.Cmp.{int_cmp_total, tied_itself}
+use Rattle.std.proofs.lemmas.Map.Lookups.{exact_signed}
 use Rattle.own_base.specs.declared.value.Value.{Value}
 use Rattle.own_base.specs.declared.value.Value.TheVariants.{Null, Int, Text, Sum}
 use Rattle.own_model.specs.Db.{Row}
@@ -64,3 +65,47 @@ same_state (Some row) = same_row row
 pub same_past : (left right : Row) (place : ℕ) → length left ≤ place → length right ≤ place → is_same_row (drop place left) (drop place right) ≡ true
 unfolding is_same_row
 same_past left right place inside within = rw (drop_all place left inside, drop_all place right within) refl
+
+-- what is the same is equal
+same_equal : (o : Ordering) → is_equal o ≡ true → o ≡ Equal
+same_equal Less is = cc
+same_equal Equal is = refl
+same_equal Greater is = cc
+
+exact_text : (left right : List ℕ) → bytes_eq left right ≡ true → left ≡ right
+exact_text [] [] is = refl
+exact_text [] (byte ∷ right) is = cc
+exact_text (byte ∷ left) [] is = cc
+exact_text (byte ∷ left) (other ∷ right) is = let parts = and_parts _ _ is in let first = eqb-true byte other parts.0 in let rest = exact_text left right parts.1 in cc
+
+exact_value : (left right : Value) → is_same_value left right ≡ true → left ≡ right
+unfolding is_same_value
+exact_value Null Null is = refl
+exact_value Null (Int right) is = cc
+exact_value Null (Text right) is = cc
+exact_value Null (Sum right) is = cc
+exact_value (Int left) Null is = cc
+exact_value (Int left) (Int right) is = ap Int (exact_signed left right (same_equal (int_cmp left right) is))
+exact_value (Int left) (Text right) is = cc
+exact_value (Int left) (Sum right) is = cc
+exact_value (Text left) Null is = cc
+exact_value (Text left) (Int right) is = cc
+exact_value (Text left) (Text right) is = ap Text (exact_text left right is)
+exact_value (Text left) (Sum right) is = cc
+exact_value (Sum left) Null is = cc
+exact_value (Sum left) (Int right) is = cc
+exact_value (Sum left) (Text right) is = cc
+exact_value (Sum left) (Sum right) is = ap Sum (exact_signed left right (same_equal (int_cmp left right) is))
+
+exact_row : (left right : Row) → is_same_row left right ≡ true → left ≡ right
+unfolding is_same_row
+exact_row [] [] is = refl
+exact_row [] (value ∷ right) is = cc
+exact_row (value ∷ left) [] is = cc
+exact_row (value ∷ left) (other ∷ right) is = let parts = and_parts _ _ is in let first = exact_value value other parts.0 in let rest = exact_row left right parts.1 in cc
+
+pub exact_state : (before after : Option Row) → is_same_state before after ≡ true → before ≡ after
+exact_state None None is = refl
+exact_state None (Some after) is = cc
+exact_state (Some before) None is = cc
+exact_state (Some before) (Some after) is = ap Some (exact_row before after is)

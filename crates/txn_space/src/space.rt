@@ -1,14 +1,15 @@
-ghost use Rattle.std.specs.Prelude.{◌≡◌, ◌<◌, [], IfOk, MatchOption, OnErr, OnOk, length, slice_get};
+ghost use Rattle.std.specs.Prelude.{ℕ, filter, ◌≡◌, ◌<◌, [], IfOk, MatchOption, OnErr, OnOk, length, slice_get};
 ghost use Rattle.std.specs.List.{AllByRecursion};
 ghost use Rattle.std.specs.Option.{option_copied};
 ghost use Rattle.own_model.specs.Db.{AreRising};
 ghost use Rattle.own_model.specs.Stored.{IsRunFrom, row_named, rows_at};
 ghost use Rattle.page_model.specs.Paged.{items};
 ghost use Rattle.state_model.specs.Net.{net};
+ghost use Rattle.table_part.specs.Changes.{KeysDiffer};
 ghost use Rattle.txn_space.specs.Changed.{changed_rows};
 ghost use Rattle.txn_space.specs.Entries.{entries_at};
 ghost use Rattle.txn_space.specs.EntryNet.{database};
-ghost use Rattle.txn_space.specs.Put.{IsChangeOf, put_rows};
+ghost use Rattle.txn_space.specs.Put.{IsChangeOf, is_of_table, put_rows};
 ghost use Rattle.txn_space.specs.Sound.{IsBase, IsSpaceOf};
 
 use crate::entry::{ByKey, Entries, Entry};
@@ -85,11 +86,14 @@ impl Space {
     }
 
     /// The rows that differ between the base and its rows as changed: by table, then key, each with what it was and what
-    /// it is.
+    /// it is. Made in the base, they give its rows as changed.
     pub fn changes<V: StoreView>(&self, alloc: Global, base: &V) -> Result<List<Change>, AllocError>
         requires base { IsBase (V.schema_of base.now).tables (V.rows base.now) }
         requires space { IsSpaceOf (V.schema_of base.now).tables self.now }
-        ensures { IfOk result (λ changes. changes ≡ net (database (V.schema_of base.now) (V.rows base.now)) (database (V.schema_of base.now) (changed_rows (V.schema_of base.now).tables (V.rows base.now) self.now))) }
+        ensures net { IfOk result (λ changes. changes ≡ net (database (V.schema_of base.now) (V.rows base.now)) (database (V.schema_of base.now) (changed_rows (V.schema_of base.now).tables (V.rows base.now) self.now))) }
+        ensures applied { IfOk result (λ changes. put_rows (V.schema_of base.now).tables changes (V.rows base.now) ≡ changed_rows (V.schema_of base.now).tables (V.rows base.now) self.now) }
+        ensures theirs { IfOk result (λ changes. AllByRecursion (IsChangeOf (V.schema_of base.now).tables) changes) }
+        ensures once { IfOk result (λ changes. (number : ℕ) → KeysDiffer (filter (is_of_table number) changes)) }
     {
         let mut changes = List::new(alloc);
         let tables = self.tables.items();
