@@ -1,6 +1,7 @@
 -- Entries stay those of their tables.
-use Rattle.std.proofs.Common.{◌≡◌, refl, sym, ap, subst, ℕ, suc, List, [], ◌∷◌, length, arith}
-use Rattle.std.specs.Prelude.{filter}
+use Rattle.std.proofs.Common.{◌≡◌, refl, sym, ap, subst, inl, inr, ℕ, zero, suc, ◌<◌, ◌≤◌, List, [], ◌∷◌, ◌++◌, length, length-append, arith}
+use Rattle.std.specs.Prelude.{Some, filter, slice_get}
+use Rattle.std.proofs.lemmas.Bool.{cases_lt}
 use Rattle.std.specs.List.{AllByRecursion as Each}
 use Rattle.own_base.specs.Key.{key_cmp}
 use Rattle.own_base.specs.declared.change.Change.{Change}
@@ -56,3 +57,26 @@ put_sound tables changes before after sound all put =
       keyed = λ number table is. subst (AreKeyed (key_of table) entry_key entry_row) (sym (put.entries number))
           (keyed_more table (filter (is_of_table number) changes) (entries_at (seen before) number) (changes_keyed tables number table changes is all) (sound.keyed number table is));
     }
+
+front_table : (tables more : List TableDef) (number : ℕ) (table : TableDef) → number < length tables → slice_get (tables ++ more) number ≡ Some table → slice_get tables number ≡ Some table
+front_table [] more number table within is = absurd (omega arith)
+front_table (first ∷ tables) more zero table within is = is
+front_table (first ∷ tables) more (suc number) table within is = front_table tables more number table (omega arith) is
+
+no_entries : (space : List (List Entry)) (number : ℕ) → length space ≤ number → entries_at space number ≡ []
+no_entries [] number past = refl
+no_entries (entries ∷ space) zero past = absurd (omega arith)
+no_entries (entries ∷ space) (suc number) past = no_entries space number (omega arith)
+
+-- they are where further tables come
+pub sound_later : (tables more : List TableDef) (space : List (List Entry)) → IsSpaceOf tables space → IsSpaceOf (tables ++ more) space
+sound_later tables more space sound = record {
+  within = omega (arith, sound.within, length-append tables more);
+  numbered = sound.numbered;
+  few = sound.few;
+  rising = sound.rising;
+  keyed = λ number table is. elim (cases_lt number (length tables)) [
+    | inl there ↦ sound.keyed number table (front_table tables more number table there is)
+    | inr past ↦ let within = sound.within in subst (AreKeyed (key_of table) entry_key entry_row) (sym (no_entries space number (omega arith))) tt
+  ];
+}
