@@ -1,7 +1,7 @@
-ghost use Rattle.std.specs.Prelude.{ℕ, filter, ◌≡◌, ◌<◌, [], IfOk, MatchOption, OnErr, OnOk, length, slice_get};
+ghost use Rattle.std.specs.Prelude.{ℕ, List, filter, ◌≡◌, ◌<◌, [], IfOk, MatchOption, OnErr, OnOk, length, slice_get};
 ghost use Rattle.std.specs.List.{AllByRecursion};
 ghost use Rattle.std.specs.Option.{option_copied};
-ghost use Rattle.own_model.specs.Db.{AreRising};
+ghost use Rattle.own_model.specs.Db.{AreRising, Row as Values};
 ghost use Rattle.own_model.specs.Stored.{IsRunFrom, row_named, rows_at};
 ghost use Rattle.page_model.specs.Paged.{items};
 ghost use Rattle.state_model.specs.Net.{net};
@@ -9,6 +9,7 @@ ghost use Rattle.table_part.specs.Changes.{KeysDiffer};
 ghost use Rattle.txn_space.specs.Changed.{changed_rows};
 ghost use Rattle.txn_space.specs.Entries.{entries_at};
 ghost use Rattle.txn_space.specs.EntryNet.{database};
+ghost use Rattle.txn_space.specs.HasPut.{entries_put};
 ghost use Rattle.txn_space.specs.Put.{IsChangeOf, is_of_table, put_rows};
 ghost use Rattle.txn_space.specs.Sound.{IsBase, IsSpaceOf};
 
@@ -63,19 +64,20 @@ impl Space {
         Over::new(self, base)
     }
 
-    /// Makes changes, one after another: all of them, or none where memory is refused.
+    /// Makes changes, one after another: all of them, or none where memory is refused. The base is that of the tables; what
+    /// is said of its rows is true of those of each base.
     pub fn put<V: StoreView>(
         &mut self,
         alloc: Global,
         base: &V,
         changes: &[Change],
     ) -> Result<(), AllocError>
-        requires base { IsBase (V.schema_of base.now).tables (V.rows base.now) }
         requires space { IsSpaceOf (V.schema_of base.now).tables self.old }
         requires changes { AllByRecursion (IsChangeOf (V.schema_of base.now).tables) changes.now }
         ensures sound { IsSpaceOf (V.schema_of base.now).tables self.new }
-        ensures put { OnOk result (changed_rows (V.schema_of base.now).tables (V.rows base.now) self.new
-            ≡ put_rows (V.schema_of base.now).tables changes.now (changed_rows (V.schema_of base.now).tables (V.rows base.now) self.old)) }
+        ensures put { OnOk result ((rows : List (List Values)) → IsBase (V.schema_of base.now).tables rows
+            → changed_rows (V.schema_of base.now).tables rows self.new ≡ put_rows (V.schema_of base.now).tables changes.now (changed_rows (V.schema_of base.now).tables rows self.old)) }
+        ensures entries { OnOk result ((number : ℕ) → entries_at self.new number ≡ entries_put number changes.now (entries_at self.old number)) }
         ensures unchanged { OnErr result (self.new ≡ self.old) }
     {
         let _ = base;
