@@ -1,0 +1,14 @@
+mod Applied
+mod CountLemmas
+mod CutLemmas
+mod KeysLemmas
+mod MadeLemmas
+mod NetLemmas
+pub mod OverLemmas
+mod PlaceSteps
+mod PutLemmas
+mod RoomLemmas
+mod SameLemmas
+pub mod SoundLemmas
+mod SpotLemmas
+mod WalkLemmas

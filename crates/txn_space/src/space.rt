@@ -1,0 +1,182 @@
+ghost use Rattle.std.specs.Prelude.{ℕ, List, filter, ◌≡◌, ◌<◌, [], IfOk, MatchOption, OnErr, OnOk, length, slice_get};
+ghost use Rattle.std.specs.List.{AllByRecursion};
+ghost use Rattle.std.specs.Option.{option_copied};
+ghost use Rattle.own_model.specs.Db.{AreRising, Row as Values};
+ghost use Rattle.own_model.specs.Stored.{IsRunFrom, row_named, rows_at};
+ghost use Rattle.page_model.specs.Paged.{items};
+ghost use Rattle.state_model.specs.Net.{net};
+ghost use Rattle.table_part.specs.Changes.{KeysDiffer};
+ghost use Rattle.txn_space.specs.Changed.{changed_rows};
+ghost use Rattle.txn_space.specs.Entries.{entries_at};
+ghost use Rattle.txn_space.specs.EntryNet.{database};
+ghost use Rattle.txn_space.specs.HasPut.{entries_put};
+ghost use Rattle.txn_space.specs.Put.{IsChangeOf, is_of_table, put_rows};
+ghost use Rattle.txn_space.specs.Sound.{IsBase, IsSpaceOf};
+
+use crate::entry::{ByKey, Entries, Entry};
+use crate::net::add_changes;
+use crate::over::Over;
+use crate::put::put_all;
+use crate::row_key::definition_of;
+use crate::walk::{count_with, run_from};
+use own_base::{Change, List, MakeCopy, Row, RowName, TableNo};
+use own_model::StoreView;
+use page_tree::Pages;
+use std::alloc::{AllocError, Global};
+use std::marker::Model;
+
+/// What a transaction changes, which contracts see as the list of its entries for each table, by number: each the key of a
+/// row, and the row that stands there now.
+#[derive(Drop)]
+pub struct Space {
+    tables: List<Pages<Entry, ByKey>>,
+}
+
+impl Model for Space {
+    ghost use Rattle.std.specs.Prelude.{List as Seq};
+    ghost use Rattle.txn_space.specs.declared.entry.Entry.{Entry as Changed};
+    ghost use Rattle.txn_space.specs.Entries.{seen};
+
+    ghost Value = { Seq (Seq Changed) };
+
+    ghost view = { λ space. seen space.tables };
+}
+
+impl Space {
+    /// No change. Takes no memory.
+    pub fn new(alloc: Global) -> Space
+        ensures nothing { result ≡ [] }
+        ensures sound { (tables : _) → IsSpaceOf tables result }
+    {
+        Space {
+            tables: List::new(alloc),
+        }
+    }
+
+    /// The base's rows, as changed. Takes no memory.
+    pub fn over<'a, V: StoreView>(&'a self, base: &'a V) -> Over<'a, V>
+        requires base { IsBase (V.schema_of base.now).tables (V.rows base.now) }
+        requires space { IsSpaceOf (V.schema_of base.now).tables self.now }
+        ensures schema { result.schema ≡ V.schema_of base.now }
+        ensures rows { result.rows ≡ changed_rows (V.schema_of base.now).tables (V.rows base.now) self.now }
+        ensures rising { AreRising (V.schema_of base.now).tables result.rows }
+    {
+        Over::new(self, base)
+    }
+
+    /// Makes changes, one after another: all of them, or none where memory is refused. The base is that of the tables; what
+    /// is said of its rows is true of those of each base.
+    pub fn put<V: StoreView>(
+        &mut self,
+        alloc: Global,
+        base: &V,
+        changes: &[Change],
+    ) -> Result<(), AllocError>
+        requires space { IsSpaceOf (V.schema_of base.now).tables self.old }
+        requires changes { AllByRecursion (IsChangeOf (V.schema_of base.now).tables) changes.now }
+        ensures sound { IsSpaceOf (V.schema_of base.now).tables self.new }
+        ensures put { OnOk result ((rows : List (List Values)) → IsBase (V.schema_of base.now).tables rows
+            → changed_rows (V.schema_of base.now).tables rows self.new ≡ put_rows (V.schema_of base.now).tables changes.now (changed_rows (V.schema_of base.now).tables rows self.old)) }
+        ensures entries { OnOk result ((number : ℕ) → entries_at self.new number ≡ entries_put number changes.now (entries_at self.old number)) }
+        ensures unchanged { OnErr result (self.new ≡ self.old) }
+    {
+        let _ = base;
+        let mut tables = self.tables.copy(alloc)?.into_vec();
+        put_all(alloc, &mut tables, changes)?;
+        self.tables = List::from_vec(tables);
+        Ok(())
+    }
+
+    /// The rows that differ between the base and its rows as changed: by table, then key, each with what it was and what
+    /// it is. Made in the base, they give its rows as changed.
+    pub fn changes<V: StoreView>(&self, alloc: Global, base: &V) -> Result<List<Change>, AllocError>
+        requires base { IsBase (V.schema_of base.now).tables (V.rows base.now) }
+        requires space { IsSpaceOf (V.schema_of base.now).tables self.now }
+        ensures net { IfOk result (λ changes. changes ≡ net (database (V.schema_of base.now) (V.rows base.now)) (database (V.schema_of base.now) (changed_rows (V.schema_of base.now).tables (V.rows base.now) self.now))) }
+        ensures applied { IfOk result (λ changes. put_rows (V.schema_of base.now).tables changes (V.rows base.now) ≡ changed_rows (V.schema_of base.now).tables (V.rows base.now) self.now) }
+        ensures theirs { IfOk result (λ changes. AllByRecursion (IsChangeOf (V.schema_of base.now).tables) changes) }
+        ensures once { IfOk result (λ changes. (number : ℕ) → KeysDiffer (filter (is_of_table number) changes)) }
+    {
+        let mut changes = List::new(alloc);
+        let tables = self.tables.items();
+        for number in 0..tables.len() {
+            add_changes(
+                alloc,
+                base,
+                TableNo(number as u32),
+                &tables[number],
+                &mut changes,
+            )?;
+        }
+        Ok(changes)
+    }
+
+    /// The entries of a table, where there are any. Takes no memory.
+    fn entries(&self, table: TableNo) -> Option<&Entries>
+        ensures { MatchOption result (entries_at self.now table.0 ≡ []) (λ entries. items entries.now ≡ entries_at self.now table.0) }
+    {
+        self.tables.items().get(table.0 as usize)
+    }
+
+    /// How many rows a table has. Takes no memory.
+    pub(crate) fn count<V: StoreView>(&self, base: &V, table: TableNo) -> u64
+        requires base { IsBase (V.schema_of base.now).tables (V.rows base.now) }
+        requires space { IsSpaceOf (V.schema_of base.now).tables self.now }
+        requires there { table.0 < length (V.schema_of base.now).tables }
+        ensures { result ≡ length (rows_at (changed_rows (V.schema_of base.now).tables (V.rows base.now) self.now) table.0) }
+    {
+        match self.entries(table) {
+            None => base.count(table),
+            Some(entries) => count_with(base, table, definition_of(base, table), entries),
+        }
+    }
+
+    /// A run of a table's rows that begins at a place. Takes no memory.
+    pub(crate) fn rows_from<'a, V: StoreView>(
+        &'a self,
+        base: &'a V,
+        table: TableNo,
+        at: u64,
+    ) -> &'a [Row]
+        requires base { IsBase (V.schema_of base.now).tables (V.rows base.now) }
+        requires space { IsSpaceOf (V.schema_of base.now).tables self.now }
+        requires there { table.0 < length (V.schema_of base.now).tables }
+        ensures { IsRunFrom (rows_at (changed_rows (V.schema_of base.now).tables (V.rows base.now) self.now) table.0) at result.now }
+    {
+        match self.entries(table) {
+            None => base.rows_from(table, at),
+            Some(entries) => run_from(base, table, definition_of(base, table), entries, at),
+        }
+    }
+
+    /// The row at a place of a table. Takes no memory.
+    pub(crate) fn row_at<'a, V: StoreView>(
+        &'a self,
+        base: &'a V,
+        table: TableNo,
+        at: u64,
+    ) -> Option<&'a Row>
+        requires base { IsBase (V.schema_of base.now).tables (V.rows base.now) }
+        requires space { IsSpaceOf (V.schema_of base.now).tables self.now }
+        requires there { table.0 < length (V.schema_of base.now).tables }
+        ensures { option_copied result ≡ slice_get (rows_at (changed_rows (V.schema_of base.now).tables (V.rows base.now) self.now) table.0) at }
+    {
+        self.rows_from(base, table, at).first()
+    }
+
+    /// The row of a name. Takes no memory.
+    pub(crate) fn row<'a, V: StoreView>(&'a self, base: &'a V, name: &RowName) -> Option<&'a Row>
+        requires base { IsBase (V.schema_of base.now).tables (V.rows base.now) }
+        requires space { IsSpaceOf (V.schema_of base.now).tables self.now }
+        requires there { name.now.table.0 < length (V.schema_of base.now).tables }
+        ensures { option_copied result ≡ row_named (V.schema_of base.now) (changed_rows (V.schema_of base.now).tables (V.rows base.now) self.now) name.now }
+    {
+        match self.entries(name.table) {
+            None => base.row(name),
+            Some(entries) => match entries.get(&name.key) {
+                None => base.row(name),
+                Some(entry) => entry.row.as_ref(),
+            },
+        }
+    }
+}
