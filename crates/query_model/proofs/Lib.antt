@@ -1,3 +1,6 @@
+pub mod KeptByKey
+pub mod PinnedRow
+pub mod RowOfKey
 pub mod RowOrder
 pub mod SortedRows
 pub mod TruthByVariant

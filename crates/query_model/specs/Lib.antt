@@ -10,6 +10,7 @@ pub mod Refused
 pub mod Scope
 pub mod SelectFaults
 pub mod SelectMeaning
+pub mod Stored
 pub mod Truth
 pub mod WithinLimits
 pub mod WriteFaults
