@@ -1,0 +1,111 @@
+-- The tuples of an INSERT by their keys, and the rows of the table with them.
+use Rattle.std.proofs.Common.{◌≡◌, List, [], ◌∷◌, Bool, true, false, cond, fold, Option, Some, None, refl, sym, ap, ◌∙◌, ◌||◌}
+use Rattle.std.specs.Prelude.{Result, Ok, Err, slice_get}
+use Rattle.std.specs.BTreeMap.{insert_entry, is_at}
+use Rattle.std.specs.List.{AllByRecursion as Each, find, list_any}
+use Rattle.std.specs.List.Sorted.{IsStrictlySortedBy}
+use Rattle.std.specs.Map.{keys_of, lookup}
+use Rattle.std.specs.Option.{is_some}
+use Rattle.own_base.specs.Key.{key_cmp}
+use Rattle.own_base.specs.declared.number.TableNo.{TableNo}
+use Rattle.own_base.specs.declared.value.Key.{Key}
+use Rattle.own_model.specs.declared.schema.Schema.{Schema}
+use Rattle.own_model.specs.declared.schema.TableDef.{TableDef}
+use Rattle.own_model.specs.Db.{Row, key_of}
+use Rattle.own_model.specs.Stored.{has_key, row_named, rows_at}
+use Rattle.run_model.specs.Insert.{and_tuple, with_row, with_tuple, with_tuples}
+use Rattle.run_model.proofs.FoundRows.{any_by_find}
+use Rattle.run_model.proofs.InsertLookups.{found-with_row}
+use Rattle.write_eval.specs.Insertions.{Given, and_given, give, given_tuples, is_taken}
+use Rattle.write_eval.proofs.GivenEntries.{at_key, each-more, lookup-more, rising-more}
+
+-- the first, else the other
+abbrev pub or_else : Option Row → Option Row → Option Row
+or_else (Some row) other = Some row
+or_else None other = other
+
+-- Rows with the tuples given: under each key stands what is given, else what stood there, and nothing stood under the keys given.
+pub record AreWith (table : TableDef) (rows merged : List Row) (given : Given) : Type 0 where
+  pub found : (key : Key) → find (has_key table key) merged ≡ or_else (lookup (is_at (key_cmp key)) given) (find (has_key table key) rows)
+  pub new : Each (λ (entry : Key × Row). find (has_key table entry.0) rows ≡ None) given
+  pub rising : IsStrictlySortedBy key_cmp (keys_of given)
+
+-- both are refused by one key, or the rows are those with the tuples given
+abbrev pub AreAlike : TableDef → List Row → Result (List Row) Key → Result Given Key → Type 0
+AreAlike table rows (Ok merged) (Ok given) = AreWith table rows merged given
+AreAlike table rows (Err key) (Err other) = key ≡ other
+AreAlike table rows _ _ = ⊥
+
+module _ (schema : Schema) (all : List (List Row)) (number : TableNo) (table : TableDef) (is : slice_get schema.tables number.0 ≡ Some table) where
+  abbrev rows : List Row
+  rows = rows_at all number.0
+
+  named : (key : Key) → row_named schema all (record { table = number; key = key }) ≡ find (has_key table key) rows
+  unfolding row_named
+  named key = rw is refl
+
+  neither : (found : Option Row) (given : Option Row) → is_some found || is_some given ≡ false → (found ≡ None) × (given ≡ None)
+  neither None None none = (refl, refl)
+  neither None (Some row) none = cc
+  neither (Some row) given none = cc
+
+  either : (found : Option Row) (given : Option Row) → is_some (or_else given found) ≡ (is_some found || is_some given)
+  either None None = refl
+  either (Some row) None = refl
+  either None (Some other) = refl
+  either (Some row) (Some other) = refl
+
+  module _ (merged : List Row) (given : Given) (with : AreWith table rows merged given) (tuple : Row) where
+    abbrev key : Key
+    key = key_of table tuple
+
+    -- a key is taken where a row has it
+    taken : is_taken schema all given (record { table = number; key = key }) ≡ list_any (has_key table key) merged
+    taken =
+        rw (named key, any_by_find (has_key table key) merged, with.found key)
+        (sym (either (find (has_key table key) rows) (lookup (is_at (key_cmp key)) given)))
+
+    more : is_taken schema all given (record { table = number; key = key }) ≡ false
+        → AreWith table rows (with_row table tuple merged) (insert_entry key_cmp given key tuple)
+    more free =
+        let both = neither (find (has_key table key) rows) (lookup (is_at (key_cmp key)) given) (rw named at free) in
+        record {
+          found = λ other. rw (found-with_row table other tuple merged (sym taken ∙ free), lookup-more key tuple other given both.1, with.found other, at_key other key)
+              (by (has_key table other tuple) (lookup (is_at (key_cmp other)) given) (find (has_key table other) rows));
+          new = each-more key tuple (λ (entry : Key × Row). find (has_key table entry.0) rows ≡ None) given with.new both.0 both.1;
+          rising = rising-more key tuple given with.rising;
+        }
+      where
+        by : (b : Bool) (found there : Option Row) → cond b (Some tuple) (or_else found there) ≡ or_else (cond b (Some tuple) found) there
+        by true found there = refl
+        by false found there = refl
+
+    alike_step : (b : Bool) → is_taken schema all given (record { table = number; key = key }) ≡ b
+        → AreAlike table rows (with_tuple table merged tuple) (give schema all number table given tuple)
+    unfolding with_tuple give
+    alike_step true is = rw (is, sym taken ∙ is) refl
+    alike_step false is = rw (is, sym taken ∙ is) (more is)
+
+  alike_next : (before : Result (List Row) Key) (given : Result Given Key) (tuple : Row) → AreAlike table rows before given
+      → AreAlike table rows (and_tuple table before tuple) (and_given schema all number table given tuple)
+  alike_next (Ok merged) (Ok given) tuple alike = alike_step merged given alike tuple _ refl
+  alike_next (Err key) (Err other) tuple alike = alike
+  alike_next (Ok merged) (Err other) tuple alike = absurd alike
+  alike_next (Err key) (Ok given) tuple alike = absurd alike
+
+  alike_fold : (before : Result (List Row) Key) (given : Result Given Key) (tuples : List Row) → AreAlike table rows before given
+      → AreAlike table rows (fold (and_tuple table) before tuples) (fold (and_given schema all number table) given tuples)
+  alike_fold before given [] alike = alike
+  alike_fold before given (tuple ∷ tuples) alike =
+      alike_fold (and_tuple table before tuple) (and_given schema all number table given tuple) tuples (alike_next before given tuple alike)
+
+  -- an INSERT takes the tuples that are given, or is refused by the same key
+  pub alike-tuples : (tuples : List Row) → AreAlike table rows (with_tuples table rows tuples) (given_tuples schema all number table tuples)
+  unfolding with_tuples given_tuples IsStrictlySortedBy
+  alike-tuples tuples = alike_fold (Ok rows) (Ok []) tuples (record { found = λ key. refl; new = tt; rising = tt })
+
+-- once a key is taken no tuple counts
+pub fold-refused : (schema : Schema) (all : List (List Row)) (number : TableNo) (table : TableDef) (key : Key) (tuples : List Row)
+    → fold (and_given schema all number table) (Err key) tuples ≡ Err key
+fold-refused schema all number table key [] = refl
+fold-refused schema all number table key (tuple ∷ tuples) = fold-refused schema all number table key tuples

@@ -1,0 +1,4 @@
+pub mod Deletions
+pub mod Insertions
+pub mod Leads
+pub mod Writes

@@ -1,0 +1,11 @@
+//! What an INSERT, an UPDATE or a DELETE changes in a store that is viewed. The store stays as it is.
+#![tactic(auto)]
+
+mod definition;
+mod delete;
+mod insert;
+mod row_key;
+mod target;
+mod written;
+
+pub use written::Written;
