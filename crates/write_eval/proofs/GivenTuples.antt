@@ -1,11 +1,12 @@
 -- The tuples of an INSERT by their keys, and the rows of the table with them.
-use Rattle.std.proofs.Common.{◌≡◌, List, [], ◌∷◌, Bool, true, false, cond, fold, Option, Some, None, refl, sym, ap, ◌∙◌, ◌||◌}
+use Rattle.std.proofs.Common.{◌≡◌, ℕ, zero, suc, ◌+◌, ◌<◌, List, [], ◌∷◌, Bool, true, false, cond, fold, length, get_or, take, Option, Some, None, Ordering, refl, sym, ap, ◌∙◌, ◌||◌}
 use Rattle.std.specs.Prelude.{Result, Ok, Err, slice_get}
 use Rattle.std.specs.BTreeMap.{insert_entry, is_at}
 use Rattle.std.specs.List.{AllByRecursion as Each, find, list_any}
 use Rattle.std.specs.List.Sorted.{IsStrictlySortedBy}
 use Rattle.std.specs.Map.{keys_of, lookup}
 use Rattle.std.specs.Option.{is_some}
+use Rattle.std.proofs.lemmas.List.Sums.{fold_more}
 use Rattle.own_base.specs.Key.{key_cmp}
 use Rattle.own_base.specs.declared.number.TableNo.{TableNo}
 use Rattle.own_base.specs.declared.value.Key.{Key}
@@ -17,7 +18,7 @@ use Rattle.run_model.specs.Insert.{and_tuple, with_row, with_tuple, with_tuples}
 use Rattle.run_model.proofs.FoundRows.{any_by_find}
 use Rattle.run_model.proofs.InsertLookups.{found-with_row}
 use Rattle.write_eval.specs.Insertions.{Given, and_given, give, given_tuples, is_taken}
-use Rattle.write_eval.proofs.GivenEntries.{at_key, each-more, lookup-more, rising-more}
+use Rattle.write_eval.proofs.GivenEntries.{at_key, each-more, insert_entry-is, lookup-more, rising-more}
 
 -- the first, else the other
 abbrev pub or_else : Option Row → Option Row → Option Row
@@ -56,31 +57,31 @@ module _ (schema : Schema) (all : List (List Row)) (number : TableNo) (table : T
   either (Some row) (Some other) = refl
 
   module _ (merged : List Row) (given : Given) (with : AreWith table rows merged given) (tuple : Row) where
-    abbrev key : Key
-    key = key_of table tuple
+    abbrev own : Key
+    own = key_of table tuple
 
     -- a key is taken where a row has it
-    taken : is_taken schema all given (record { table = number; key = key }) ≡ list_any (has_key table key) merged
+    taken : is_taken schema all given (record { table = number; key = own }) ≡ list_any (has_key table own) merged
     taken =
-        rw (named key, any_by_find (has_key table key) merged, with.found key)
-        (sym (either (find (has_key table key) rows) (lookup (is_at (key_cmp key)) given)))
+        rw (named own, any_by_find (has_key table own) merged, with.found own)
+        (sym (either (find (has_key table own) rows) (lookup (is_at (key_cmp own)) given)))
 
-    more : is_taken schema all given (record { table = number; key = key }) ≡ false
-        → AreWith table rows (with_row table tuple merged) (insert_entry key_cmp given key tuple)
+    more : is_taken schema all given (record { table = number; key = own }) ≡ false
+        → AreWith table rows (with_row table tuple merged) (insert_entry key_cmp given own tuple)
     more free =
-        let both = neither (find (has_key table key) rows) (lookup (is_at (key_cmp key)) given) (rw named at free) in
+        let both = neither (find (has_key table own) rows) (lookup (is_at (key_cmp own)) given) (rw named at free) in
         record {
-          found = λ other. rw (found-with_row table other tuple merged (sym taken ∙ free), lookup-more key tuple other given both.1, with.found other, at_key other key)
+          found = λ other. rw (found-with_row table other tuple merged (sym taken ∙ free), lookup-more own tuple other given both.1, with.found other, at_key other own)
               (by (has_key table other tuple) (lookup (is_at (key_cmp other)) given) (find (has_key table other) rows));
-          new = each-more key tuple (λ (entry : Key × Row). find (has_key table entry.0) rows ≡ None) given with.new both.0 both.1;
-          rising = rising-more key tuple given with.rising;
+          new = each-more own tuple (λ (entry : Key × Row). find (has_key table entry.0) rows ≡ None) given with.new both.0 both.1;
+          rising = rising-more own tuple given with.rising;
         }
       where
         by : (b : Bool) (found there : Option Row) → cond b (Some tuple) (or_else found there) ≡ or_else (cond b (Some tuple) found) there
         by true found there = refl
         by false found there = refl
 
-    alike_step : (b : Bool) → is_taken schema all given (record { table = number; key = key }) ≡ b
+    alike_step : (b : Bool) → is_taken schema all given (record { table = number; key = own }) ≡ b
         → AreAlike table rows (with_tuple table merged tuple) (give schema all number table given tuple)
     unfolding with_tuple give
     alike_step true is = rw (is, sym taken ∙ is) refl
@@ -104,8 +105,40 @@ module _ (schema : Schema) (all : List (List Row)) (number : TableNo) (table : T
   unfolding with_tuples given_tuples IsStrictlySortedBy
   alike-tuples tuples = alike_fold (Ok rows) (Ok []) tuples (record { found = λ key. refl; new = tt; rising = tt })
 
--- once a key is taken no tuple counts
-pub fold-refused : (schema : Schema) (all : List (List Row)) (number : TableNo) (table : TableDef) (key : Key) (tuples : List Row)
-    → fold (and_given schema all number table) (Err key) tuples ≡ Err key
-fold-refused schema all number table key [] = refl
-fold-refused schema all number table key (tuple ∷ tuples) = fold-refused schema all number table key tuples
+-- a tuple whose key is taken, and one whose key is free
+module _ (schema : Schema) (all : List (List Row)) (number : TableNo) (table : TableDef) (given : Given) (tuple : Row) where
+  pub give-taken : (key : Key) → key ≡ key_of table tuple → is_taken schema all given (record { table = number; key = key }) ≡ true
+      → Err key ≡ give schema all number table given tuple
+  unfolding give
+  give-taken key own is = let here : is_taken schema all given (record { table = number; key = key_of table tuple }) ≡ true = rw own at is in rw here (ap Err own)
+
+  pub give-free : (order : Key → Key → Ordering) → ((left right : Key) → order left right ≡ key_cmp left right) → (key : Key) (row : Row) (after : Given)
+      → key ≡ key_of table tuple → is_taken schema all given (record { table = number; key = key }) ≡ false → after ≡ insert_entry order given key row → row ≡ tuple
+      → Ok after ≡ give schema all number table given tuple
+  unfolding give
+  give-free order same key row after own is put copied =
+      let here : is_taken schema all given (record { table = number; key = key_of table tuple }) ≡ false = rw own at is in
+      rw here (ap Ok (put ∙ (insert_entry-is order same given key row ∙ rw (own, copied) refl)))
+
+module _ (schema : Schema) (all : List (List Row)) (number : TableNo) (table : TableDef) where
+  -- once a key is taken no tuple counts
+  refused : (key : Key) (tuples : List Row) → fold (and_given schema all number table) (Err key) tuples ≡ Err key
+  refused key [] = refl
+  refused key (tuple ∷ tuples) = refused key tuples
+
+  refused_from : (start : Result Given Key) (key : Key) (n : ℕ) (tuples : List Row) → fold (and_given schema all number table) start (take n tuples) ≡ Err key
+      → fold (and_given schema all number table) start tuples ≡ Err key
+  refused_from start key zero [] is = is
+  refused_from start key (suc n) [] is = is
+  refused_from start key zero (tuple ∷ tuples) is = rw is (refused key (tuple ∷ tuples))
+  refused_from start key (suc n) (tuple ∷ tuples) is = refused_from (and_given schema all number table start tuple) key n tuples is
+
+  -- so an INSERT is refused by the first key that is taken
+  pub refused_at : (tuples : List Row) (i : ℕ) (tuple : Row) (given : Given) (key : Key) → i < length tuples → tuple ≡ get_or tuples i tuple
+      → Ok given ≡ fold (and_given schema all number table) (Ok []) (take i tuples) → Err key ≡ give schema all number table given tuple
+      → Err key ≡ given_tuples schema all number table tuples
+  unfolding given_tuples
+  refused_at tuples i tuple given key within here so_far taken =
+      let more : fold (and_given schema all number table) (Ok []) (take (i + 1) tuples) ≡ Err key =
+          rw (fold_more (and_given schema all number table) (Ok []) tuples i tuple within, ← here, ← so_far) (sym taken) in
+      sym (refused_from (Ok []) key (i + 1) tuples more)

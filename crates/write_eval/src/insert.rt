@@ -45,6 +45,7 @@ fn give<V: StoreView>(
 }
 
 /// Tuples by their keys, or the first key that is taken.
+#[tactic(auto, unfolding(crate::specs::Insertions::given_tuples))]
 fn give_each<V: StoreView>(
     alloc: Global,
     view: &V,

@@ -5,7 +5,10 @@ mod definition;
 mod delete;
 mod insert;
 mod row_key;
+mod set_value;
 mod target;
+mod update;
+mod update_fault;
 mod written;
 
 pub use written::Written;

@@ -1,0 +1,123 @@
+ghost use Rattle.std.specs.Prelude.{◌≡◌, None, map, IfOk, OnOk};
+ghost use Rattle.std.specs.Option.{option_copied};
+ghost use Rattle.run_model.specs.Update.{null_faults, range_faults, update_faults};
+ghost use Rattle.state_model.specs.Fault.{first_of};
+ghost use Rattle.write_eval.specs.FirstFaults as spec;
+
+use crate::set_value::value_of;
+use own_base::{ColNo, MakeCopy, Name, Row, Value};
+use own_model::{BoundExpr, Column, Refusal, TableDef};
+use std::alloc::{AllocError, Global};
+use std::marker::Model;
+
+/// The first NULL and the first sum out of range that an UPDATE met so far, by the column's name, which is lent. Contracts
+/// see the two refusals.
+#[derive(Drop)]
+struct FirstFaults<'a> {
+    null: Option<&'a Name>,
+    range: Option<&'a Name>,
+}
+
+impl<'a> Model for FirstFaults<'a> {
+    ghost use Rattle.std.specs.Prelude.{option_map};
+    ghost use Rattle.std.specs.Option.{option_copied};
+    ghost use Rattle.own_model.specs.declared.refusal.Refusal.TheVariants.{NullValue, Range};
+    ghost use Rattle.write_eval.specs.FirstFaults.{Faults};
+
+    ghost Value = { Faults };
+
+    ghost view = { λ first. record { null = option_map NullValue (option_copied first.null); range = option_map Range (option_copied first.range) } };
+}
+
+impl<'a> FirstFaults<'a> {
+    /// None so far. Takes no memory.
+    fn new() -> FirstFaults<'a>
+        ensures { result ≡ spec.none_yet }
+    {
+        FirstFaults {
+            null: None,
+            range: None,
+        }
+    }
+
+    /// Notes what is wrong with a value for a column, where it is the first of its kind. Takes no memory.
+    fn note_value(&mut self, column: &'a Column, value: Option<&Value>)
+        ensures { self.new ≡ spec.with_faults self.old (spec.null_fault (option_copied value.entry) column.now) (spec.range_fault (option_copied value.entry) column.now) }
+    {
+        match value {
+            Some(Value::Null) => {
+                if column.not_null && self.null.is_none() {
+                    self.null = Some(&column.name);
+                }
+            }
+            Some(_) => {}
+            None => {
+                if self.range.is_none() {
+                    self.range = Some(&column.name);
+                }
+            }
+        }
+    }
+
+    /// Notes what is wrong with a set over a row.
+    fn note_set(
+        &mut self,
+        alloc: Global,
+        table: &'a TableDef,
+        set: &(ColNo, BoundExpr),
+        row: &Row,
+    ) -> Result<(), AllocError>
+        ensures { OnOk result (self.new ≡ spec.with_faults self.old (spec.set_nulls table.now row.now set.now) (spec.set_ranges table.now row.now set.now)) }
+    {
+        if let Some(column) = table.columns.items().get(set.0.0 as usize) {
+            let value = value_of(alloc, &set.1, row)?;
+            self.note_value(column, value.as_ref());
+        }
+        Ok(())
+    }
+
+    /// Notes what is wrong with the sets over a row, by column in the text.
+    fn note_row(
+        &mut self,
+        alloc: Global,
+        table: &'a TableDef,
+        sets: &[(ColNo, BoundExpr)],
+        row: &Row,
+    ) -> Result<(), AllocError>
+        ensures { OnOk result (self.new ≡ spec.with_faults self.old (null_faults table.now sets.now row.now) (range_faults table.now sets.now row.now)) }
+    {
+        for set in sets {
+            self.note_set(alloc, table, set, row)?;
+        }
+        Ok(())
+    }
+
+    /// The refusal of the first NULL, else of the first sum out of range.
+    fn refusal(&self, alloc: Global) -> Result<Option<Refusal>, AllocError>
+        ensures { IfOk result (λ told. told ≡ spec.told self.now) }
+    {
+        match (self.null, self.range) {
+            (Some(column), _) => Ok(Some(Refusal::NullValue(column.copy(alloc)?))),
+            (None, Some(column)) => Ok(Some(Refusal::Range(column.copy(alloc)?))),
+            (None, None) => Ok(None),
+        }
+    }
+}
+
+/// The refusal of an UPDATE of rows, if there is one: of the first NULL, else of the first sum out of range. One pass over the
+/// rows finds both.
+#[tactic(auto, unfolding(run_model::specs::Update::update_faults))]
+pub(crate) fn first_fault(
+    alloc: Global,
+    table: &TableDef,
+    sets: &[(ColNo, BoundExpr)],
+    rows: &[&Row],
+) -> Result<Option<Refusal>, AllocError>
+    ensures { IfOk result (λ why. why ≡ first_of (update_faults table.now sets.now (map (λ row. row.now) rows.now))) }
+{
+    let mut faults = FirstFaults::new();
+    for row in rows {
+        faults.note_row(alloc, table, sets, row)?;
+    }
+    faults.refusal(alloc)
+}
