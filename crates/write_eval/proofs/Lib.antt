@@ -1,7 +1,10 @@
+pub mod Answered
 pub mod Deletions
+pub mod FirstFaults
 pub mod GivenEntries
 pub mod GivenTuples
 pub mod Insertions
 pub mod Kept
 pub mod OneTable
+pub mod Replacements
 pub mod Targets

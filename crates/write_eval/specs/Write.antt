@@ -27,3 +27,10 @@ IsWrite schema (Select query) = ⊥
 IsWrite schema (Get subject) = ⊥
 IsWrite schema (Forget subject) = ⊥
 IsWrite schema Explain = ⊥
+
+-- the table of a write
+abbrev pub table_of : Bound → TableNo
+table_of (Insert table tuples) = table
+table_of (Update table sets cond) = table
+table_of (Delete table cond) = table
+table_of _ = record { 0 = 0 }

@@ -9,6 +9,8 @@ mod set_value;
 mod target;
 mod update;
 mod update_fault;
+mod write;
 mod written;
 
+pub use write::write_changes;
 pub use written::Written;

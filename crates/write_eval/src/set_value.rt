@@ -1,4 +1,5 @@
-ghost use Rattle.std.specs.Prelude.{◌≡◌, IfOk};
+ghost use Rattle.std.specs.Prelude.{◌≡◌, ◌==◌, find, IfOk};
+ghost use Rattle.std.specs.Option.{option_copied};
 ghost use Rattle.query_model.specs.Expression.{value_of};
 ghost use Rattle.run_model.specs.Update.{set_value};
 
@@ -22,6 +23,13 @@ pub(crate) fn value_of(
     }
 }
 
+/// The first set of the column of a number. Takes no memory.
+fn set_of(sets: &[(ColNo, BoundExpr)], number: usize) -> Option<&(ColNo, BoundExpr)>
+    ensures { option_copied result ≡ find (λ set. set.0.0 == number) sets.now }
+{
+    sets.iter().find(|set| set.0.0 as usize == number)
+}
+
 /// What stands in a column after an UPDATE: what the first set of the column gives over the row as it was, else what stood
 /// there.
 pub(crate) fn set_value(
@@ -33,7 +41,7 @@ pub(crate) fn set_value(
 ) -> Result<Value, AllocError>
     ensures { IfOk result (λ after. after ≡ set_value sets.now row.now (number, value.now)) }
 {
-    match sets.iter().find(|set| set.0.0 as usize == number) {
+    match set_of(sets, number) {
         Some(set) => Ok(value_of(alloc, &set.1, row)?.unwrap_or(Value::Null)),
         None => value.copy(alloc),
     }

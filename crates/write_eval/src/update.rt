@@ -83,12 +83,14 @@ pub(crate) fn update<V: StoreView>(
 {
     let table = definition(view, number);
     let targets = target_rows(alloc, view, number, cond)?;
-    if let Some(why) = first_fault(alloc, table, sets, targets.rows())? {
-        return Ok(Err(why));
+    match first_fault(alloc, table, sets, targets.rows())? {
+        Some(why) => Ok(Err(why)),
+        None => {
+            let changes = replacements(alloc, number, table, sets, targets.rows())?;
+            Ok(Ok(Written {
+                count: targets.count(),
+                changes,
+            }))
+        }
     }
-    let changes = replacements(alloc, number, table, sets, targets.rows())?;
-    Ok(Ok(Written {
-        count: targets.count(),
-        changes,
-    }))
 }

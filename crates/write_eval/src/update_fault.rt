@@ -1,4 +1,4 @@
-ghost use Rattle.std.specs.Prelude.{◌≡◌, None, map, IfOk, OnOk};
+ghost use Rattle.std.specs.Prelude.{◌≡◌, flat_map, map, IfOk, OnOk};
 ghost use Rattle.std.specs.Option.{option_copied};
 ghost use Rattle.run_model.specs.Update.{null_faults, range_faults, update_faults};
 ghost use Rattle.state_model.specs.Fault.{first_of};
@@ -104,9 +104,24 @@ impl<'a> FirstFaults<'a> {
     }
 }
 
-/// The refusal of an UPDATE of rows, if there is one: of the first NULL, else of the first sum out of range. One pass over the
-/// rows finds both.
-#[tactic(auto, unfolding(run_model::specs::Update::update_faults))]
+/// The first faults of an UPDATE of rows, by row as they stand. One pass over them finds both.
+fn faults_of<'a>(
+    alloc: Global,
+    table: &'a TableDef,
+    sets: &[(ColNo, BoundExpr)],
+    rows: &[&Row],
+) -> Result<FirstFaults<'a>, AllocError>
+    ensures { IfOk result (λ faults. faults ≡ spec.with_faults spec.none_yet (flat_map (null_faults table.now sets.now) (map (λ row. row.now) rows.now)) (flat_map (range_faults table.now sets.now) (map (λ row. row.now) rows.now))) }
+{
+    let mut faults = FirstFaults::new();
+    for row in rows {
+        faults.note_row(alloc, table, sets, row)?;
+    }
+    Ok(faults)
+}
+
+/// The refusal of an UPDATE of rows, if there is one: of the first NULL, else of the first sum out of range.
+#[tactic(auto, using(crate::proofs::FirstFaults::told_first), unfolding(run_model::specs::Update::update_faults))]
 pub(crate) fn first_fault(
     alloc: Global,
     table: &TableDef,
@@ -115,9 +130,6 @@ pub(crate) fn first_fault(
 ) -> Result<Option<Refusal>, AllocError>
     ensures { IfOk result (λ why. why ≡ first_of (update_faults table.now sets.now (map (λ row. row.now) rows.now))) }
 {
-    let mut faults = FirstFaults::new();
-    for row in rows {
-        faults.note_row(alloc, table, sets, row)?;
-    }
+    let faults = faults_of(alloc, table, sets, rows)?;
     faults.refusal(alloc)
 }
