@@ -1,5 +1,6 @@
-ghost use Rattle.std.specs.Prelude.{◌≡◌, flat_map, map, IfOk, OnOk};
+ghost use Rattle.std.specs.Prelude.{◌≡◌, flat_map, map, unwrap_or, IfOk, OnOk};
 ghost use Rattle.std.specs.Option.{option_copied};
+ghost use Rattle.query_model.specs.Expression.{value_of};
 ghost use Rattle.run_model.specs.Update.{null_faults, range_faults, update_faults};
 ghost use Rattle.state_model.specs.Fault.{first_of};
 ghost use Rattle.write_eval.specs.FirstFaults as spec;
@@ -7,6 +8,7 @@ ghost use Rattle.write_eval.specs.FirstFaults as spec;
 use crate::set_value::value_of;
 use own_base::{ColNo, MakeCopy, Name, Row, Value};
 use own_model::{BoundExpr, Column, Refusal, TableDef};
+use pred_eval::cell;
 use std::alloc::{AllocError, Global};
 use std::marker::Model;
 
@@ -59,6 +61,41 @@ impl<'a> FirstFaults<'a> {
         }
     }
 
+    /// The same for what stands in a column of a row; none is NULL. Takes no memory.
+    fn note_cell(&mut self, column: &'a Column, value: Option<&Value>)
+        ensures { self.new ≡ spec.with_faults self.old (spec.null_fault (Some (unwrap_or (option_copied value.entry) Value.Null)) column.now) (spec.range_fault (Some (unwrap_or (option_copied value.entry) Value.Null)) column.now) }
+    {
+        match value {
+            Some(value) => self.note_value(column, Some(value)),
+            None => {
+                let null = Value::Null;
+                self.note_value(column, Some(&null));
+            }
+        }
+    }
+
+    /// The same for what a column is set to. No text is copied.
+    #[tactic(auto, unfolding(query_model::specs::Expression::value_of))]
+    fn note_expression(
+        &mut self,
+        alloc: Global,
+        column: &'a Column,
+        expr: &BoundExpr,
+        row: &Row,
+    ) -> Result<(), AllocError>
+        ensures { OnOk result (self.new ≡ spec.with_faults self.old (spec.null_fault (value_of expr.now row.now) column.now) (spec.range_fault (value_of expr.now row.now) column.now)) }
+    {
+        match expr {
+            BoundExpr::Literal(value) => self.note_value(column, Some(value)),
+            BoundExpr::Column(number) => self.note_cell(column, cell(row, *number)),
+            BoundExpr::Plus(_, _) | BoundExpr::Minus(_, _) => {
+                let value = value_of(alloc, expr, row)?;
+                self.note_value(column, value.as_ref());
+            }
+        }
+        Ok(())
+    }
+
     /// Notes what is wrong with a set over a row.
     fn note_set(
         &mut self,
@@ -69,11 +106,10 @@ impl<'a> FirstFaults<'a> {
     ) -> Result<(), AllocError>
         ensures { OnOk result (self.new ≡ spec.with_faults self.old (spec.set_nulls table.now row.now set.now) (spec.set_ranges table.now row.now set.now)) }
     {
-        if let Some(column) = table.columns.items().get(set.0.0 as usize) {
-            let value = value_of(alloc, &set.1, row)?;
-            self.note_value(column, value.as_ref());
+        match table.columns.items().get(set.0.0 as usize) {
+            Some(column) => self.note_expression(alloc, column, &set.1, row),
+            None => Ok(()),
         }
-        Ok(())
     }
 
     /// Notes what is wrong with the sets over a row, by column in the text.
