@@ -1,11 +1,9 @@
 -- What a DELETE changes leads to the rows that it leaves.
-use Rattle.std.proofs.Common.{◌≡◌, ◌<◌, List, [], ◌∷◌, Bool, true, false, not, cond, Option, Some, None, map, length, refl, sym, ap, ◌∙◌, subst}
+use Rattle.std.proofs.Common.{◌≡◌, List, [], ◌∷◌, Bool, true, false, not, Option, Some, None, map, length, refl, sym, ap, ◌∙◌}
 use Rattle.std.specs.Prelude.{slice_get}
 use Rattle.std.specs.List.{AllByRecursion as Each, filter, find, list_any}
-use Rattle.std.specs.List.Sorted.{IsStrictlySortedBy}
+use Rattle.std.proofs.lemmas.List.{length-map}
 use Rattle.std.proofs.lemmas.Map.Entries.{option_filter}
-use Rattle.own_base.specs.Key.{key_cmp}
-use Rattle.own_base.specs.declared.change.Change.{Change}
 use Rattle.own_base.specs.declared.number.TableNo.{TableNo}
 use Rattle.own_base.specs.declared.value.Key.{Key}
 use Rattle.own_model.specs.declared.bound.BoundCond.{BoundCond}
@@ -84,6 +82,7 @@ deletes schema rows number table condition written tables is count changes creat
     let rising = rising-at schema.tables rows number.0 table tables.rising is in
     record {
       reply = ap Counted (sym count);
+      counted = ap length changes ∙ (length-map (filter (keeps condition) (rows_at rows number.0)) (deletion number table) ∙ sym count);
       changes =
           rw changes
           (lead_of schema rows number table (filter (λ row. not (keeps condition row)) (rows_at rows number.0)) tables.rising is

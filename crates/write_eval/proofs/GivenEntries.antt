@@ -1,5 +1,5 @@
 -- Rows behind their keys, with one more.
-use Rattle.std.proofs.Common.{◌≡◌, List, [], ◌∷◌, Bool, true, false, cond, Option, Some, None, Ordering, map, refl, sym, ap, ◌∙◌, ◌||◌, subst}
+use Rattle.std.proofs.Common.{◌≡◌, ◌+◌, List, [], ◌∷◌, Bool, true, false, cond, Some, None, Ordering, refl, ap, ◌∙◌, ◌||◌, length, arith}
 use Rattle.std.specs.declared.cmp.Ordering.TheVariants.{Less, Equal, Greater}
 use Rattle.std.specs.BTreeMap.{insert_entry, is_at}
 use Rattle.std.specs.List.{AllByRecursion as Each, list_any}
@@ -104,6 +104,18 @@ module _ (key : Key) (row : Row) where
       by more Less none = (own, all)
       by more Equal none = cc
       by more Greater none = (all.0, more none)
+
+  -- there is one row more
+  pub length-more : (given : Given) → lookup (is_at (key_cmp key)) given ≡ None → length (insert_entry key_cmp given key row) ≡ length given + 1
+  length-more [] none = refl
+  length-more (entry ∷ given) none = by (length-more given) (key_cmp key entry.0) none
+    where
+      by : (lookup (is_at (key_cmp key)) given ≡ None → length (insert_entry key_cmp given key row) ≡ length given + 1) → (o : Ordering)
+          → cond (is_eq o) (Some entry.1) (lookup (is_at (key_cmp key)) given) ≡ None
+          → length (match_ordering o ((key, row) ∷ entry ∷ given) ((entry.0, row) ∷ given) (entry ∷ insert_entry key_cmp given key row)) ≡ length (entry ∷ given) + 1
+      by more Less none = omega arith
+      by more Equal none = cc
+      by more Greater none = let longer = more none in omega arith
 
 -- under its own key a row is found
 abbrev pub IsFound : Given → Key × Row → Type 0

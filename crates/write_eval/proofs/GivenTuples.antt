@@ -1,5 +1,5 @@
 -- The tuples of an INSERT by their keys, and the rows of the table with them.
-use Rattle.std.proofs.Common.{◌≡◌, ℕ, zero, suc, ◌+◌, ◌<◌, List, [], ◌∷◌, Bool, true, false, cond, fold, length, get_or, take, Option, Some, None, Ordering, refl, sym, ap, ◌∙◌, ◌||◌}
+use Rattle.std.proofs.Common.{◌≡◌, ℕ, zero, suc, ◌+◌, ◌<◌, List, [], ◌∷◌, Bool, true, false, cond, fold, length, get_or, take, Option, Some, None, Ordering, refl, sym, ap, ◌∙◌, ◌||◌, arith}
 use Rattle.std.specs.Prelude.{Result, Ok, Err, slice_get}
 use Rattle.std.specs.BTreeMap.{insert_entry, is_at}
 use Rattle.std.specs.List.{AllByRecursion as Each, find, list_any}
@@ -18,7 +18,7 @@ use Rattle.run_model.specs.Insert.{and_tuple, with_row, with_tuple, with_tuples}
 use Rattle.run_model.proofs.FoundRows.{any_by_find}
 use Rattle.run_model.proofs.InsertLookups.{found-with_row}
 use Rattle.write_eval.specs.Insertions.{Given, and_given, give, given_tuples, is_taken}
-use Rattle.write_eval.proofs.GivenEntries.{at_key, each-more, insert_entry-is, lookup-more, rising-more}
+use Rattle.write_eval.proofs.GivenEntries.{at_key, each-more, insert_entry-is, length-more, lookup-more, rising-more}
 
 -- the first, else the other
 abbrev pub or_else : Option Row → Option Row → Option Row
@@ -105,6 +105,36 @@ module _ (schema : Schema) (all : List (List Row)) (number : TableNo) (table : T
   unfolding with_tuples given_tuples IsStrictlySortedBy
   alike-tuples tuples = alike_fold (Ok rows) (Ok []) tuples (record { found = λ key. refl; new = tt; rising = tt })
 
+-- as many rows are given, where none was refused
+abbrev pub IsAsLong : ℕ → Result Given Key → Type 0
+IsAsLong count (Ok given) = length given ≡ count
+IsAsLong count (Err key) = Unit {0}
+
+module _ (schema : Schema) (all : List (List Row)) (number : TableNo) (table : TableDef) where
+  long_step : (count : ℕ) (given : Given) (tuple : Row) → length given ≡ count → (found : Option Row)
+      → row_named schema all (record { table = number; key = key_of table tuple }) ≡ found
+      → (before : Option Row) → lookup (is_at (key_cmp (key_of table tuple))) given ≡ before → IsAsLong (count + 1) (give schema all number table given tuple)
+  unfolding give
+  long_step count given tuple long (Some row) is before also = rw is tt
+  long_step count given tuple long None is (Some row) also = rw (is, also) tt
+  long_step count given tuple long None is None also = rw (is, also) (length-more (key_of table tuple) tuple given also ∙ ap (λ n. n + 1) long)
+
+  long_next : (count : ℕ) (before : Result Given Key) (tuple : Row) → IsAsLong count before → IsAsLong (count + 1) (and_given schema all number table before tuple)
+  long_next count (Ok given) tuple long = long_step count given tuple long _ refl _ refl
+  long_next count (Err key) tuple long = tt
+
+  long_fold : (count : ℕ) (before : Result Given Key) (tuples : List Row) → IsAsLong count before
+      → IsAsLong (count + length tuples) (fold (and_given schema all number table) before tuples)
+  long_fold count before [] long = let same : count + 0 ≡ count = omega arith in rw same long
+  long_fold count before (tuple ∷ tuples) long =
+      let same : count + length (tuple ∷ tuples) ≡ count + 1 + length tuples = omega arith in
+      rw same (long_fold (count + 1) (and_given schema all number table before tuple) tuples (long_next count before tuple long))
+
+  -- each tuple gives a row
+  pub length-given : (tuples : List Row) (given : Given) → given_tuples schema all number table tuples ≡ Ok given → length given ≡ length tuples
+  unfolding given_tuples
+  length-given tuples given is = let long : IsAsLong (0 + length tuples) (Ok given) = rw is at (long_fold 0 (Ok []) tuples refl) in omega (arith, long)
+
 -- a tuple whose key is taken, and one whose key is free
 module _ (schema : Schema) (all : List (List Row)) (number : TableNo) (table : TableDef) (given : Given) (tuple : Row) where
   pub give-taken : (key : Key) → key ≡ key_of table tuple → is_taken schema all given (record { table = number; key = key }) ≡ true
@@ -140,5 +170,5 @@ module _ (schema : Schema) (all : List (List Row)) (number : TableNo) (table : T
   unfolding given_tuples
   refused_at tuples i tuple given key within here so_far taken =
       let more : fold (and_given schema all number table) (Ok []) (take (i + 1) tuples) ≡ Err key =
-          rw (fold_more (and_given schema all number table) (Ok []) tuples i tuple within, ← here, ← so_far) (sym taken) in
+      rw (fold_more (and_given schema all number table) (Ok []) tuples i tuple within, ← here, ← so_far) (sym taken) in
       sym (refused_from (Ok []) key (i + 1) tuples more)

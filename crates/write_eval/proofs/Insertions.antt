@@ -1,11 +1,10 @@
 -- What an INSERT changes leads to the rows with its tuples.
-use Rattle.std.proofs.Common.{◌≡◌, List, [], ◌∷◌, Bool, true, false, Option, Some, None, map, length, refl, sym, ap, ◌∙◌}
+use Rattle.std.proofs.Common.{◌≡◌, List, [], ◌∷◌, Some, None, map, length, refl, sym, ap, ◌∙◌}
 use Rattle.std.specs.Prelude.{Result, Ok, Err, slice_get}
-use Rattle.std.specs.BTreeMap.{is_at}
 use Rattle.std.specs.List.{AllByRecursion as Each, find, list_any}
-use Rattle.std.specs.Map.{keys_of, lookup}
+use Rattle.std.specs.Map.{keys_of}
+use Rattle.std.proofs.lemmas.List.{length-map}
 use Rattle.own_base.specs.Key.{key_cmp}
-use Rattle.own_base.specs.declared.change.Change.{Change}
 use Rattle.own_base.specs.declared.number.TableNo.{TableNo}
 use Rattle.own_base.specs.declared.value.Key.{Key}
 use Rattle.own_model.specs.declared.refusal.Refusal.TheVariants.{Duplicate}
@@ -16,13 +15,13 @@ use Rattle.own_model.specs.declared.schema.TableDef.{TableDef}
 use Rattle.own_model.specs.Db.{AreRising, Db, Row}
 use Rattle.own_model.specs.Stored.{has_key, is_equal, rows_at}
 use Rattle.run_model.specs.Insert.{with_tuples}
-use Rattle.run_model.specs.Run.{Outcome, insert, put}
+use Rattle.run_model.specs.Run.{insert, put}
 use Rattle.write_eval.specs.Insertions.{Given, given_tuples, insertion}
 use Rattle.write_eval.specs.Leads.{key_changed}
 use Rattle.write_eval.specs.Writes.{Writes, db_of}
 use Rattle.write_eval.specs.declared.written.Written.{Written}
 use Rattle.write_eval.proofs.GivenEntries.{IsFound, found_given, lookup-none}
-use Rattle.write_eval.proofs.GivenTuples.{AreAlike, AreWith, alike-tuples, or_else}
+use Rattle.write_eval.proofs.GivenTuples.{AreAlike, AreWith, alike-tuples, length-given}
 use Rattle.write_eval.proofs.OneTable.{IsWithin, LeadWithin, is_of, lead_of}
 
 module _ (number : TableNo) (table : TableDef) (rows merged : List Row) (given : Given) (with : AreWith table rows merged given) where
@@ -61,18 +60,19 @@ module _ (schema : Schema) (all : List (List Row)) (number : TableNo) (table : T
   alike : (given : Result Given Key) → given_tuples schema all number table tuples ≡ given → AreAlike table (rows_at all number.0) (with_tuples table (rows_at all number.0) tuples) given
   alike given is_given = rw (← is_given) (alike-tuples schema all number table is tuples)
 
-  write_given : (written : Written) (given : Given) → written.count ≡ length tuples → written.changes ≡ map (insertion number) given
+  write_given : (written : Written) (given : Given) → written.count ≡ length tuples → written.changes ≡ map (insertion number) given → length given ≡ length tuples
       → (merged : Result (List Row) Key) → AreAlike table (rows_at all number.0) merged (Ok given) → Writes db (put db number.0 table (length tuples) merged) number written
-  write_given written given count changes (Ok merged) with = record {
+  write_given written given count changes long (Ok merged) with = record {
     reply = ap Counted (sym count);
+    counted = ap length changes ∙ (length-map given (insertion number) ∙ (long ∙ sym count));
     changes = rw changes (lead_of schema all number table merged rising is (map (insertion number) given) (lead_within number table (rows_at all number.0) merged given with));
   }
-  write_given written given count changes (Err key) with = absurd with
+  write_given written given count changes long (Err key) with = absurd with
 
   -- an INSERT whose tuples have free keys writes that they come
   pub inserts : (written : Written) (given : Given) → written.count ≡ length tuples → written.changes ≡ map (insertion number) given
       → given_tuples schema all number table tuples ≡ Ok given → Writes db (insert db number.0 tuples) number written
-  inserts written given count changes is_given = rw puts (write_given written given count changes _ (alike (Ok given) is_given))
+  inserts written given count changes is_given = rw puts (write_given written given count changes (length-given schema all number table tuples given is_given) _ (alike (Ok given) is_given))
 
   refuse : (key : Key) (merged : Result (List Row) Key) → AreAlike table (rows_at all number.0) merged (Err key)
       → (put db number.0 table (length tuples) merged).reply ≡ Refused (Duplicate table.name key)

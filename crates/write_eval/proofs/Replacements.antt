@@ -1,9 +1,9 @@
 -- What an UPDATE changes leads to the rows that it leaves.
-use Rattle.std.proofs.Common.{◌≡◌, ◌==◌, List, [], ◌∷◌, Bool, true, false, Option, Some, None, map, length, refl, sym, ap, ◌∙◌, subst}
-use Rattle.std.specs.Prelude.{slice_get, if◌then◌else◌}
+use Rattle.std.proofs.Common.{◌≡◌, ◌==◌, List, [], ◌∷◌, true, false, Option, Some, None, map, length, refl, sym, ap, ◌∙◌, subst}
+use Rattle.std.specs.Prelude.{slice_get}
 use Rattle.std.specs.List.{AllByRecursion as Each, filter, find, list_any}
 use Rattle.std.specs.Option.{option_map, option_map_or}
-use Rattle.own_base.specs.declared.change.Change.{Change}
+use Rattle.std.proofs.lemmas.List.{length-map}
 use Rattle.own_base.specs.declared.number.ColNo.{ColNo}
 use Rattle.own_base.specs.declared.number.TableNo.{TableNo}
 use Rattle.own_base.specs.declared.value.Key.{Key}
@@ -20,7 +20,7 @@ use Rattle.query_model.specs.Footprints.{key_column}
 use Rattle.query_model.specs.Truth.{keeps}
 use Rattle.state_model.specs.Fault.{first_of}
 use Rattle.run_model.specs.Run.{stored_unless, update}
-use Rattle.run_model.specs.Update.{Sets, update_faults, updated, updated_rows}
+use Rattle.run_model.specs.Update.{Sets, update_faults, updated_rows}
 use Rattle.run_model.proofs.RisingKeys.{AreKeyless, rising-at, rising-filter}
 use Rattle.run_model.proofs.UpdateLookups.{changed, found-updated}
 use Rattle.write_eval.specs.Leads.{key_changed}
@@ -99,11 +99,12 @@ module _ (schema : Schema) (all : List (List Row)) (number : TableNo) (table : T
       → written.changes ≡ map (replacement number table sets) kept → Writes db (update db number.0 sets condition) number written
   updates written spare told count changes =
       let write : Writes db (stored_unless db number.0 (updated_rows sets condition (rows_at all number.0)) (length kept) None) number written = record {
-            reply = ap Counted (sym count);
-            changes =
-                rw changes
-                (lead_of schema all number table (updated_rows sets condition (rows_at all number.0)) rising is (map (replacement number table sets) kept)
-                (lead_within number table sets (keyless_sets schema number table sets is spare) condition (rows_at all number.0)
-                (rising-at schema.tables all number.0 table rising is)));
-          } in
+        reply = ap Counted (sym count);
+        counted = ap length changes ∙ (length-map kept (replacement number table sets) ∙ sym count);
+        changes =
+            rw changes
+            (lead_of schema all number table (updated_rows sets condition (rows_at all number.0)) rising is (map (replacement number table sets) kept)
+            (lead_within number table sets (keyless_sets schema number table sets is spare) condition (rows_at all number.0)
+            (rising-at schema.tables all number.0 table rising is)));
+      } in
       rw (runs None (sym told)) write

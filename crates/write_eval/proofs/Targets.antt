@@ -11,7 +11,7 @@ use Rattle.own_model.specs.declared.schema.Schema.{Schema}
 use Rattle.own_model.specs.declared.schema.TableDef.{TableDef}
 use Rattle.own_model.specs.Db.{Row}
 use Rattle.own_model.specs.Stored.{row_named, rows_at}
-use Rattle.query_model.specs.Footprints.{key_column, pinned_key}
+use Rattle.query_model.specs.Footprints.{pinned_key}
 use Rattle.query_model.specs.Truth.{keeps}
 use Rattle.query_eval.specs.Tables.{AreTables}
 use Rattle.query_eval.proofs.TableRows.{kept_of_table}

@@ -1,5 +1,5 @@
 -- What an INSERT changes.
-use Rattle.std.specs.Prelude.{List, [], Bool, ◌||◌, Option, None, Some, Result, Ok, Err, fold, is_some, slice_get, if◌then◌else◌}
+use Rattle.std.specs.Prelude.{List, [], Bool, ◌||◌, Option, None, Some, Result, Ok, Err, fold, is_some, if◌then◌else◌}
 use Rattle.std.specs.BTreeMap.{BTreeMap, insert_entry, is_at}
 use Rattle.std.specs.Map.{lookup}
 use Rattle.own_base.specs.Key.{key_cmp}

@@ -1,4 +1,4 @@
-use Rattle.std.proofs.Common.{Some, map, length, sym, ap, ◌∙◌}
+use Rattle.std.proofs.Common.{map, length, sym, ap, ◌∙◌}
 use Rattle.std.specs.Option.{option_copied}
 use Rattle.run_model.specs.Update.{update_faults}
 use Rattle.state_model.specs.Fault.{first_of}
