@@ -1,11 +1,12 @@
 -- Rows behind their keys, with one more.
-use Rattle.std.proofs.Common.{◌≡◌, ◌+◌, List, [], ◌∷◌, Bool, true, false, cond, Some, None, Ordering, refl, ap, ◌∙◌, ◌||◌, length, arith}
+use Rattle.std.proofs.Common.{◌≡◌, ◌+◌, List, [], ◌∷◌, Bool, true, false, cond, Some, None, Ordering, refl, ap, ◌∙◌, length, arith}
 use Rattle.std.specs.declared.cmp.Ordering.TheVariants.{Less, Equal, Greater}
 use Rattle.std.specs.BTreeMap.{insert_entry, is_at}
 use Rattle.std.specs.List.{AllByRecursion as Each, list_any}
 use Rattle.std.specs.List.Sorted.{IsStrictlySortedBy}
 use Rattle.std.specs.Map.{keys_of, lookup}
 use Rattle.std.specs.Ordering.{is_eq, match_ordering, ordering_reverse}
+use Rattle.std.proofs.lemmas.Bool.{or_parts}
 use Rattle.std.proofs.lemmas.Cmp.{tied_itself}
 use Rattle.own_base.specs.Key.{key_cmp}
 use Rattle.own_base.specs.declared.value.Key.{Key}
@@ -138,9 +139,5 @@ found_given (first ∷ rest) rising =
 pub lookup-none : (key : Key) (given : Given) → list_any (λ (entry : Key × Row). is_equal (key_cmp entry.0 key)) given ≡ false → lookup (is_at (key_cmp key)) given ≡ None
 lookup-none key [] none = refl
 lookup-none key (entry ∷ given) none =
-    let both = neither (is_equal (key_cmp entry.0 key)) (list_any (λ (entry : Key × Row). is_equal (key_cmp entry.0 key)) given) none in
+    let both = or_parts (is_equal (key_cmp entry.0 key)) (list_any (λ (entry : Key × Row). is_equal (key_cmp entry.0 key)) given) none in
     rw (at_key key entry.0, both.0) (lookup-none key given both.1)
-  where
-    neither : (left right : Bool) → left || right ≡ false → (left ≡ false) × (right ≡ false)
-    neither false right none = (refl, none)
-    neither true right none = cc

@@ -1,9 +1,9 @@
 -- Changes of one table's rows lead from all rows to all rows.
-use Rattle.std.proofs.Common.{◌≡◌, ◌≢◌, ◌==◌, ℕ, List, [], ◌∷◌, Bool, true, false, Some, map, refl, sym, ap, ◌∙◌, ◌||◌, arith}
+use Rattle.std.proofs.Common.{◌≡◌, ◌≢◌, ◌==◌, ℕ, List, [], ◌∷◌, Bool, true, false, Some, map, refl, sym, ap, ◌∙◌, arith}
 use Rattle.std.specs.Prelude.{slice_get, slice_set}
 use Rattle.std.specs.List.{AllByRecursion as Each, find, list_any}
 use Rattle.std.specs.List.Sorted.{IsStrictlySortedBy}
-use Rattle.std.proofs.lemmas.Bool.{eqb-false, eqb-true}
+use Rattle.std.proofs.lemmas.Bool.{eqb-false, eqb-true, or_parts}
 use Rattle.std.proofs.lemmas.Bool.Decides.{nat_tests}
 use Rattle.std.proofs.lemmas.List.{get_or-set_other}
 use Rattle.own_base.specs.Key.{key_cmp}
@@ -78,13 +78,9 @@ module _ (schema : Schema) (rows : List (List Row)) (number : TableNo) (table : 
   unnamed name at (change ∷ changes) all none =
       let table : change.name.table.0 ≡ name.table.0 = ap (λ (table : TableNo). table.0) all.0.of ∙ sym at in
       let same : (change.name.table.0 == name.table.0) ≡ true = same_number _ _ table in
-      let both = neither (is_name change.name name) (list_any (λ change. is_name change.name name) changes) none in
+      let both = or_parts (is_name change.name name) (list_any (λ change. is_name change.name name) changes) none in
       let own : is_of name.key change ≡ false = rw same at both.0 in
       rw (own, unnamed name at changes all.1 both.1) refl
-    where
-      neither : (left right : Bool) → left || right ≡ false → (left ≡ false) × (right ≡ false)
-      neither false right none = (refl, none)
-      neither true right none = cc
 
   others_of : (changes : List Change) → LeadWithin number table (rows_at rows number.0) after changes
       → (name : RowName) → list_any (λ change. is_name change.name name) changes ≡ false → row_named schema rows name ≡ row_named schema afters name
