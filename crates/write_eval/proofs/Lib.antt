@@ -1,4 +1,5 @@
 pub mod Answered
+pub mod BoundWrites
 pub mod Deletions
 pub mod FirstFaults
 pub mod GivenEntries
