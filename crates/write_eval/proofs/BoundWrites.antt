@@ -1,5 +1,5 @@
 -- What binding leaves of an INSERT, an UPDATE or a DELETE is a write.
-use Rattle.std.proofs.Common.{◌≡◌, ◌<◌, ◌==◌, List, [], false, Option, None, Some, length, inl, inr, refl, sym, ap, subst, arith}
+use Rattle.std.proofs.Common.{◌≡◌, ◌==◌, List, [], false, Option, None, Some, inl, inr, refl, sym, ap, subst, arith}
 use Rattle.std.specs.Prelude.{Ok, slice_get}
 use Rattle.std.specs.List.{AllByRecursion as Each}
 use Rattle.std.specs.Option.{option_map_or}
