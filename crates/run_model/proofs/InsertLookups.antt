@@ -46,7 +46,7 @@ module _ (table : TableDef) where
   neither false right none = (refl, none)
   neither true right none = cc
 
-  found-with_row : (key : Key) (row : Row) (rows : List Row) → list_any (has_key table (key_of table row)) rows ≡ false
+  pub found-with_row : (key : Key) (row : Row) (rows : List Row) → list_any (has_key table (key_of table row)) rows ≡ false
       → find (has_key table key) (with_row table row rows) ≡ cond (has_key table key row) (Some row) (find (has_key table key) rows)
   unfolding with_row
   found-with_row key row [] absent = refl

@@ -22,7 +22,7 @@ use Rattle.run_model.proofs.TableRows.{AreInPlace, AreSame}
 
 module _ (sets : Sets) (cond : Option BoundCond) where
   -- a row after the UPDATE
-  abbrev changed : Row → Row
+  abbrev pub changed : Row → Row
   changed row = if keeps cond row then updated sets row else row
 
   has_stays : (table : TableDef) (key : Key) → AreKeyless table sets → (row : Row) → has_key table key (changed row) ≡ has_key table key row
@@ -32,7 +32,7 @@ module _ (sets : Sets) (cond : Option BoundCond) where
       by true = ap (λ own. is_equal (key_cmp own key)) (key-updated table sets spared row)
       by false = refl
 
-  found-updated : (table : TableDef) (key : Key) → AreKeyless table sets → (rows : List Row)
+  pub found-updated : (table : TableDef) (key : Key) → AreKeyless table sets → (rows : List Row)
       → find (has_key table key) (updated_rows sets cond rows) ≡ option_map changed (find (has_key table key) rows)
   unfolding updated_rows
   found-updated table key spared rows = find-map (has_key table key) changed (has_stays table key spared) rows

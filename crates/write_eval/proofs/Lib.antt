@@ -1,0 +1,11 @@
+pub mod Answered
+pub mod BoundWrites
+pub mod Deletions
+pub mod FirstFaults
+pub mod GivenEntries
+pub mod GivenTuples
+pub mod Insertions
+pub mod Kept
+pub mod OneTable
+pub mod Replacements
+pub mod Targets

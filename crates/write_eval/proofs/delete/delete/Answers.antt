@@ -1,0 +1,15 @@
+use Rattle.std.proofs.Common.{length, map, ap, ◌∙◌}
+use Rattle.std.specs.Option.{option_copied}
+use Rattle.write_eval.specs.Deletions.{deletion}
+use Rattle.write_eval.proofs.Deletions.{deletes}
+use Rattle.write_eval.proofs.delete.delete.Goals as goal
+
+-- what is written says that the rows go which WHERE keeps
+pub returns : goal.returns
+returns g c =
+    let kept = c.in_ok-targets.ensures in
+    deletes (g.V.StoreView.schema_of c.args.view.now) (g.V.StoreView.rows c.args.view.now) c.args.table c.definition.result.now (option_copied c.args.cond)
+    (record { count = c.count.result; changes = c.in_ok-changes.changes })
+    c.requires.tables c.definition.ensures
+    (c.count.ensures ∙ ap length kept)
+    (c.in_ok-changes.ensures ∙ ap (map (deletion c.args.table c.definition.result.now)) (c.rows.ensures ∙ kept))

@@ -1,0 +1,27 @@
+-- What a write comes to.
+use Rattle.std.specs.Prelude.{◌≡◌, List, length, Result, Ok, Err}
+use Rattle.own_base.specs.declared.number.TableNo.{TableNo}
+use Rattle.own_model.specs.declared.refusal.Refusal.{Refusal}
+use Rattle.own_model.specs.declared.reply.Reply.TheVariants.{Counted, Refused}
+use Rattle.own_model.specs.declared.schema.CreateText.{CreateText}
+use Rattle.own_model.specs.declared.schema.Schema.{Schema}
+use Rattle.own_model.specs.Db.{Db, Row}
+use Rattle.run_model.specs.Run.{Outcome}
+use Rattle.write_eval.specs.Leads.{LeadTo}
+use Rattle.write_eval.specs.declared.written.Written.{Written}
+
+-- a database of a schema and rows
+abbrev pub db_of : List CreateText → Schema → List (List Row) → Db
+db_of creates schema rows = record { creates = creates; schema = schema; rows = rows }
+
+-- What is written is what an outcome says: its count is the answer, and its changes, one for each row that is counted, lead to
+-- the rows that are left.
+pub record Writes (db : Db) (outcome : Outcome) (table : TableNo) (written : Written) : Type 0 where
+  pub reply : outcome.reply ≡ Counted written.count
+  pub counted : length written.changes ≡ written.count
+  pub changes : LeadTo db.schema db.rows outcome.db.rows table written.changes
+
+-- The answer to a write is what an outcome says: what is written, or why it is refused.
+abbrev pub Answers : Db → Outcome → TableNo → Result Written Refusal → Type 0
+Answers db outcome table (Ok written) = Writes db outcome table written
+Answers db outcome table (Err why) = outcome.reply ≡ Refused why

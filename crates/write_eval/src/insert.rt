@@ -1,0 +1,115 @@
+ghost use Rattle.std.specs.Prelude.{◌≡◌, ◌<◌, List as Seq, length, map, IfOk};
+ghost use Rattle.own_model.specs.declared.schema.CreateText.{CreateText};
+ghost use Rattle.query_eval.specs.Tables.{AreTables};
+ghost use Rattle.run_model.specs.Run as outcome;
+ghost use Rattle.write_eval.specs.Insertions as spec;
+ghost use Rattle.write_eval.specs.Writes.{Answers, db_of};
+
+use crate::definition::definition;
+use crate::row_key::key_of;
+use crate::written::Written;
+use own_base::{Change, Key, List, MakeCopy, Row, RowName, TableNo};
+use own_model::{Refusal, StoreView, TableDef};
+use std::alloc::{AllocError, Global};
+use std::collections::BTreeMap;
+use std::mem::drop;
+
+/// Whether a key is that of a row that is there, or of a tuple given before. Takes no memory.
+fn is_taken<V: StoreView>(view: &V, name: &RowName, given: &BTreeMap<Key, Row>) -> bool
+    requires { name.now.table.0 < length (V.schema_of view.now).tables }
+    ensures { result ≡ spec.is_taken (V.schema_of view.now) (V.rows view.now) given.now.entries name.now }
+{
+    view.row(name).is_some() || given.contains_key(&name.key)
+}
+
+/// Puts a tuple among those given before it, or answers its key where that is taken.
+fn give<V: StoreView>(
+    alloc: Global,
+    view: &V,
+    number: TableNo,
+    table: &TableDef,
+    given: &mut BTreeMap<Key, Row>,
+    tuple: &Row,
+) -> Result<Option<Key>, AllocError>
+    requires { number.0 < length (V.schema_of view.now).tables }
+    ensures { IfOk result (λ taken. spec.given_unless given.new.entries taken ≡ spec.give (V.schema_of view.now) (V.rows view.now) number table.now given.old.entries tuple.now) }
+{
+    let key = key_of(alloc, table, tuple)?;
+    let name = RowName { table: number, key };
+    if is_taken(view, &name, given) {
+        return Ok(Some(name.key));
+    }
+    let row = tuple.copy(alloc)?.into_shared(alloc)?;
+    given.insert(name.key, row)?;
+    Ok(None)
+}
+
+/// Tuples by their keys, or the first key that is taken.
+#[tactic(auto, unfolding(crate::specs::Insertions::given_tuples))]
+fn give_each<V: StoreView>(
+    alloc: Global,
+    view: &V,
+    number: TableNo,
+    table: &TableDef,
+    tuples: &[Row],
+) -> Result<Result<BTreeMap<Key, Row>, Key>, AllocError>
+    requires { number.0 < length (V.schema_of view.now).tables }
+    ensures { IfOk result (λ given. spec.entries_unless given ≡ spec.given_tuples (V.schema_of view.now) (V.rows view.now) number table.now tuples.now) }
+{
+    let mut given = BTreeMap::new(alloc);
+    for tuple in tuples {
+        if let Some(key) = give(alloc, view, number, table, &mut given, tuple)? {
+            drop(given);
+            return Ok(Err(key));
+        }
+    }
+    Ok(Ok(given))
+}
+
+/// That rows come, by rising key.
+fn insertions(
+    alloc: Global,
+    number: TableNo,
+    given: BTreeMap<Key, Row>,
+) -> Result<List<Change>, AllocError>
+    ensures { IfOk result (λ changes. changes ≡ map (spec.insertion number) given.entries) }
+{
+    let mut changes = List::new(alloc);
+    for (key, row) in given {
+        changes.add(Change {
+            name: RowName { table: number, key },
+            before: None,
+            after: Some(row),
+        })?;
+    }
+    Ok(changes)
+}
+
+/// What an INSERT changes: its tuples come. Where the key of one is that of a row, or of a tuple before it, the INSERT is
+/// refused, and the first such key is told.
+pub(crate) fn insert<V: StoreView>(
+    alloc: Global,
+    view: &V,
+    number: TableNo,
+    tuples: &[Row],
+) -> Result<Result<Written, Refusal>, AllocError>
+    requires there { number.0 < length (V.schema_of view.now).tables }
+    requires tables { AreTables (V.schema_of view.now) (V.rows view.now) }
+    ensures { IfOk result (λ answer. (creates : Seq CreateText)
+        → Answers (db_of creates (V.schema_of view.now) (V.rows view.now)) (outcome.insert (db_of creates (V.schema_of view.now) (V.rows view.now)) number.0 tuples.now) number answer) }
+{
+    let table = definition(view, number);
+    match give_each(alloc, view, number, table, tuples)? {
+        Ok(given) => {
+            let changes = insertions(alloc, number, given)?;
+            Ok(Ok(Written {
+                count: tuples.len() as u64,
+                changes,
+            }))
+        }
+        Err(key) => {
+            let table = table.name.copy(alloc)?;
+            Ok(Err(Refusal::Duplicate { table, key }))
+        }
+    }
+}

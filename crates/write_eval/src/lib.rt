@@ -1,0 +1,16 @@
+//! What an INSERT, an UPDATE or a DELETE changes in a store that is viewed. The store stays as it is.
+#![tactic(auto)]
+
+mod definition;
+mod delete;
+mod insert;
+mod row_key;
+mod set_value;
+mod target;
+mod update;
+mod update_fault;
+mod write;
+mod written;
+
+pub use write::write_changes;
+pub use written::Written;

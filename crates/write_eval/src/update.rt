@@ -1,0 +1,96 @@
+ghost use Rattle.std.specs.Prelude.{◌≡◌, ◌<◌, List as Seq, length, map, IfOk};
+ghost use Rattle.std.specs.Option.{option_copied};
+ghost use Rattle.own_model.specs.declared.schema.CreateText.{CreateText};
+ghost use Rattle.query_eval.specs.Tables.{AreTables};
+ghost use Rattle.run_model.specs.Run as outcome;
+ghost use Rattle.run_model.specs.Update.{set_value, updated};
+ghost use Rattle.write_eval.specs.Updates as spec;
+ghost use Rattle.write_eval.specs.Write.{SpareKey};
+ghost use Rattle.write_eval.specs.Writes.{Answers, db_of};
+
+use crate::definition::definition;
+use crate::row_key::key_of;
+use crate::set_value::set_value;
+use crate::target::target_rows;
+use crate::update_fault::first_fault;
+use crate::written::Written;
+use own_base::{Change, ColNo, List, MakeCopy, Row, RowName, TableNo};
+use own_model::{BoundCond, BoundExpr, Refusal, StoreView, TableDef};
+use std::alloc::{AllocError, Global};
+
+/// A row after an UPDATE of it, of which each expression sees the row as it was.
+#[tactic(auto, unfolding(run_model::specs::Update::updated))]
+fn updated(alloc: Global, sets: &[(ColNo, BoundExpr)], row: &Row) -> Result<Row, AllocError>
+    ensures { IfOk result (λ after. after ≡ updated sets.now row.now) }
+{
+    let mut values = List::new(alloc);
+    for (number, value) in row.values().iter().enumerate() {
+        values.add(set_value(alloc, sets, row, number, value)?)?;
+    }
+    Row::from_values(values).into_shared(alloc)
+}
+
+/// That a row is updated.
+fn replacement(
+    alloc: Global,
+    number: TableNo,
+    table: &TableDef,
+    sets: &[(ColNo, BoundExpr)],
+    row: &Row,
+) -> Result<Change, AllocError>
+    ensures { IfOk result (λ change. change ≡ spec.replacement number table.now sets.now row.now) }
+{
+    let key = key_of(alloc, table, row)?;
+    let before = row.copy(alloc)?;
+    let after = updated(alloc, sets, row)?;
+    Ok(Change {
+        name: RowName { table: number, key },
+        before: Some(before),
+        after: Some(after),
+    })
+}
+
+/// That rows are updated, one after another.
+fn replacements(
+    alloc: Global,
+    number: TableNo,
+    table: &TableDef,
+    sets: &[(ColNo, BoundExpr)],
+    rows: &[&Row],
+) -> Result<List<Change>, AllocError>
+    ensures { IfOk result (λ changes. changes ≡ map (spec.replacement number table.now sets.now) (map (λ row. row.now) rows.now)) }
+{
+    let mut changes = List::new(alloc);
+    for row in rows {
+        changes.add(replacement(alloc, number, table, sets, row)?)?;
+    }
+    Ok(changes)
+}
+
+/// What an UPDATE changes: the rows that WHERE keeps, each of them, also one that ends as it was. Or why it is refused.
+pub(crate) fn update<V: StoreView>(
+    alloc: Global,
+    view: &V,
+    number: TableNo,
+    sets: &[(ColNo, BoundExpr)],
+    cond: Option<&BoundCond>,
+) -> Result<Result<Written, Refusal>, AllocError>
+    requires there { number.0 < length (V.schema_of view.now).tables }
+    requires spare { SpareKey (V.schema_of view.now) number sets.now }
+    requires tables { AreTables (V.schema_of view.now) (V.rows view.now) }
+    ensures { IfOk result (λ answer. (creates : Seq CreateText)
+        → Answers (db_of creates (V.schema_of view.now) (V.rows view.now)) (outcome.update (db_of creates (V.schema_of view.now) (V.rows view.now)) number.0 sets.now (option_copied cond.entry)) number answer) }
+{
+    let table = definition(view, number);
+    let targets = target_rows(alloc, view, number, cond)?;
+    match first_fault(alloc, table, sets, targets.rows())? {
+        Some(why) => Ok(Err(why)),
+        None => {
+            let changes = replacements(alloc, number, table, sets, targets.rows())?;
+            Ok(Ok(Written {
+                count: targets.count(),
+                changes,
+            }))
+        }
+    }
+}
