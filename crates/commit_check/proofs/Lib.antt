@@ -1,0 +1,5 @@
+pub mod AbsentColumns
+pub mod FirstLemmas
+pub mod HeldLemmas
+pub mod ReferenceLemmas
+pub mod RowCounts

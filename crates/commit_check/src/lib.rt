@@ -1,0 +1,9 @@
+//! The first fault of a store's state as a whole.
+#![tactic(auto)]
+
+mod naming;
+mod reference;
+mod rows;
+
+pub use reference::first_reference_fault;
+pub use rows::row_limit_fault;
