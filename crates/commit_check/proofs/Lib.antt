@@ -3,3 +3,5 @@ pub mod FirstLemmas
 pub mod HeldLemmas
 pub mod ReferenceLemmas
 pub mod RowCounts
+pub mod Listed
+pub mod OwnerFaults
