@@ -25,6 +25,10 @@ first-before (x ∷ xs) ys fault is = is
 pub drop-place : {X : Type 0} (xs : List X) (place : ℕ) (x : X) → slice_get xs place ≡ Some x → drop place xs ≡ x ∷ drop (place + 1) xs
 drop-place xs place x is = rw add-one (drop-cons xs place x (slice_get_within xs place x is) ∙ ap (λ y. y ∷ drop (suc place) xs) (get_or_from_slice_get xs place x x is))
 
+-- where nothing stands the list has ended
+pub past-none : {X : Type 0} (xs : List X) (place : ℕ) → slice_get xs place ≡ None → length xs ≤ place
+past-none xs place none = elim (slice_get_cases xs place).1 [ inl (x, within, is, at) ↦ let never : ⊥ = cc in absurd never | inr (past, gone) ↦ past ]
+
 -- nothing is found before a place
 pub record NoneBefore {X : Type 0} (f : X → List Refusal) (xs : List X) (place : ℕ) : Type 0 where
   pub rest : first_of (flat_map f (drop place xs)) ≡ first_of (flat_map f xs)
@@ -47,8 +51,7 @@ module _ {X : Type 0} (f : X → List Refusal) (xs : List X) where
     none_before-end past = sym before.rest ∙ ap (λ left. first_of (flat_map f left)) (drop_all place xs past)
 
     pub none_before-gone : slice_get xs place ≡ None → first_of (flat_map f xs) ≡ None
-    none_before-gone none =
-        elim (slice_get_cases xs place).1 [ inl (x, within, is, at) ↦ let never : ⊥ = cc in absurd never | inr (past, gone) ↦ none_before-end past ]
+    none_before-gone none = none_before-end (past-none xs place none)
 
 -- nothing is found before the table of a number
 pub record NoneBeforeTable (rule : Rule) (db : Db) (number : ℕ) : Type 0 where

@@ -5,3 +5,6 @@ pub mod ReferenceLemmas
 pub mod RowCounts
 pub mod Listed
 pub mod OwnerFaults
+pub mod HeldOrder
+pub mod CountLemmas
+pub mod UniqueLemmas
