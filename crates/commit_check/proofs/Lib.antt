@@ -8,3 +8,5 @@ pub mod OwnerFaults
 pub mod HeldOrder
 pub mod CountLemmas
 pub mod UniqueLemmas
+pub mod SaturatedLemmas
+pub mod WeightLemmas

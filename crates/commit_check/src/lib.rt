@@ -8,8 +8,10 @@ mod reference;
 mod rows;
 mod unique;
 mod value_counts;
+mod weight;
 
 pub use owner::first_owner_fault;
 pub use reference::first_reference_fault;
 pub use rows::row_limit_fault;
 pub use unique::first_unique_fault;
+pub use weight::weight_limit_fault;
