@@ -10,3 +10,4 @@ pub mod CountLemmas
 pub mod UniqueLemmas
 pub mod SaturatedLemmas
 pub mod WeightLemmas
+pub mod WholeLemmas
