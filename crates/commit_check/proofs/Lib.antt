@@ -11,3 +11,4 @@ pub mod UniqueLemmas
 pub mod SaturatedLemmas
 pub mod WeightLemmas
 pub mod WholeLemmas
+pub mod GraphThere

@@ -1,6 +1,7 @@
 //! The first fault of a store's state as a whole.
 #![tactic(auto)]
 
+mod graph_of;
 mod held_value;
 mod naming;
 mod owner;
