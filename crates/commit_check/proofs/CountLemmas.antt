@@ -70,11 +70,11 @@ module _ (column : ℕ) (rows : List Row) where
       → ((other : HeldValue) → count_at new (value_of other) ≡ count_at old (value_of other) + times found (value_of other)) → CountsRows column (take (place + 1) rows) new
   counts-more place row found old new counts is holds_it more = record {
     each = λ held.
-    let all = count_by-more (holds column (value_of held)) rows place row is in
-    let one = times-cell found (cell row column) held holds_it in
-    let own = more held in
-    let before = counts.each held in
-    own ∙ (ap (λ n. n + times found (value_of held)) before ∙ (ap (λ n. count_by (holds column (value_of held)) (take place rows) + n) one ∙ sym all));
+        let all = count_by-more (holds column (value_of held)) rows place row is in
+        let one = times-cell found (cell row column) held holds_it in
+        let own = more held in
+        let before = counts.each held in
+        own ∙ (ap (λ n. n + times found (value_of held)) before ∙ (ap (λ n. count_by (holds column (value_of held)) (take place rows) + n) one ∙ sym all));
   }
 
   -- no value is counted more often than there are rows
@@ -95,13 +95,13 @@ module _ (columns : List Column) (rows : List Row) (counts : List (BTreeMap Held
   pub columns-more : CountsColumns columns rows counts → CountsColumns columns rows (counts ++ one ∷ [])
   columns-more all = record {
     each = λ number other map there at unique.
-    elim (slice_get_cases counts number).1
-    [ inl (x, within, found, same) ↦ all.each number other map there (sym (slice_get-append_below counts (one ∷ []) number within) ∙ at) unique
-    | inr (past, none) ↦
-      let within = slice_get_within (counts ++ one ∷ []) number map at in
-      let last : number ≡ length counts = omega (arith, within, length-append counts (one ∷ [])) in
-      column_last number other map last there at unique
-    ];
+        elim (slice_get_cases counts number).1 [
+          | inl (x, within, found, same) ↦ all.each number other map there (sym (slice_get-append_below counts (one ∷ []) number within) ∙ at) unique
+          | inr (past, none) ↦
+              let within = slice_get_within (counts ++ one ∷ []) number map at in
+              let last : number ≡ length counts = omega (arith, within, length-append counts (one ∷ [])) in
+              column_last number other map last there at unique
+        ];
   }
 
 -- no column is counted yet

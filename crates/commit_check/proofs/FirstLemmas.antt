@@ -1,14 +1,14 @@
 -- The first thing that is found in a list, where the list is gone through from its head.
 use Rattle.std.proofs.Common.{◌≡◌, ℕ, suc, ◌+◌, ◌≤◌, List, [], ◌∷◌, ◌++◌, drop, length, get_or, inl, inr, refl, sym, ap, ◌∙◌, add-one, arith}
 use Rattle.std.proofs.Math.Seq.{drop-cons}
-use Rattle.std.specs.Prelude.{Option, Some, None, flat_map, slice_get}
+use Rattle.std.specs.Prelude.{Some, None, flat_map, slice_get}
 use Rattle.std.proofs.lemmas.Option.{get_or_from_slice_get, slice_get_cases, slice_get_within}
 use Rattle.std.proofs.lemmas.List.{drop_all, get_or_past}
 use Rattle.own_model.specs.declared.refusal.Refusal.{Refusal}
 use Rattle.own_model.specs.declared.schema.TableDef.{TableDef}
 use Rattle.own_model.specs.Db.{Db, Row}
 use Rattle.own_model.specs.Stored.{rows_at}
-use Rattle.state_model.specs.Fault.{faults_by, first_of, over_rows}
+use Rattle.state_model.specs.Fault.{first_of, over_rows}
 use Rattle.commit_check.specs.Firsts.{Rule, first_by, first_in_table}
 
 -- where nothing is found in one list, the first is that of the next
@@ -68,14 +68,14 @@ module _ (rule : Rule) where
       ≡ flat_map (rule number table (rows_at rows number)) (rows_at rows number) ++ over_rows rule (number + 1) (drop (number + 1) tables) (drop (number + 1) rows)
   unfolding over_rows
   over-table number table tables rows is =
-      elim (slice_get_cases rows number).1
-      [ inl (own, within, there, at) ↦
-        rw (drop-place tables number table is, drop-place rows number own there, get_or_from_slice_get rows number own [] there) refl
-      | inr (past, none) ↦
-        let gone : drop number rows ≡ [] = drop_all number rows past in
-        let later : drop (number + 1) rows ≡ [] = drop_all (number + 1) rows (omega arith) in
-        let own : get_or rows number [] ≡ [] = get_or_past rows number [] past in
-        rw (drop-place tables number table is, gone, later, own) (sym (over_none (number + 1) (drop (number + 1) tables)))
+      elim (slice_get_cases rows number).1 [
+        | inl (own, within, there, at) ↦
+            rw (drop-place tables number table is, drop-place rows number own there, get_or_from_slice_get rows number own [] there) refl
+        | inr (past, none) ↦
+            let gone : drop number rows ≡ [] = drop_all number rows past in
+            let later : drop (number + 1) rows ≡ [] = drop_all (number + 1) rows (omega arith) in
+            let own : get_or rows number [] ≡ [] = get_or_past rows number [] past in
+            rw (drop-place tables number table is, gone, later, own) (sym (over_none (number + 1) (drop (number + 1) tables)))
       ]
 
   module _ (db : Db) where

@@ -3,13 +3,12 @@ use Rattle.std.proofs.Common.{◌≡◌, ℕ, zero, suc, ◌+◌, ◌<◌, List,
 use Rattle.std.specs.Prelude.{Contains, Option, None, Some, ◌&&◌, bytes_eq, count_by, nat_lt, not, slice_get}
 use Rattle.std.specs.List.{AllByRecursion, list_any}
 use Rattle.std.specs.List.Sorted.{IsStrictlySortedBy}
-use Rattle.std.specs.Ordering.{int_cmp, ordering_reverse}
+use Rattle.std.specs.Ordering.{ordering_reverse}
 use Rattle.std.specs.declared.cmp.Ordering.TheVariants.{Less}
 use Rattle.std.proofs.lemmas.Bool.{and_from, ltb_from_iff, lt-ltb, ltb-true}
 use Rattle.std.proofs.lemmas.Cmp.{int_cmp_total, tied_itself}
 use Rattle.std.proofs.lemmas.Option.{slice_get_read}
 use Rattle.own_base.specs.Key.{key_cmp}
-use Rattle.own_base.specs.declared.value.Key.{Key}
 use Rattle.own_base.specs.declared.value.Value.{Value}
 use Rattle.own_base.specs.declared.value.Value.TheVariants.{Null, Int, Text, Sum}
 use Rattle.own_model.specs.declared.schema.Column.{Column}

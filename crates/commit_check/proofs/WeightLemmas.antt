@@ -1,6 +1,6 @@
 -- What rows weigh, counted table by table.
 use Rattle.std.proofs.Common.{◌≡◌, ℕ, ◌+◌, ◌*◌, ◌-◌, ◌≤◌, List, [], ◌∷◌, ◌++◌, drop, length, get_or, inl, inr, refl, sym, ap, ◌∙◌, arith}
-use Rattle.std.specs.Prelude.{Option, Some, None, slice_get, sum_by}
+use Rattle.std.specs.Prelude.{Some, slice_get, sum_by}
 use Rattle.std.proofs.lemmas.List.{drop_all, get_or_past}
 use Rattle.std.proofs.lemmas.List.Sums.{sum_by-append}
 use Rattle.std.proofs.lemmas.Option.{get_or_from_slice_get, slice_get_cases}
@@ -49,14 +49,14 @@ from-table : (number : ℕ) (table : TableDef) (tables : List TableDef) (rows : 
     → rows_from number (drop number tables) (drop number rows) ≡ rows_in number table (rows_at rows number) ++ rows_from (number + 1) (drop (number + 1) tables) (drop (number + 1) rows)
 unfolding rows_from
 from-table number table tables rows is =
-    elim (slice_get_cases rows number).1
-    [ inl (own, within, there, at) ↦
-      rw (drop-place tables number table is, drop-place rows number own there, get_or_from_slice_get rows number own [] there) refl
-    | inr (past, none) ↦
-      let gone : drop number rows ≡ [] = drop_all number rows past in
-      let later : drop (number + 1) rows ≡ [] = drop_all (number + 1) rows (omega arith) in
-      let own : get_or rows number [] ≡ [] = get_or_past rows number [] past in
-      rw (drop-place tables number table is, gone, later, own) (sym (from_none (number + 1) (drop (number + 1) tables)))
+    elim (slice_get_cases rows number).1 [
+      | inl (own, within, there, at) ↦
+          rw (drop-place tables number table is, drop-place rows number own there, get_or_from_slice_get rows number own [] there) refl
+      | inr (past, none) ↦
+          let gone : drop number rows ≡ [] = drop_all number rows past in
+          let later : drop (number + 1) rows ≡ [] = drop_all (number + 1) rows (omega arith) in
+          let own : get_or rows number [] ≡ [] = get_or_past rows number [] past in
+          rw (drop-place tables number table is, gone, later, own) (sym (from_none (number + 1) (drop (number + 1) tables)))
     ]
 
 -- the tables before a number are counted: with what is left they weigh what all do
@@ -73,14 +73,14 @@ module _ (db : Db) where
   weighed-more number total table weight before is weighs = record {
     within = omega arith;
     rest =
-    let own = sum_by (row_weight db) (rows_in number table (rows_at db.rows number)) in
-    let left = sum_by (row_weight db) (rows_from (number + 1) (drop (number + 1) db.schema.tables) (drop (number + 1) db.rows)) in
-    let both : sum_by (row_weight db) (rows_from number (drop number db.schema.tables) (drop number db.rows)) ≡ own + left =
-    ap (sum_by (row_weight db)) (from-table number table db.schema.tables db.rows is) ∙ sum_by-append (row_weight db) (rows_in number table (rows_at db.rows number)) (rows_from (number + 1) (drop (number + 1) db.schema.tables) (drop (number + 1) db.rows)) in
-    let whole = before.rest in
-    let here : weight ≡ saturated own = weighs in
-    let counted : saturated (saturated (total + weight) + left) ≡ saturated (total + (own + left)) = omega arith in
-    counted ∙ (ap (λ n. saturated (total + n)) (sym both) ∙ whole);
+        let own = sum_by (row_weight db) (rows_in number table (rows_at db.rows number)) in
+        let left = sum_by (row_weight db) (rows_from (number + 1) (drop (number + 1) db.schema.tables) (drop (number + 1) db.rows)) in
+        let both : sum_by (row_weight db) (rows_from number (drop number db.schema.tables) (drop number db.rows)) ≡ own + left =
+        ap (sum_by (row_weight db)) (from-table number table db.schema.tables db.rows is) ∙ sum_by-append (row_weight db) (rows_in number table (rows_at db.rows number)) (rows_from (number + 1) (drop (number + 1) db.schema.tables) (drop (number + 1) db.rows)) in
+        let whole = before.rest in
+        let here : weight ≡ saturated own = weighs in
+        let counted : saturated (saturated (total + weight) + left) ≡ saturated (total + (own + left)) = omega arith in
+        counted ∙ (ap (λ n. saturated (total + n)) (sym both) ∙ whole);
   }
 
   pub weighed-end : (number total : ℕ) → WeighedTo db number total → length db.schema.tables ≤ number → total ≡ saturated (sum_by (row_weight db) (named_rows db))

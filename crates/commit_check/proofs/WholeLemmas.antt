@@ -1,5 +1,5 @@
 -- The first fault, rule by rule.
-use Rattle.std.proofs.Common.{◌≡◌, List, [], ◌∷◌, ◌++◌, Bool, true, false, refl, sym, ◌∙◌}
+use Rattle.std.proofs.Common.{◌≡◌, List, [], ◌∷◌, ◌++◌, Bool, true, false, refl, ◌∙◌}
 use Rattle.std.specs.Prelude.{Option, None, Some, if◌then◌else◌, nat_lt}
 use Rattle.own_model.specs.declared.limit.LimitName.TheVariants as limit
 use Rattle.own_model.specs.declared.limit.TheConstants.{STORE_ROWS, STORE_WEIGHT}

@@ -3,7 +3,6 @@ use Rattle.std.specs.Prelude.{ℕ, List, Option, flat_map}
 use Rattle.own_model.specs.declared.refusal.Refusal.{Refusal}
 use Rattle.own_model.specs.declared.schema.TableDef.{TableDef}
 use Rattle.own_model.specs.Db.{Db, Row}
-use Rattle.own_model.specs.Stored.{rows_at}
 use Rattle.state_model.specs.Fault.{faults_by, first_of}
 
 -- what a rule finds in the rows of a table: its number, its definition, all its rows, and one of them

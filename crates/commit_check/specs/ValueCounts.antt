@@ -1,5 +1,5 @@
 -- How many rows hold a value in a column.
-use Rattle.std.specs.Prelude.{◌≡◌, ℕ, ◌+◌, List, Bool, true, Option, None, Some, count_by, slice_get, unwrap_or, if◌then◌else◌}
+use Rattle.std.specs.Prelude.{◌≡◌, ℕ, List, Bool, true, Option, None, Some, count_by, slice_get, unwrap_or, if◌then◌else◌}
 use Rattle.std.specs.Map.{lookup}
 use Rattle.std.specs.BTreeMap.{BTreeMap}
 use Rattle.own_base.specs.declared.value.Value.{Value}

@@ -21,11 +21,7 @@ fn as_key(alloc: Global, value: Option<&Value>) -> Result<Key, AllocError>
 
 /// The primary key of a table's row.
 #[tactic(auto, unfolding(own_model::specs::Db::key_of), using(crate::proofs::AbsentColumns::absent_columns))]
-pub(crate) fn key_of(
-    alloc: Global,
-    definition: &TableDef,
-    row: &Row,
-) -> Result<Key, AllocError>
+pub(crate) fn key_of(alloc: Global, definition: &TableDef, row: &Row) -> Result<Key, AllocError>
     ensures { IfOk result (λ key. key ≡ key_of definition.now row.now) }
 {
     as_key(alloc, row.get(definition.key))

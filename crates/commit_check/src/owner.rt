@@ -78,8 +78,13 @@ pub fn first_owner_fault<V: StoreView>(
     ensures { IfOk result (λ first. first ≡ first_of (owner_faults (db_of (V.schema_of view.now) (V.rows view.now)))) }
 {
     for (number, definition) in view.schema().tables.items().iter().enumerate() {
-        if let Some(fault) = first_in_table(alloc, view, sets, TableNo(number as u32), definition)?
-        {
+        if let Some(fault) = first_in_table(
+            alloc,
+            view,
+            sets,
+            TableNo(number as u32),
+            definition,
+        )? {
             return Ok(Some(fault));
         }
     }

@@ -5,7 +5,7 @@ ghost use Rattle.schema_model.specs.WithinLimits.{IsWithinLimits};
 ghost use Rattle.state_model.specs.Weight.{row_count};
 
 use own_base::TableNo;
-use own_model::{LimitName, Refusal, StoreView, STORE_ROWS};
+use own_model::{LimitName, Refusal, STORE_ROWS, StoreView};
 
 /// How many rows all tables have together, and no more than 64 bits tell.
 fn row_count<V: StoreView>(view: &V) -> u64

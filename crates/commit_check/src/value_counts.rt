@@ -5,7 +5,7 @@ ghost use Rattle.query_model.specs.Truth.{cell, is_null};
 ghost use Rattle.commit_check.specs.declared.held_value.HeldValue.{HeldValue as Held};
 ghost use Rattle.commit_check.specs.ValueCounts.{CountsColumns, CountsRows, count_at, holds, times, value_of};
 
-use crate::held_value::{held_in, HeldValue};
+use crate::held_value::{HeldValue, held_in};
 use own_base::{ColNo, Row, TableNo};
 use own_model::{Column, StoreView, TableDef};
 use std::alloc::{AllocError, Global};

@@ -10,8 +10,10 @@ ghost use Rattle.subject_model.specs.Named.{named_rows, rows_in};
 ghost use Rattle.subject_model.specs.Owners.{owners, reach};
 ghost use Rattle.commit_check.specs.Saturated.{saturated};
 
-use own_base::{Row, Subject, TableNo, ROW_SIZE, VALUE_SIZE};
-use own_model::{BoundItem, LimitName, Refusal, Source1, StoreView, TableDef, ViewDef, STORE_WEIGHT};
+use own_base::{ROW_SIZE, Row, Subject, TableNo, VALUE_SIZE};
+use own_model::{
+    BoundItem, LimitName, Refusal, STORE_WEIGHT, Source1, StoreView, TableDef, ViewDef,
+};
 use owner_sets::OwnerSets;
 
 /// The size of a row, as far as 64 bits tell it.
@@ -36,7 +38,12 @@ fn owned_weight(size: u64, owners: &[Subject], reach: &[Subject]) -> u64
 }
 
 /// What the rows of a table weigh.
-fn table_weight<V: StoreView>(view: &V, sets: &OwnerSets, table: TableNo, definition: &TableDef) -> u64
+fn table_weight<V: StoreView>(
+    view: &V,
+    sets: &OwnerSets,
+    table: TableNo,
+    definition: &TableDef,
+) -> u64
     requires there { slice_get (V.schema_of view.now).tables table.0 ≡ Some definition.now }
     requires owners { AreSetsOf (db_of (V.schema_of view.now) (V.rows view.now)) (owners (db_of (V.schema_of view.now) (V.rows view.now))) sets.now.owners }
     requires reach { AreSetsOf (db_of (V.schema_of view.now) (V.rows view.now)) (reach (db_of (V.schema_of view.now) (V.rows view.now))) sets.now.reach }

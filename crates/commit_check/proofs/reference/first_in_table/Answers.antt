@@ -1,5 +1,4 @@
-use Rattle.std.proofs.Common.{◌≡◌, ◌≤◌, length, sym, ap, ◌∙◌, subst}
-use Rattle.std.specs.Prelude.{Some}
+use Rattle.std.proofs.Common.{◌≤◌, length, sym, ◌∙◌, subst}
 use Rattle.own_model.specs.Stored.{rows_at}
 use Rattle.owner_sets.specs.Sets.{db_of}
 use Rattle.state_model.specs.Fault.{reference_rule}

@@ -1,4 +1,4 @@
-use Rattle.std.proofs.Common.{◌≡◌, ◌<◌, ◌≤◌, ◌-◌, ◌^◌, [], length, take, sym, ap, ◌∙◌, subst, arith, length-take}
+use Rattle.std.proofs.Common.{◌<◌, ◌≤◌, ◌-◌, ◌^◌, [], length, take, sym, subst, arith, length-take}
 use Rattle.own_model.specs.Stored.{rows_at}
 use Rattle.std.proofs.lemmas.List.{take_all}
 use Rattle.commit_check.specs.ValueCounts.{CountsRows}

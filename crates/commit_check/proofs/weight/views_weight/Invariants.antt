@@ -1,4 +1,4 @@
-use Rattle.std.proofs.Common.{◌≡◌, ◌+◌, take}
+use Rattle.std.proofs.Common.{◌≡◌, take}
 use Rattle.std.specs.Prelude.{sum_by}
 use Rattle.commit_check.specs.Saturated.{saturated}
 use Rattle.owner_sets.specs.Sets.{db_of}
