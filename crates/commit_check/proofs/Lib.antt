@@ -1,0 +1,14 @@
+pub mod AbsentColumns
+pub mod FirstLemmas
+pub mod HeldLemmas
+pub mod ReferenceLemmas
+pub mod RowCounts
+pub mod Listed
+pub mod OwnerFaults
+pub mod HeldOrder
+pub mod CountLemmas
+pub mod UniqueLemmas
+pub mod SaturatedLemmas
+pub mod WeightLemmas
+pub mod WholeLemmas
+pub mod GraphThere

@@ -1,0 +1,3 @@
+pub mod Firsts
+pub mod ValueCounts
+pub mod Saturated
