@@ -1,6 +1,6 @@
 -- What is judged after changes of tables with which nothing is linked.
-use Rattle.std.proofs.Common.{◌≡◌, ℕ, ◌+◌, ◌-◌, ◌^◌, ◌≤◌, List, [], ◌∷◌, Bool, true, false, refl, sym, ap, ◌∙◌, subst, arith}
-use Rattle.std.specs.Prelude.{Option, None, Some, IsTrue, filter, nat_lt, if◌then◌else◌}
+use Rattle.std.proofs.Common.{◌≡◌, ℕ, ◌+◌, ◌-◌, ◌≤◌, List, [], ◌∷◌, Bool, true, false, refl, ap, subst, arith}
+use Rattle.std.specs.Prelude.{None, Some, IsTrue, filter, nat_lt, if◌then◌else◌}
 use Rattle.std.proofs.lemmas.Bool.{ltb-false}
 use Rattle.own_base.specs.declared.change.Change.{Change}
 use Rattle.own_model.specs.declared.limit.LimitName.TheVariants as limit

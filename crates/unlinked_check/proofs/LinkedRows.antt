@@ -1,26 +1,23 @@
 -- Where the rows of tables with which nothing is linked differ alone, the rows of all others have the owners that they had.
-use Rattle.std.proofs.Common.{◌≡◌, ℕ, ◌+◌, ◌*◌, List, [], ◌∷◌, length, Bool, true, false, refl, sym, ap, ◌∙◌, subst, arith}
-use Rattle.std.specs.Prelude.{◌&&◌, ◌↔◌, Contains, IsTrue, IsSome, Option, Some, filter, find, if◌then◌else◌, is_some, slice_get}
+use Rattle.std.proofs.Common.{◌≡◌, ℕ, List, [], ◌∷◌, length, Bool, true, false, refl, sym, ap, subst, arith}
+use Rattle.std.specs.Prelude.{◌&&◌, IsTrue, IsSome, Option, Some, find, if◌then◌else◌, is_some, slice_get}
 use Rattle.std.specs.Option.{option_and_then}
-use Rattle.own_base.specs.Row.{row_size}
 use Rattle.own_base.specs.declared.number.TableNo.{TableNo}
 use Rattle.own_base.specs.declared.row_name.RowName.{RowName}
-use Rattle.own_base.specs.declared.value.Value.{Value}
 use Rattle.own_model.specs.declared.schema.Edge.{Edge}
 use Rattle.own_model.specs.declared.schema.Schema.{Schema}
 use Rattle.own_model.specs.Db.{IsOrdered, Row}
 use Rattle.own_model.specs.Stored.{has_key, row_named, rows_at}
-use Rattle.owner_model.specs.Joins.{Joins, holder_of, other_of, row_of, value_at, value_of}
+use Rattle.owner_model.specs.Joins.{Joins, holder_of, other_of, value_of}
 use Rattle.owner_sets.specs.Sets.{db_of}
 use Rattle.schema_model.specs.OwnerSchema.{IsOwnerSchema}
 use Rattle.schema_model.specs.Tables.{is_subject}
-use Rattle.subject_model.specs.Named.{NamedRow, is_there}
-use Rattle.subject_model.specs.Owners.{Owns, Reaches, has_owner, owners, reach, reaches, subjects}
+use Rattle.subject_model.specs.Owners.{Owns, Reaches, has_owner, owners, reach}
 use Rattle.subject_model.specs.Paths.{IsPath, Path, is_subject_row}
 use Rattle.subject_model.proofs.OwnerLemmas.{from_owner, owner_from}
 use Rattle.subject_model.proofs.OwnerLists.{owners-iff_Owns, owners_rise, reach-iff_Reaches, reach_rise}
 use Rattle.subject_model.proofs.RisingNames.{name_order, same_rising}
-use Rattle.state_model.specs.Weight.{at_least_one, row_weight, seers}
+use Rattle.state_model.specs.Weight.{row_weight, seers}
 use Rattle.state_model.proofs.OwnerCounts.{seers-owners}
 use Rattle.unlinked_check.specs.Unlinked.{is_unlinked}
 use Rattle.unlinked_check.proofs.LinkLemmas.{lower-linked, upper-linked}

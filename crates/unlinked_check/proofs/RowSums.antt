@@ -1,8 +1,8 @@
 -- Sums over items after changes, each of one key.
-use Rattle.std.proofs.Common.{◌≡◌, ℕ, ◌+◌, ◌-◌, List, [], ◌∷◌, ◌++◌, refl, sym, ap, ◌∙◌, subst, arith}
-use Rattle.std.specs.Prelude.{Bool, true, false, Option, Some, None, IfSome, find, map, sum_by}
+use Rattle.std.proofs.Common.{◌≡◌, ℕ, ◌+◌, ◌-◌, List, [], ◌∷◌, ◌++◌, refl, sym, ap, ◌∙◌, arith}
+use Rattle.std.specs.Prelude.{false, Option, Some, None, IfSome, map, sum_by}
 use Rattle.std.specs.Cmp.{IsTotalOrder}
-use Rattle.std.specs.List.{AllByRecursion as Each, IsDistinct, filter}
+use Rattle.std.specs.List.{AllByRecursion as Each, IsDistinct}
 use Rattle.std.specs.Option.{option_map_or, option_to_list}
 use Rattle.std.specs.Ordering.{is_eq, is_gt, is_lt}
 use Rattle.std.specs.declared.cmp.Ordering.{Ordering}
@@ -13,7 +13,7 @@ use Rattle.page_model.specs.Found.{found}
 use Rattle.page_model.specs.Rising.{IsRising}
 use Rattle.page_model.proofs.ChangedLemmas.{filter_all, filter_none, rising_with_changes}
 use Rattle.page_model.proofs.Ordered.{above_from_below}
-use Rattle.page_model.proofs.RisingLemmas.{each_map, each_weaker, rising_behind, rising_tail}
+use Rattle.page_model.proofs.RisingLemmas.{each_weaker, rising_behind, rising_tail}
 use Rattle.table_part.proofs.FoundChanged.{found_changed}
 
 -- what an item counts, where there is one

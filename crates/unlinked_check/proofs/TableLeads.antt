@@ -1,12 +1,11 @@
 -- What a net says table by table.
-use Rattle.std.proofs.Common.{◌≡◌, ℕ, zero, suc, ◌+◌, ◌<◌, ◌≤◌, List, [], ◌∷◌, ◌++◌, Bool, true, false, cond, refl, sym, ap, ◌∙◌, subst, eq-eqb, append-nil, append_assoc, arith}
-use Rattle.std.specs.Prelude.{◌==◌, Option, None, Some, IfSome, filter, filter_map, find}
+use Rattle.std.proofs.Common.{◌≡◌, ℕ, ◌+◌, ◌<◌, ◌≤◌, List, [], ◌∷◌, ◌++◌, Bool, true, false, cond, refl, sym, ap, ◌∙◌, subst, eq-eqb, append-nil, append_assoc, arith}
+use Rattle.std.specs.Prelude.{Option, None, Some, IfSome, filter, filter_map, find}
 use Rattle.std.specs.List.{AllByRecursion as Each, cons_option}
-use Rattle.std.proofs.lemmas.Bool.{eqb-true, ne_eqb}
+use Rattle.std.proofs.lemmas.Bool.{ne_eqb}
 use Rattle.std.proofs.lemmas.List.Elements.{filter-append}
 use Rattle.own_base.specs.Key.{key_cmp}
 use Rattle.own_base.specs.declared.change.Change.{Change}
-use Rattle.own_base.specs.declared.row_name.RowName.{RowName}
 use Rattle.own_base.specs.declared.value.Key.{Key}
 use Rattle.own_model.specs.declared.schema.TableDef.{TableDef}
 use Rattle.own_model.specs.Db.{AreRising, IsRising, Row, key_of}
@@ -16,7 +15,7 @@ use Rattle.page_model.proofs.ChangedLemmas.{filter_all, filter_none}
 use Rattle.page_model.proofs.RisingLemmas.{each_append, each_weaker}
 use Rattle.schema_model.proofs.Found.{find-some}
 use Rattle.subject_model.proofs.NamedLemmas.{one_key}
-use Rattle.state_model.specs.Net.{change_at, change_unless_same, keys_in, net_from, net_in}
+use Rattle.state_model.specs.Net.{change_at, keys_in, net_from, net_in}
 use Rattle.state_model.specs.Same.{is_same_state}
 use Rattle.table_part.specs.Changes.{KeysDiffer, changed_key, row_after}
 use Rattle.txn_space.specs.Put.{is_of_table, put_from, rows_put}

@@ -1,5 +1,5 @@
 -- Sums over the rows of tables before and after a net.
-use Rattle.std.proofs.Common.{◌≡◌, ℕ, zero, suc, ◌+◌, List, [], ◌∷◌, ◌++◌, Bool, true, false, refl, sym, ap, ◌∙◌, eq-eqb, ◌<◌, ◌≤◌, arith}
+use Rattle.std.proofs.Common.{◌≡◌, ℕ, zero, suc, ◌+◌, List, [], ◌∷◌, Bool, true, false, refl, sym, ap, ◌∙◌, eq-eqb, ◌<◌, ◌≤◌, arith}
 use Rattle.std.specs.Prelude.{◌==◌, Option, None, Some, if◌then◌else◌, sum_by}
 use Rattle.std.specs.List.{AllByRecursion as Each}
 use Rattle.std.proofs.lemmas.Bool.{ne_eqb}

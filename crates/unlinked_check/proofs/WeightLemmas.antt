@@ -1,5 +1,5 @@
 -- What a database weighs after changes of tables with which nothing is linked.
-use Rattle.std.proofs.Common.{◌≡◌, ℕ, zero, suc, ◌+◌, List, [], ◌∷◌, ◌++◌, Bool, true, false, refl, sym, ap, ◌∙◌, subst, arith}
+use Rattle.std.proofs.Common.{◌≡◌, ℕ, zero, suc, ◌+◌, List, [], ◌∷◌, Bool, true, false, refl, sym, ap, ◌∙◌, subst, arith}
 use Rattle.std.specs.Prelude.{Option, None, Some, sum_by}
 use Rattle.std.specs.List.{AllByRecursion as Each}
 use Rattle.std.proofs.lemmas.List.Sums.{sum_by-append, sum_by-cons}
@@ -17,11 +17,11 @@ use Rattle.owner_sets.specs.Sets.{db_of}
 use Rattle.page_model.specs.Changed.{with_changes}
 use Rattle.page_model.proofs.RisingLemmas.{each_back, each_front}
 use Rattle.schema_model.specs.OwnerSchema.{IsOwnerSchema}
-use Rattle.subject_model.specs.Named.{NamedRow, name_of, named_rows, rows_from, rows_in}
+use Rattle.subject_model.specs.Named.{NamedRow, name_of, rows_from, rows_in}
 use Rattle.state_model.specs.Net.{net_from, net_in}
 use Rattle.state_model.specs.Weight.{item_size, row_weight, view_weight, weight}
 use Rattle.table_part.specs.Changes.{row_after}
-use Rattle.unlinked_check.specs.NetWeight.{lone_weight, shown_size, weight_after, weight_before, weight_come, weight_gone}
+use Rattle.unlinked_check.specs.NetWeight.{shown_size, weight_come, weight_gone}
 use Rattle.unlinked_check.specs.Unlinked.{is_unlinked}
 use Rattle.unlinked_check.proofs.LinkedRows.{AreSameElsewhere, same_weight}
 use Rattle.unlinked_check.proofs.LoneRows.{lone_table}
