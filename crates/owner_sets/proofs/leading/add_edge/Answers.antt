@@ -1,4 +1,4 @@
-use Rattle.std.proofs.Common.{◌≡◌, ◌<◌, ◌∙◌, false, get_or, length, sym, ap, subst, arith}
+use Rattle.std.proofs.Common.{◌∙◌, false, get_or, sym, ap, arith}
 use Rattle.owner_sets.proofs.MarkLemmas.{edges-elsewhere, edges-marked}
 use Rattle.owner_sets.proofs.leading.add_edge.Goals as goal
 
