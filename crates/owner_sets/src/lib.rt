@@ -3,11 +3,13 @@
 
 mod edges;
 mod gather;
-mod link;
+pub mod link;
 mod places;
 mod set_at;
 mod sets;
 mod settle;
 mod which;
 
+pub use edges::links;
+pub use places::place_named;
 pub use sets::OwnerSets;
