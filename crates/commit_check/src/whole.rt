@@ -5,14 +5,13 @@ ghost use Rattle.schema_model.specs.OwnerSchema.{IsOwnerSchema};
 ghost use Rattle.schema_model.specs.WithinLimits.{IsWithinLimits};
 ghost use Rattle.state_model.specs.Fault.{fault};
 
-use crate::graph_of::graph_of;
 use crate::owner::first_owner_fault;
 use crate::reference::first_reference_fault;
 use crate::rows::row_limit_fault;
 use crate::unique::first_unique_fault;
 use crate::weight::weight_limit_fault;
 use own_model::{Refusal, StoreView};
-use owner_sets::OwnerSets;
+use owner_sets::{OwnerSets, graph_of};
 use std::alloc::{AllocError, Global};
 
 /// The first fault of a store's state as a whole: of a UNIQUE column, else of a reference, else a row without an owner, else

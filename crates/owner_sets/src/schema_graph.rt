@@ -8,7 +8,7 @@ use owner_graph::{Graph, GraphFault};
 use std::alloc::{AllocError, Global};
 
 /// The graph of a schema's edges. There is one, since no walk over them comes back to its table.
-pub(crate) fn graph_of(alloc: Global, schema: &Schema) -> Result<Graph, AllocError>
+pub fn graph_of(alloc: Global, schema: &Schema) -> Result<Graph, AllocError>
     requires limits { IsWithinLimits schema.now }
     requires owner { IsOwnerSchema schema.now }
     ensures { IfOk result (IsGraphOf (length schema.now.tables) schema.now.edges) }

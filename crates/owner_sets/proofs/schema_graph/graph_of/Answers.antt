@@ -1,5 +1,5 @@
-use Rattle.commit_check.proofs.GraphThere.{edges-within, no_cycle}
-use Rattle.commit_check.proofs.graph_of.graph_of.Goals as goal
+use Rattle.owner_sets.proofs.GraphThere.{edges-within, no_cycle}
+use Rattle.owner_sets.proofs.schema_graph.graph_of.Goals as goal
 
 pub with_edges-requires : goal.with_edges-requires
 with_edges-requires c = rw (c.items.ensures, c.items-2.ensures) (edges-within c.args.schema.now c.requires.owner)
