@@ -1,0 +1,10 @@
+pub mod TableFlags
+pub mod FlagLemmas
+pub mod SubjectRows
+pub mod OwnedLemmas
+pub mod MarkLemmas
+pub mod StruckMarks
+pub mod HeldLocal
+pub mod HeldMarks
+pub mod HeldOrder
+pub mod StayMarks

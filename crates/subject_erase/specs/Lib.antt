@@ -1,0 +1,4 @@
+pub mod Flags
+pub mod Followed
+pub mod Marked
+pub mod Staying
