@@ -8,3 +8,12 @@ pub mod HeldLocal
 pub mod HeldMarks
 pub mod HeldOrder
 pub mod StayMarks
+pub mod NumberedSteps
+pub mod LoseLemmas
+pub mod Made
+pub mod ErasureLemmas
+pub mod RowsLeft
+pub mod ErasuresPut
+pub mod PlanLemmas
+pub mod ErasedRows
+pub mod PlanSteps
