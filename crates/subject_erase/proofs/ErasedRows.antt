@@ -1,16 +1,12 @@
 -- What becomes of the rows by flags is what becomes of them.
-use Rattle.std.proofs.Common.{◌≡◌, ℕ, zero, suc, ◌+◌, ◌<◌, ◌≤◌, List, [], ◌∷◌, ◌++◌, length, drop, Bool, false, get_or, refl, ap, sym, ◌∙◌, subst, append_assoc, append-nil, filter_map, flat_map, arith}
+use Rattle.std.proofs.Common.{◌≡◌, ℕ, zero, suc, ◌+◌, ◌≤◌, List, [], ◌∷◌, ◌++◌, length, drop, refl, ap, sym, ◌∙◌, subst, append_assoc, append-nil, filter_map, flat_map, arith}
 use Rattle.std.specs.Prelude.{Option, Some, None, slice_get}
-use Rattle.std.specs.List.{AllByRecursion, cons_option, enumerate_from}
-use Rattle.std.specs.Option.{option_and_then, option_to_list}
+use Rattle.std.specs.List.{cons_option, enumerate_from}
+use Rattle.std.specs.Option.{option_to_list}
 use Rattle.std.proofs.lemmas.List.{drop_all, drop_more}
 use Rattle.std.proofs.lemmas.Option.{get_or_from_slice_get}
-use Rattle.own_base.specs.declared.change.Change.{Change}
-use Rattle.own_base.specs.declared.number.TableNo.{TableNo}
 use Rattle.own_base.specs.declared.row_name.RowName.{RowName}
-use Rattle.own_model.specs.declared.limit.TheConstants.{TABLE_COLUMNS}
 use Rattle.own_model.specs.declared.schema.Column.{Column}
-use Rattle.own_model.specs.declared.schema.RefKind.{RefKind}
 use Rattle.own_model.specs.declared.schema.TableDef.{TableDef}
 use Rattle.own_model.specs.Db.{AreRising, Db, IsOrdered, Row}
 use Rattle.own_model.specs.Stored.{rows_at}
@@ -19,7 +15,6 @@ use Rattle.schema_model.specs.OwnerSchema.{ColumnsRefer, IsOwnerSchema}
 use Rattle.schema_model.specs.WithinLimits.{IsTableWithin, IsWithinLimits}
 use Rattle.schema_model.proofs.Places.{all-at, place-lt}
 use Rattle.state_model.specs.Rows.{AreOfKinds, AreRowsOf, IsRowOf}
-use Rattle.subject_model.specs.Named.{name_of}
 use Rattle.subject_model.specs.Stays.{stays}
 use Rattle.subject_model.proofs.ForgetRows.{named_in}
 use Rattle.subject_erase.specs.Erasures.{erased, erased_from, erased_in, erasures}

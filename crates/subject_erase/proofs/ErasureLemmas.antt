@@ -1,6 +1,6 @@
 -- What becomes of the rows of a database, table by table.
-use Rattle.std.proofs.Common.{◌≡◌, ℕ, zero, suc, ◌+◌, ◌<◌, List, [], ◌∷◌, ◌++◌, length, map, Bool, true, false, cond, not, refl, ap, sym, ◌∙◌, subst, append-nil, filter_map, arith}
-use Rattle.std.specs.Prelude.{◌==◌, ◌&&◌, Option, Some, None, IfSome, IsSomeAnd, filter, slice_get}
+use Rattle.std.proofs.Common.{◌≡◌, ℕ, zero, suc, ◌+◌, ◌<◌, List, [], ◌∷◌, ◌++◌, map, Bool, true, false, cond, refl, ap, sym, ◌∙◌, subst, append-nil, filter_map, arith}
+use Rattle.std.specs.Prelude.{Option, Some, None, IfSome, filter, slice_get}
 use Rattle.std.specs.List.{AllByRecursion, cons_option}
 use Rattle.std.proofs.lemmas.Bool.{eq-eqb, eqb-true}
 use Rattle.std.proofs.lemmas.List.Elements.{filter-append}
@@ -12,7 +12,7 @@ use Rattle.own_model.specs.Stored.{rows_at}
 use Rattle.page_model.proofs.ChangedLemmas.{filter_all, filter_none}
 use Rattle.page_model.proofs.RisingLemmas.{each_append, each_weaker}
 use Rattle.subject_model.specs.Forget.{left_of}
-use Rattle.subject_model.specs.Named.{NamedRow, name_of}
+use Rattle.subject_model.specs.Named.{NamedRow}
 use Rattle.subject_model.specs.Stays.{stays}
 use Rattle.subject_model.proofs.ForgetRows.{named_in}
 use Rattle.txn_space.specs.Put.{is_of_table}

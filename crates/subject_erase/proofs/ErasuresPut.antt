@@ -1,6 +1,6 @@
 -- What becomes of the rows, put into them, gives what is left.
 use Rattle.std.proofs.Common.{◌≡◌, ℕ, suc, ◌+◌, List, [], ◌∷◌, map, Bool, true, false, cond, refl, ap, sym, ◌∙◌, subst, filter_map, arith}
-use Rattle.std.specs.Prelude.{◌==◌, Option, Some, None, IfSome, IsSomeAnd, filter, slice_get}
+use Rattle.std.specs.Prelude.{◌==◌, Option, Some, None, IfSome, filter, slice_get}
 use Rattle.std.specs.List.{AllByRecursion, IsDistinct, cons_option}
 use Rattle.std.specs.Option.{option_and_then, option_map_or}
 use Rattle.std.proofs.lemmas.Bool.{eqb-true, false_from_ne_true}
@@ -18,11 +18,9 @@ use Rattle.page_model.specs.Rising.{IsRising}
 use Rattle.page_model.proofs.ChangedLemmas.{filter_none, rising_with_changes}
 use Rattle.owner_sets.proofs.Searched.{rising_at}
 use Rattle.schema_model.specs.OwnerSchema.{IsOwnerSchema}
-use Rattle.subject_model.specs.Forget.{forget, left_from, left_in, left_of}
-use Rattle.subject_model.specs.Named.{NamedRow}
+use Rattle.subject_model.specs.Forget.{forget, left_from, left_in}
 use Rattle.subject_model.specs.Stays.{stays}
 use Rattle.subject_model.proofs.ForgetKeys.{key_left}
-use Rattle.subject_model.proofs.ForgetOrder.{rising-left_in}
 use Rattle.subject_model.proofs.ForgetRows.{left_in-images, named_in, row_left, stays_in}
 use Rattle.table_part.specs.Changes.{KeysDiffer, changed_key, row_after}
 use Rattle.table_part.proofs.FoundChanged.{found_with_changes}

@@ -1,6 +1,6 @@
 -- Which rows another subject holds, by the rows that their own owner edges join them to.
-use Rattle.std.proofs.Common.{◌≡◌, [], ◌∷◌, inl, inr, refl, sym, ◌∙◌}
-use Rattle.std.specs.Prelude.{◌≢◌, ◌⊎◌, ◌↔◌, IsFalse, IsTrue}
+use Rattle.std.proofs.Common.{[], ◌∷◌, inl, inr, refl, sym, ◌∙◌}
+use Rattle.std.specs.Prelude.{◌≢◌, ◌⊎◌, IsFalse, IsTrue}
 use Rattle.own_base.specs.declared.row_name.RowName.{RowName}
 use Rattle.own_model.specs.declared.schema.Edge.{Edge}
 use Rattle.own_model.specs.Db.{Db}
@@ -27,14 +27,16 @@ IsHeldLocally db subject name = IsFalse (struck db subject name) × ((IsTrue (is
 module _ (db : Db) (subject name : RowName) where
   by_path : (other : RowName) (path : Path) → other ≢ subject → IsPath db name path other → IsOwnerPath path → IsFree db subject name path → IsHeldLocally db subject name
   by_path other [] differs leads owner free = (free.0, inl (leads.0, λ same. differs (sym leads.1 ∙ same)))
-  by_path other (step ∷ rest) differs leads owner free =
-      (free.0, inr (record {
-        edge = step.edge;
-        upper = step.upper;
-        joined = leads.0;
-        owner = owner.0;
-        held = record { other = other; differs = differs; path = rest; leads = leads.1.1; owner = owner.1; free = (free.1.0, free.1.1) };
-      }))
+  by_path other (step ∷ rest) differs leads owner free = (
+    free.0,
+    inr (record {
+      edge = step.edge;
+      upper = step.upper;
+      joined = leads.0;
+      owner = owner.0;
+      held = record { other = other; differs = differs; path = rest; leads = leads.1.1; owner = owner.1; free = (free.1.0, free.1.1) };
+    }),
+  )
 
   -- a row that is held is held so
   pub locally_held : Held db subject name → IsHeldLocally db subject name

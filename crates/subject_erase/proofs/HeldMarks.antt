@@ -1,12 +1,11 @@
 -- The rows that owner edges mark, and those of other subjects, are held where they aren't struck.
-use Rattle.std.proofs.Common.{◌≡◌, ℕ, ◌<◌, List, [], length, Bool, true, false, not, get_or, inl, inr, refl, ap, sym, ◌∙◌, subst, arith}
-use Rattle.std.specs.Prelude.{◌⊎◌, ◌↔◌, ◌==◌, ◌&&◌, ◌||◌, ◌≢◌, Contains, Some, filter, slice_get}
+use Rattle.std.proofs.Common.{◌≡◌, ℕ, ◌<◌, List, [], length, Bool, true, false, not, get_or, inl, inr, refl, ap, sym, ◌∙◌, arith}
+use Rattle.std.specs.Prelude.{◌==◌, ◌&&◌, ◌||◌, ◌≢◌, Contains, filter}
 use Rattle.std.proofs.lemmas.Bool.{and_from, and_parts, false_from_ne_true, not-true, not_from_false, or_cases, or_left, or_right}
 use Rattle.own_base.specs.declared.number.TableNo.{TableNo}
 use Rattle.own_base.specs.declared.row_name.RowName.{RowName}
 use Rattle.own_model.specs.declared.schema.Edge.{Edge}
-use Rattle.own_model.specs.declared.schema.TableDef.{TableDef}
-use Rattle.own_model.specs.Db.{Db, IsOrdered, Row}
+use Rattle.own_model.specs.Db.{Db, IsOrdered}
 use Rattle.own_model.specs.Stored.{rows_at}
 use Rattle.owner_sets.proofs.Standing.{StandsAt, standing_at, subject_row-standing}
 use Rattle.schema_model.specs.OwnerSchema.{IsOwnerSchema}
@@ -16,12 +15,11 @@ use Rattle.subject_model.specs.Named.{name_of}
 use Rattle.subject_model.specs.Owners.{owns}
 use Rattle.subject_model.specs.Paths.{is_subject_row}
 use Rattle.subject_model.specs.Stays.{struck}
-use Rattle.subject_model.proofs.StayLemmas.{Held, from_held, held_from}
+use Rattle.subject_model.proofs.StayLemmas.{from_held, held_from}
 use Rattle.subject_erase.specs.declared.followed.Followed.TheVariants.{Owners}
 use Rattle.subject_erase.specs.Flags.{AreFlagsOf, AreFlagsOfTable, Flags}
 use Rattle.subject_erase.specs.Marked.{HaveMore, is_marked}
 use Rattle.subject_erase.specs.Staying.{is_held, is_other_subject}
-use Rattle.subject_erase.proofs.FlagLemmas.{flag-standing}
 use Rattle.subject_erase.proofs.HeldLocal.{HeldAbove, held_locally, locally_held}
 use Rattle.subject_erase.proofs.MarkLemmas.{JoinsPassing, joins-marked, marked-joins}
 use Rattle.subject_erase.proofs.SubjectRows.{itself-owned, owned-itself}
@@ -59,24 +57,25 @@ module _ (db : Db) (subject : RowName) (ordered : IsOrdered db) (owner : IsOwner
         let same_out : edges ≡ filter (λ edge. edge.lower.0 == name.table.0) db.schema.edges = out ∙ ap (λ (t : TableNo). filter (λ (edge : Edge). edge.lower.0 == t.0) db.schema.edges) (sym of_table) in
         let other : Bool = is_other_subject db.schema name.table.0 (owns db subject name) in
         let marked : Bool = is_marked Owners db.schema db.rows held edges place in
-        same_test (Marked name place && not (struck db subject name)) (is_held db subject name)
-        (
+        same_test (Marked name place && not (struck db subject name)) (is_held db subject name) (
           (λ is.
-          let both = and_parts (other || marked) (not (struck db subject name)) is in
-          from_held db subject name ordered owner
-          (held_locally db subject name owner
-          (not-true (struck db subject name) both.1, elim (or_cases other marked both.0) [
-            | inl own ↦ inl (other-subject name place stands own)
-            | inr by ↦ inr (joins-above name (marked-joins Owners db (is_held db subject) held ordered owner name place stands edges same_out above by))
-          ]))),
+              let both = and_parts (other || marked) (not (struck db subject name)) is in
+              from_held db subject name ordered owner
+              (held_locally db subject name owner (
+                not-true (struck db subject name) both.1,
+                elim (or_cases other marked both.0) [
+                  | inl own ↦ inl (other-subject name place stands own)
+                  | inr by ↦ inr (joins-above name (marked-joins Owners db (is_held db subject) held ordered owner name place stands edges same_out above by))
+                ],
+              ))),
           (λ is.
-          let local = locally_held db subject name (held_from db subject name is) in
-          and_from (other || marked) (not (struck db subject name))
-          (elim local.1 [
-            | inl own ↦ or_left other marked (subject-other name place stands own.0 own.1)
-            | inr by ↦ or_right other marked (joins-marked Owners db (is_held db subject) held ordered owner name place stands edges same_out above (above-joins name by))
-          ])
-          (not_from_false (struck db subject name) local.0)),
+              let local = locally_held db subject name (held_from db subject name is) in
+              and_from (other || marked) (not (struck db subject name))
+              (elim local.1 [
+                | inl own ↦ or_left other marked (subject-other name place stands own.0 own.1)
+                | inr by ↦ or_right other marked (joins-marked Owners db (is_held db subject) held ordered owner name place stands edges same_out above (above-joins name by))
+              ])
+              (not_from_false (struck db subject name) local.0)),
         )
 
     -- the marks of a table's rows, without those that are struck, are its flags

@@ -1,9 +1,8 @@
 -- What a row loses, by flags of the rows that stay.
-use Rattle.std.proofs.Common.{◌≡◌, ℕ, ◌+◌, ◌<◌, ◌≤◌, List, [], ◌∷◌, length, map, Bool, true, false, cond, not, get_or, refl, ap, sym, ◌∙◌, arith}
+use Rattle.std.proofs.Common.{◌≡◌, ℕ, ◌+◌, ◌<◌, ◌≤◌, List, [], ◌∷◌, length, map, Bool, true, false, not, get_or, refl, ap, sym, ◌∙◌, arith}
 use Rattle.std.specs.Prelude.{◌&&◌, ◌||◌, Option, Some, None, slice_get, if◌then◌else◌}
 use Rattle.std.specs.List.{enumerate_from, list_any}
 use Rattle.std.specs.Option.{option_and_then, option_map_or}
-use Rattle.std.proofs.lemmas.Option.{same_Some}
 use Rattle.own_base.specs.declared.number.ColumnSet.{ColumnSet}
 use Rattle.own_base.specs.declared.number.EdgeNo.{EdgeNo}
 use Rattle.own_base.specs.declared.number.TableNo.{TableNo}
@@ -14,25 +13,25 @@ use Rattle.own_base.specs.declared.value.Value.TheVariants.{Null}
 use Rattle.own_model.specs.declared.schema.Column.{Column}
 use Rattle.own_model.specs.declared.schema.RefKind.{RefKind}
 use Rattle.own_model.specs.declared.schema.TableDef.{TableDef}
-use Rattle.own_model.specs.Db.{Db, IsOrdered, Row}
+use Rattle.own_model.specs.Db.{Db, IsOrdered}
 use Rattle.own_model.specs.Stored.{has_key, rows_at}
-use Rattle.owner_model.specs.ColumnSets.{has_column, set_of}
+use Rattle.owner_model.specs.ColumnSets.{set_of}
 use Rattle.owner_model.specs.RuledColumns.{is_blanked}
 use Rattle.owner_model.proofs.ColumnSetLemmas.{has_column-set_of}
-use Rattle.owner_sets.specs.Links.{place_named, place_of}
+use Rattle.owner_sets.specs.Links.{place_of}
 use Rattle.owner_sets.proofs.Searched.{place_of-definition}
 use Rattle.owner_sets.proofs.Standing.{StandsAt, place_of-standing, standing_there, there-standing}
 use Rattle.query_model.specs.Footprints.{literal_key}
 use Rattle.query_model.specs.Truth.{is_null}
 use Rattle.schema_model.proofs.Found.{position-some}
-use Rattle.subject_model.specs.Forget.{dangles, dangles_at, is_going, left_of, loses, names_going}
+use Rattle.subject_model.specs.Forget.{dangles, left_of, loses, names_going}
 use Rattle.subject_model.specs.Named.{NamedRow, is_there}
 use Rattle.subject_model.specs.Owners.{by}
 use Rattle.subject_model.specs.Stays.{stays}
 use Rattle.subject_model.proofs.NamedLemmas.{one_key}
-use Rattle.subject_erase.specs.Erasures.{blanking, erased, loses_some, removal}
+use Rattle.subject_erase.specs.Erasures.{erased, loses_some}
 use Rattle.subject_erase.specs.Flags.{AreFlagsOf, Flags, flag_at}
-use Rattle.subject_erase.specs.Losing.{blanked_by, dangles_by, erased_by, left_by, loses_by, loses_some_by}
+use Rattle.subject_erase.specs.Losing.{dangles_by, erased_by, left_by, loses_by, loses_some_by}
 use Rattle.subject_erase.proofs.FlagLemmas.{flag-standing}
 
 -- lists that are made of numbered items alike

@@ -1,6 +1,6 @@
 -- The rows that are marked are those that edges join to a row that passes a test.
-use Rattle.std.proofs.Common.{◌≡◌, ℕ, zero, suc, ◌+◌, ◌<◌, List, [], ◌∷◌, length, map, take, Bool, true, false, get_or, refl, ap, sym, ◌∙◌, subst, arith, eq-eqb}
-use Rattle.std.specs.Prelude.{◌==◌, ◌&&◌, ◌||◌, Contains, filter}
+use Rattle.std.proofs.Common.{◌≡◌, ℕ, zero, suc, ◌+◌, ◌<◌, List, [], length, map, take, Bool, true, false, get_or, refl, ap, sym, ◌∙◌, subst, arith, eq-eqb}
+use Rattle.std.specs.Prelude.{◌==◌, ◌||◌, Contains, filter}
 use Rattle.std.specs.List.{list_any, range_with_len}
 use Rattle.std.proofs.lemmas.Bool.{and_from, and_parts, eqb-true}
 use Rattle.std.proofs.lemmas.List.Folds.{list_any_more}
@@ -20,7 +20,7 @@ use Rattle.owner_sets.proofs.Standing.{StandsAt, standing_there}
 use Rattle.subject_erase.specs.declared.followed.Followed.{Followed}
 use Rattle.subject_erase.specs.Flags.{AreFlagsOfTable, Flags}
 use Rattle.subject_erase.specs.Followed.{counts}
-use Rattle.subject_erase.specs.Marked.{AreUnmarked, HaveMore, is_marked, over_edge, over_followed, over_link}
+use Rattle.subject_erase.specs.Marked.{HaveMore, is_marked, over_edge, over_followed, over_link}
 use Rattle.subject_erase.proofs.FlagLemmas.{flag-standing}
 
 or_assoc : (a b c : Bool) → ((a || b) || c) ≡ (a || (b || c))
@@ -119,6 +119,11 @@ module _ (followed : Followed) (db : Db) (test : RowName → Bool) (flags : Flag
       (and_from (counts followed is.edge) (over_edge db.schema db.rows flags place is.edge) is.counted
       (any_contained (over_link (get_or flags is.edge.upper.0 []) place) (links db.schema db.rows is.edge) l listed
       (and_from (place == place) (get_or (get_or flags is.edge.upper.0 []) at false) (eq-eqb place place refl) passes)))
+
+-- that many rows, none marked
+pub record AreUnmarked (count : ℕ) (marks : List Bool) : Type 0 where
+  pub all : length marks ≡ count
+  pub none : (place : ℕ) → get_or marks place false ≡ false
 
 none_marked : (from count place : ℕ) → get_or (map (λ place. false) (range_with_len from count)) place false ≡ false
 none_marked from zero place = refl

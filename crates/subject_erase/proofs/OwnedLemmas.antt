@@ -1,5 +1,5 @@
 -- The sets of owners tell which rows a subject owns.
-use Rattle.std.proofs.Common.{◌≡◌, ℕ, Bool, true, sym, ◌∙◌, subst, map}
+use Rattle.std.proofs.Common.{◌≡◌, ℕ, Bool, sym, subst, map}
 use Rattle.std.specs.Prelude.{◌↔◌, Contains, IsTrue, Some, slice_get}
 use Rattle.own_base.specs.declared.row_name.RowName.{RowName}
 use Rattle.own_base.specs.declared.row_name.Subject.{Subject}
@@ -22,8 +22,7 @@ pub found-owns : (db : Db) (sets : Sets) (subject : Subject) (table place : ℕ)
 found-owns db sets subject table place definition row found ordered owner are table_is row_is same =
     let name : RowName = name_of table definition row in
     let set : set_at sets table place ≡ map as_subject (owners db name) = (are.each table).at place definition row table_is row_is in
-    same_test found (owns db subject.0 name)
-    (
+    same_test found (owns db subject.0 name) (
       (λ yes. from_owns db subject.0 name ordered owner ((owners-iff_Owns db name subject.0 ordered owner).0 ((subjects-names (owners db name) subject).0 (subst (λ list. Contains list subject) set (same.0 yes))))),
       (λ owned. same.1 (subst (λ list. Contains list subject) (sym set) ((subjects-names (owners db name) subject).1 ((owners-iff_Owns db name subject.0 ordered owner).1 (owns_from db subject.0 name owned))))),
     )

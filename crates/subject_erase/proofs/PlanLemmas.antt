@@ -1,8 +1,8 @@
 -- What becomes of the rows, as the names that go and the rows that are left.
-use Rattle.std.proofs.Common.{◌≡◌, ℕ, suc, ◌+◌, List, [], ◌∷◌, ◌++◌, map, Bool, true, false, cond, not, refl, ap, sym, ◌∙◌, subst, filter_map, arith}
-use Rattle.std.specs.Prelude.{◌≢◌, ◌&&◌, Option, Some, None, IfSome, filter, is_some, slice_get}
+use Rattle.std.proofs.Common.{◌≡◌, ℕ, suc, ◌+◌, List, [], ◌∷◌, ◌++◌, map, Bool, true, false, cond, not, refl, ap, sym, ◌∙◌, filter_map, arith}
+use Rattle.std.specs.Prelude.{◌&&◌, Option, Some, None, IfSome, filter, slice_get}
 use Rattle.std.specs.List.{AllByRecursion, cons_option}
-use Rattle.std.specs.Option.{option_and_then, option_map_or}
+use Rattle.std.specs.Option.{option_and_then}
 use Rattle.std.proofs.lemmas.List.Elements.{filter-append}
 use Rattle.std.proofs.lemmas.List.{map-append}
 use Rattle.own_base.specs.declared.change.Change.{Change}
@@ -15,12 +15,12 @@ use Rattle.owner_model.specs.Joins.{row_of}
 use Rattle.owner_sets.proofs.Standing.{row_of-standing, standing_at}
 use Rattle.schema_model.specs.OwnerSchema.{IsOwnerSchema}
 use Rattle.subject_model.specs.Forget.{changed, forget, is_changed, left_of, removed}
-use Rattle.subject_model.specs.Named.{NamedRow, named_rows, rows_from, rows_in}
+use Rattle.subject_model.specs.Named.{NamedRow, rows_from, rows_in}
 use Rattle.subject_model.specs.Stays.{stays}
-use Rattle.subject_model.proofs.ForgetRows.{left_named, named_in, row_left, row_of-forget}
+use Rattle.subject_model.proofs.ForgetRows.{left_named, named_in, row_of-forget}
 use Rattle.subject_erase.specs.Erasures.{blanking, erased, erased_from, erased_in, erasures, loses_some, removal}
 use Rattle.subject_erase.specs.Plan.{IsLoss, IsPlan, leaves_row, plan_of}
-use Rattle.subject_erase.proofs.ErasureLemmas.{each_erasure, erased-has, made_images}
+use Rattle.subject_erase.proofs.ErasureLemmas.{each_erasure, erased-has}
 use Rattle.subject_erase.proofs.RowsLeft.{left_of-lost}
 
 -- where each item has what it has if it passes, those that pass have it

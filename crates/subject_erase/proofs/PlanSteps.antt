@@ -1,9 +1,7 @@
 -- A plan, change by change.
-use Rattle.std.proofs.Common.{◌≡◌, List, [], ◌∷◌, ◌++◌, map, Bool, true, false, cond, not, refl, ap, sym, ◌∙◌, subst, append_assoc, append-nil}
+use Rattle.std.proofs.Common.{◌≡◌, List, [], ◌∷◌, ◌++◌, map, Bool, true, false, cond, not, refl, ap, sym, ◌∙◌, append_assoc, append-nil}
 use Rattle.std.specs.Prelude.{filter, if◌then◌else◌}
-use Rattle.std.proofs.lemmas.List.{map-append}
 use Rattle.own_base.specs.declared.change.Change.{Change}
-use Rattle.own_base.specs.declared.row_name.RowName.{RowName}
 use Rattle.subject_erase.specs.declared.plan.ErasePlan.{ErasePlan}
 use Rattle.subject_erase.specs.Plan.{leaves_row, plan_of, plan_with}
 

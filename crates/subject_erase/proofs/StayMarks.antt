@@ -1,6 +1,6 @@
 -- The rows that stay, by flags.
-use Rattle.std.proofs.Common.{◌≡◌, ℕ, ◌<◌, List, length, map, get_or, Bool, true, false, not, ap, sym, ◌∙◌, arith}
-use Rattle.std.specs.Prelude.{◌↔◌, ◌&&◌, ◌||◌, IsTrue}
+use Rattle.std.proofs.Common.{◌≡◌, ℕ, ◌<◌, List, length, map, get_or, Bool, true, false, not, ap, ◌∙◌, arith}
+use Rattle.std.specs.Prelude.{◌&&◌, ◌||◌, IsTrue}
 use Rattle.std.specs.List.{range_with_len}
 use Rattle.std.proofs.lemmas.Bool.{and_from, and_parts}
 use Rattle.std.proofs.lemmas.List.FromFn.{get_or-map-range_with_len}
@@ -14,7 +14,6 @@ use Rattle.schema_model.specs.Tables.{is_private, is_subject}
 use Rattle.schema_model.proofs.Places.{place-lt}
 use Rattle.subject_model.specs.Named.{is_name, name_of}
 use Rattle.subject_model.specs.Owners.{owns}
-use Rattle.subject_model.specs.Paths.{is_subject_row}
 use Rattle.subject_model.specs.Stays.{stays}
 use Rattle.subject_model.proofs.NamedLemmas.{name_is, one_name}
 use Rattle.subject_erase.specs.Flags.{AreFlagsOf, AreFlagsOfTable, Flags, flag_at}
@@ -26,16 +25,15 @@ module _ (db : Db) (subject : RowName) (ordered : IsOrdered db) (owner : IsOwner
   -- a subject row that the subject owns is the subject's own
   own-owned : (name : RowName) (place : ℕ) → StandsAt db name place → (is_subject db.schema name.table.0 && owns db subject name) ≡ is_name name subject
   own-owned name place stands =
-      same_test (is_subject db.schema name.table.0 && owns db subject name) (is_name name subject)
-      (
+      same_test (is_subject db.schema name.table.0 && owns db subject name) (is_name name subject) (
         (λ is.
-        let both = and_parts (is_subject db.schema name.table.0) (owns db subject name) is in
-        name_is name subject (owned-itself db owner subject name (subject_row-standing db name place ordered stands ∙ both.0) both.1)),
+            let both = and_parts (is_subject db.schema name.table.0) (owns db subject name) is in
+            name_is name subject (owned-itself db owner subject name (subject_row-standing db name place ordered stands ∙ both.0) both.1)),
         (λ is.
-        let same : name ≡ subject = one_name name subject is in
-        let table : is_subject db.schema name.table.0 ≡ true = ap (λ (n : RowName). is_subject db.schema n.table.0) same ∙ of_subjects in
-        and_from (is_subject db.schema name.table.0) (owns db subject name) table
-        (itself-owned db owner subject name ordered (subject_row-standing db name place ordered stands ∙ table) same)),
+            let same : name ≡ subject = one_name name subject is in
+            let table : is_subject db.schema name.table.0 ≡ true = ap (λ (n : RowName). is_subject db.schema n.table.0) same ∙ of_subjects in
+            and_from (is_subject db.schema name.table.0) (owns db subject name) table
+            (itself-owned db owner subject name ordered (subject_row-standing db name place ordered stands ∙ table) same)),
       )
 
   -- so it is told by its table and by who owns and holds it whether a row stays

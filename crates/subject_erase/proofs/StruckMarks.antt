@@ -1,11 +1,10 @@
 -- The rows that edges ruled DELETE_ROW mark are those that are struck.
-use Rattle.std.proofs.Common.{◌≡◌, ℕ, ◌<◌, List, [], length, Bool, true, false, get_or, refl, ap, sym, ◌∙◌, subst, arith}
-use Rattle.std.specs.Prelude.{◌↔◌, ◌==◌, ◌||◌, Contains, Some, filter, slice_get}
+use Rattle.std.proofs.Common.{◌≡◌, ℕ, ◌<◌, List, length, Bool, true, refl, ap, sym, ◌∙◌, arith}
+use Rattle.std.specs.Prelude.{◌==◌, ◌||◌, filter}
 use Rattle.own_base.specs.declared.number.TableNo.{TableNo}
 use Rattle.own_base.specs.declared.row_name.RowName.{RowName}
 use Rattle.own_model.specs.declared.schema.Edge.{Edge}
-use Rattle.own_model.specs.declared.schema.TableDef.{TableDef}
-use Rattle.own_model.specs.Db.{Db, IsOrdered, Row}
+use Rattle.own_model.specs.Db.{Db, IsOrdered}
 use Rattle.own_model.specs.Stored.{rows_at}
 use Rattle.owner_sets.proofs.Standing.{StandsAt, standing_at}
 use Rattle.schema_model.specs.OwnerSchema.{IsOwnerSchema}
@@ -14,11 +13,11 @@ use Rattle.subject_model.specs.Named.{name_of}
 use Rattle.subject_model.specs.Owners.{owns}
 use Rattle.subject_model.specs.Stays.{struck}
 use Rattle.subject_model.proofs.OwnerLemmas.{from_owns, owns_from}
-use Rattle.subject_model.proofs.StayLemmas.{Struck, from_struck, struck_from}
+use Rattle.subject_model.proofs.StayLemmas.{from_struck, struck_from}
 use Rattle.subject_erase.specs.declared.followed.Followed.TheVariants.{Strikes}
 use Rattle.subject_erase.specs.Flags.{AreFlagsOf, AreFlagsOfTable, Flags}
-use Rattle.subject_erase.specs.Marked.{AreUnmarked, HaveMore, is_marked}
-use Rattle.subject_erase.proofs.MarkLemmas.{JoinsPassing, joins-marked, marked-joins}
+use Rattle.subject_erase.specs.Marked.{HaveMore, is_marked}
+use Rattle.subject_erase.proofs.MarkLemmas.{AreUnmarked, JoinsPassing, joins-marked, marked-joins}
 use Rattle.subject_erase.proofs.TableFlags.{same_test}
 
 module _ (db : Db) (subject : RowName) (ordered : IsOrdered db) (owner : IsOwnerSchema db.schema) where
@@ -38,8 +37,7 @@ module _ (db : Db) (subject : RowName) (ordered : IsOrdered db) (owner : IsOwner
     marked-struck : (name : RowName) (place : ℕ) → StandsAt db name place → name.table ≡ table → is_marked Strikes db.schema db.rows owned edges place ≡ struck db subject name
     marked-struck name place stands of_table =
         let same_out : edges ≡ filter (λ edge. edge.lower.0 == name.table.0) db.schema.edges = out ∙ ap (λ (t : TableNo). filter (λ (edge : Edge). edge.lower.0 == t.0) db.schema.edges) (sym of_table) in
-        same_test (is_marked Strikes db.schema db.rows owned edges place) (struck db subject name)
-        (
+        same_test (is_marked Strikes db.schema db.rows owned edges place) (struck db subject name) (
           (λ marked. joins-struck name (marked-joins Strikes db (owns db subject) owned ordered owner name place stands edges same_out (λ edge among. are.each edge.upper.0) marked)),
           (λ is. joins-marked Strikes db (owns db subject) owned ordered owner name place stands edges same_out (λ edge among. are.each edge.upper.0) (struck-joins name is)),
         )

@@ -30,8 +30,3 @@ is_marked followed schema rows flags edges place = list_any (over_followed follo
 pub record HaveMore (more : ℕ → Bool) (old new : List Bool) : Type 0 where
   pub same_length : length new ≡ length old
   pub at : (place : ℕ) → place < length old → slice_index_or new place false ≡ (slice_index_or old place false || more place)
-
--- that many rows, none marked
-pub record AreUnmarked (count : ℕ) (marks : List Bool) : Type 0 where
-  pub all : length marks ≡ count
-  pub none : (place : ℕ) → slice_index_or marks place false ≡ false

@@ -33,12 +33,7 @@ fn is_null(value: &Value) -> bool
 }
 
 /// Whether a value, in a column, refers to a row that doesn't stay. Takes no memory.
-fn dangles<V: StoreView>(
-    view: &V,
-    staying: &[List<bool>],
-    column: &Column,
-    value: &Value,
-) -> bool
+fn dangles<V: StoreView>(view: &V, staying: &[List<bool>], column: &Column, value: &Value) -> bool
     requires ordered { IsOrdered (db_of (V.schema_of view.now) (V.rows view.now)) }
     requires there { (link : By × Number) → column.now.refers ≡ Some link → link.1.0 < length (V.schema_of view.now).tables }
     ensures { result ≡ dangles_by (V.schema_of view.now) (V.rows view.now) staying.now column.now value.now }
@@ -155,9 +150,7 @@ pub(crate) fn row_left<V: StoreView>(
 {
     let mut values = List::new(alloc);
     for (number, value) in row.values().iter().enumerate() {
-        values.add(value_left(
-            alloc, view, staying, definition, ruled, number, value,
-        )?)?;
+        values.add(value_left(alloc, view, staying, definition, ruled, number, value)?)?;
     }
     Row::from_values(values).into_shared(alloc)
 }

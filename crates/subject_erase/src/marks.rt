@@ -3,7 +3,7 @@ ghost use Rattle.std.specs.List.{AllByRecursion, range_with_len};
 ghost use Rattle.own_model.specs.Db.{IsOrdered};
 ghost use Rattle.owner_sets.specs.Gathered.{IsWithin};
 ghost use Rattle.owner_sets.specs.Sets.{db_of};
-ghost use Rattle.subject_erase.specs.Marked.{AreUnmarked, HaveMore, is_marked, over_edge, over_link};
+ghost use Rattle.subject_erase.specs.Marked.{HaveMore, is_marked, over_edge, over_link};
 
 use crate::flags::{flag, flags_of};
 use crate::followed::Followed;
@@ -15,14 +15,9 @@ use std::alloc::{AllocError, Global};
 
 /// No mark for that many rows.
 pub(crate) fn unmarked(alloc: Global, count: u64) -> Result<Vec<bool>, AllocError>
-    ensures { IfOk result (λ marks. AreUnmarked count marks.items) }
+    ensures { IfOk result (λ marks. marks.items ≡ map (λ _. false) (range_with_len 0 count)) }
 {
-    let mut marks = Vec::new(alloc);
-    for at in 0..count {
-        let _ = at;
-        marks.push(false)?;
-    }
-    Ok(marks)
+    (0..count).map(|_| false).collect(alloc)
 }
 
 /// Marks the lower row of a link whose upper row is flagged. Takes no memory.

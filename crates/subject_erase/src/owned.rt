@@ -55,13 +55,7 @@ pub(crate) fn owned_flags<V: StoreView>(
 {
     let mut owned = List::new(alloc);
     for number in 0..view.schema().tables.items().len() {
-        owned.add(table_owned(
-            alloc,
-            view,
-            sets,
-            subject,
-            TableNo(number as u32),
-        )?)?;
+        owned.add(table_owned(alloc, view, sets, subject, TableNo(number as u32))?)?;
     }
     Ok(owned)
 }

@@ -6,7 +6,6 @@ ghost use Rattle.owner_sets.specs.Sets.{db_of};
 ghost use Rattle.schema_model.specs.OwnerSchema.{IsOwnerSchema};
 ghost use Rattle.schema_model.specs.WithinLimits.{IsWithinLimits};
 ghost use Rattle.subject_erase.specs.Flags.{AreFlagsOf, AreFlagsOfTable};
-ghost use Rattle.subject_erase.specs.Marked.{AreUnmarked};
 ghost use Rattle.subject_model.specs.Owners.{owns};
 ghost use Rattle.subject_model.specs.Stays.{struck};
 
@@ -61,13 +60,7 @@ pub(crate) fn struck_flags<V: StoreView>(
 {
     let mut struck = List::new(alloc);
     for number in 0..view.schema().tables.items().len() {
-        struck.add(table_struck(
-            alloc,
-            view,
-            graph,
-            owned,
-            TableNo(number as u32),
-        )?)?;
+        struck.add(table_struck(alloc, view, graph, owned, TableNo(number as u32))?)?;
     }
     Ok(struck)
 }

@@ -1,4 +1,4 @@
-use Rattle.std.proofs.Common.{◌≡◌, ◌+◌, List, [], length, Bool, get_or, refl, ap, sym, length-set, ◌∙◌, subst, arith}
+use Rattle.std.proofs.Common.{◌≡◌, List, [], length, get_or, ap, sym, length-set, ◌∙◌, subst, arith}
 use Rattle.std.specs.Prelude.{◌==◌, Contains, filter}
 use Rattle.std.proofs.lemmas.Option.{slice_get-get_or}
 use Rattle.own_base.specs.declared.number.TableNo.{TableNo}
@@ -45,14 +45,16 @@ loop-table-preserved g c =
     let graph : IsGraphOrder (length schema.tables) schema.edges order = subst (IsGraphOrder (length schema.tables) schema.edges) (sym c.order-table-items.ensures) c.requires.graph.ordered in
     let table : TableNo = get_or order c.loop-table.table-index (record { 0 = 0 }) in
     let is = slice_get-get_or order c.loop-table.table-index (record { 0 = 0 }) c.loop-table-test.true in
-    let out : c.edges_of-edges.result.now ≡ filter (λ edge. edge.lower.0 == table.0) schema.edges = c.edges_of-edges.ensures ∙ c.requires.graph.same_edges table.0 in
-    (length-set c.loop-table.held.items table.0 c.in_ok-done.done ∙ c.loop-table.invariant.0, λ subject owned struck.
-    let so_far = c.loop-table.invariant.1 subject owned struck in
-    OrderFlagged-more db (is_held db subject) order graph c.loop-table.table-index c.loop-table.held.items table c.in_ok-done.done so_far is
-    (c.in_ok-done.ensures subject owned struck
-    (λ edge among.
-    subst (λ (flags : Flags). AreFlagsOfTable db (is_held db subject) edge.upper.0 (get_or flags edge.upper.0 [])) (sym c.as_slice.ensures.value)
-    (OrderFlagged-above db (is_held db subject) order graph c.loop-table.table-index c.loop-table.held.items table so_far is edge (subst (λ (edges : List Edge). Contains edges edge) out among)))))
+    let out : c.edges_of-edges.result.now ≡ filter (λ edge. edge.lower.0 == table.0) schema.edges = c.edges_of-edges.ensures ∙ c.requires.graph.same_edges table.0 in (
+      length-set c.loop-table.held.items table.0 c.in_ok-done.done ∙ c.loop-table.invariant.0,
+      λ subject owned struck.
+          let so_far = c.loop-table.invariant.1 subject owned struck in
+          OrderFlagged-more db (is_held db subject) order graph c.loop-table.table-index c.loop-table.held.items table c.in_ok-done.done so_far is
+          (c.in_ok-done.ensures subject owned struck
+          (λ edge among.
+          subst (λ (flags : Flags). AreFlagsOfTable db (is_held db subject) edge.upper.0 (get_or flags edge.upper.0 [])) (sym c.as_slice.ensures.value)
+          (OrderFlagged-above db (is_held db subject) order graph c.loop-table.table-index c.loop-table.held.items table so_far is edge (subst (λ (edges : List Edge). Contains edges edge) out among)))),
+    )
 
 pub returns : goal.returns
 returns g c = λ subject owned struck.

@@ -1,10 +1,7 @@
-use Rattle.std.proofs.Common.{◌≡◌, ℕ, Bool, true, false, refl, ap, sym, ◌∙◌}
-use Rattle.std.specs.Prelude.{◌||◌, Option, Some, None, slice_get}
-use Rattle.std.specs.Option.{option_map_or}
+use Rattle.std.proofs.Common.{◌≡◌, false, refl, sym, ◌∙◌}
+use Rattle.std.specs.Prelude.{Some, None, slice_get}
 use Rattle.std.proofs.lemmas.Option.{slice_get_within}
-use Rattle.own_model.specs.declared.schema.Column.{Column}
 use Rattle.owner_model.specs.ColumnSets.{has_column}
-use Rattle.subject_erase.specs.Losing.{dangles_by}
 use Rattle.subject_erase.proofs.losing.loses.Goals as goal
 
 pub dangles-requires-clause-there : goal.dangles-requires-clause-there

@@ -1,4 +1,4 @@
-use Rattle.std.proofs.Common.{◌≡◌, ◌+◌, ◌≤◌, length, sym, subst}
+use Rattle.std.proofs.Common.{◌+◌, ◌≤◌, length, sym, subst}
 use Rattle.own_model.specs.Stored.{rows_at}
 use Rattle.owner_sets.specs.Sets.{db_of}
 use Rattle.subject_model.specs.Owners.{owns}

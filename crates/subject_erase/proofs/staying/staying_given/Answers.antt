@@ -1,4 +1,4 @@
-use Rattle.std.proofs.Common.{◌≡◌, ◌≤◌, ◌∙◌, length, ap, subst}
+use Rattle.std.proofs.Common.{◌≤◌, ◌∙◌, length, ap, subst}
 use Rattle.own_model.specs.declared.schema.Schema.{Schema}
 use Rattle.owner_sets.specs.Sets.{db_of}
 use Rattle.subject_model.specs.Stays.{stays}

@@ -1,4 +1,3 @@
-use Rattle.std.proofs.Common.{◌≡◌}
 use Rattle.std.specs.Vec.Iter.{into_iter_items}
 use Rattle.subject_erase.proofs.PlanSteps.{Planning}
 use Rattle.subject_erase.proofs.plan.ErasePlan.of_changes.Given as goal
