@@ -17,3 +17,4 @@ pub mod ErasuresPut
 pub mod PlanLemmas
 pub mod ErasedRows
 pub mod PlanSteps
+pub mod AnyCreates

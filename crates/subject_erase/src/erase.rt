@@ -1,6 +1,7 @@
-ghost use Rattle.std.specs.Prelude.{ℕ, ◌≡◌, ◌∷◌, ◌++◌, IfOk, IsTrue, OnOk, Some, filter, length, slice_get};
+ghost use Rattle.std.specs.Prelude.{List as Seq, ℕ, ◌≡◌, ◌∷◌, ◌++◌, IfOk, IsTrue, OnOk, Some, filter, length, slice_get};
 ghost use Rattle.std.specs.List.{AllByRecursion};
 ghost use Rattle.std.specs.Option.{option_and_then, option_to_list};
+ghost use Rattle.own_model.specs.declared.schema.CreateText.{CreateText};
 ghost use Rattle.own_model.specs.Db.{IsOrdered};
 ghost use Rattle.own_model.specs.Stored.{rows_at};
 ghost use Rattle.owner_sets.specs.Sets.{db_of};
@@ -10,7 +11,7 @@ ghost use Rattle.schema_model.specs.WithinLimits.{IsWithinLimits};
 ghost use Rattle.state_model.specs.Rows.{AreRowsOf};
 ghost use Rattle.subject_erase.specs.Erasures as spec;
 ghost use Rattle.subject_erase.specs.Losing.{erased_at, erased_by, erased_rows, erased_table, left_by, named_at};
-ghost use Rattle.subject_erase.specs.Plan.{IsPlan, plan_of};
+ghost use Rattle.subject_erase.specs.Plan.{IsPlan, database, plan_of};
 ghost use Rattle.subject_model.specs.Forget.{forget};
 ghost use Rattle.table_part.specs.Changes.{KeysDiffer};
 ghost use Rattle.txn_space.specs.Put.{IsChangeOf, is_of_table, put_rows};
@@ -184,10 +185,11 @@ pub fn erase_changes<V: StoreView>(
     requires owner { IsOwnerSchema (V.schema_of view.now) }
     requires rows { AreRowsOf (V.schema_of view.now).tables (V.rows view.now) }
     requires subject { IsTrue (is_subject (V.schema_of view.now) subject.now.0.table.0) }
-    ensures applied { IfOk result (λ changes. put_rows (V.schema_of view.now).tables changes (V.rows view.now) ≡ (forget (db_of (V.schema_of view.now) (V.rows view.now)) subject.now.0).rows) }
+    ensures applied { IfOk result (λ changes. (creates : Seq CreateText)
+        → put_rows (V.schema_of view.now).tables changes (V.rows view.now) ≡ (forget (database creates (V.schema_of view.now) (V.rows view.now)) subject.now.0).rows) }
     ensures theirs { IfOk result (λ changes. AllByRecursion (IsChangeOf (V.schema_of view.now).tables) changes) }
     ensures once { IfOk result (λ changes. (number : ℕ) → KeysDiffer (filter (is_of_table number) changes)) }
-    ensures plan { IfOk result (λ changes. IsPlan (db_of (V.schema_of view.now) (V.rows view.now)) subject.now.0 (plan_of changes)) }
+    ensures plan { IfOk result (λ changes. (creates : Seq CreateText) → IsPlan (database creates (V.schema_of view.now) (V.rows view.now)) subject.now.0 (plan_of changes)) }
 {
     let graph = graph_of(alloc, view.schema())?;
     let sets = OwnerSets::of(alloc, view, &graph)?;
@@ -207,7 +209,7 @@ pub fn plan_flat<V: StoreView>(
     requires owner { IsOwnerSchema (V.schema_of view.now) }
     requires rows { AreRowsOf (V.schema_of view.now).tables (V.rows view.now) }
     requires subject { IsTrue (is_subject (V.schema_of view.now) subject.now.0.table.0) }
-    ensures { IfOk result (IsPlan (db_of (V.schema_of view.now) (V.rows view.now)) subject.now.0) }
+    ensures { IfOk result (λ plan. (creates : Seq CreateText) → IsPlan (database creates (V.schema_of view.now) (V.rows view.now)) subject.now.0 plan) }
 {
     let changes = erase_changes(alloc, view, subject)?;
     ErasePlan::of_changes(alloc, changes)
