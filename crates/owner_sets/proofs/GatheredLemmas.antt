@@ -38,11 +38,11 @@ edge_within schema edge owner (place, within, is) =
     let ends = ends-old schema place edge owner (slice_get_read schema.edges (length schema.edges) place edge refl within (sym is)) in
     record { upper = ends.upper; holder = ends.holder; named = named_within schema edge ends.upper ends.lower (eqb edge.holder.0 edge.lower.0) refl }
 
-edge_held : (schema : Schema) (edge : Edge) → IsOwnerSchema schema → Contains schema.edges edge → (edge.holder ≡ edge.lower) ⊎ (edge.holder ≡ edge.upper)
+pub edge_held : (schema : Schema) (edge : Edge) → IsOwnerSchema schema → Contains schema.edges edge → (edge.holder ≡ edge.lower) ⊎ (edge.holder ≡ edge.upper)
 edge_held schema edge owner among = let is : IsOwnerEdge schema edge = all_contained (IsOwnerEdge schema) schema.edges edge owner.edges among in is.held
 
 -- what stands at one place of one table has one name
-same_standing : (db : Db) (one other : RowName) (place : ℕ) → StandsAt db one place → StandsAt db other place → one.table ≡ other.table → one ≡ other
+pub same_standing : (db : Db) (one other : RowName) (place : ℕ) → StandsAt db one place → StandsAt db other place → one.table ≡ other.table → one ≡ other
 same_standing db one other place stands also same =
     let table : ◌≡◌ {A = Option TableDef} (Some stands.definition) (Some also.definition) =
     sym stands.table_is ∙ (ap (λ (t : TableNo). slice_get db.schema.tables t.0) same ∙ also.table_is) in

@@ -5,7 +5,7 @@ mod by_edges;
 mod edges;
 mod gather;
 mod leading;
-mod link;
+pub mod link;
 mod named_row;
 mod places;
 mod schema_graph;
@@ -15,6 +15,8 @@ mod settle;
 mod which;
 
 pub use by_edges::ByEdges;
+pub use edges::links;
 pub use named_row::is_named;
+pub use places::place_named;
 pub use schema_graph::graph_of;
 pub use sets::OwnerSets;
