@@ -161,7 +161,7 @@ module _ (schema : Schema) (select : Select) where
   select-plain = both (from_faults schema select) _ (from_case select.join refl) (scoped-plain (select_scope schema select))
 
 -- the faults of an INSERT
-wrong_step : (goes nulls : Bool) (wrong null : Refusal) → NotDisk wrong → NotDisk null → AreNotDisk ((if goes then [] else wrong ∷ []) ++ (if nulls then null ∷ [] else []))
+pub wrong_step : (goes nulls : Bool) (wrong null : Refusal) → NotDisk wrong → NotDisk null → AreNotDisk ((if goes then [] else wrong ∷ []) ++ (if nulls then null ∷ [] else []))
 wrong_step true true wrong null own more = (more, tt)
 wrong_step true false wrong null own more = tt
 wrong_step false true wrong null own more = (own, (more, tt))

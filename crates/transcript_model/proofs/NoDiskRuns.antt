@@ -18,6 +18,7 @@ use Rattle.own_model.specs.declared.expression.Expr.{Expr}
 use Rattle.own_model.specs.declared.expression.Expr.TheVariants.{Column, Literal, Minus, Plus}
 use Rattle.own_model.specs.declared.history.Verdict.TheVariants.{Took}
 use Rattle.own_model.specs.declared.limit.LimitName.TheVariants as limit
+use Rattle.own_model.specs.declared.limit.TheConstants.{STORE_ROWS, STORE_WEIGHT}
 use Rattle.own_model.specs.declared.refusal.Refusal.{Refusal}
 use Rattle.own_model.specs.declared.refusal.Refusal.TheVariants as refusal
 use Rattle.own_model.specs.declared.reply.Reply.{Reply}
@@ -36,7 +37,7 @@ use Rattle.query_model.specs.BoundStatement.{bound_statement, bound_unless, faul
 use Rattle.query_model.specs.BoundView.{repeated_after, view_faults, view_names}
 use Rattle.query_model.specs.ConditionFaults.{where_faults}
 use Rattle.query_model.specs.Expression.{value_of}
-use Rattle.query_model.specs.Kinds.{are_compared, goes_with, is_text}
+use Rattle.query_model.specs.Kinds.{are_compared, goes_with, is_text, key_kind}
 use Rattle.query_model.specs.Refused.{lowest}
 use Rattle.query_model.specs.Scope.{NameBytes, Scope, table_named, table_scope}
 use Rattle.query_model.specs.SelectFaults.{no_table, select_faults}
@@ -44,13 +45,14 @@ use Rattle.query_model.specs.Truth.{is_null, keeps}
 use Rattle.query_model.specs.WriteFaults.{assigned_kind, column_in, delete_faults, expression_faults, gdpr_faults, key_write, not_a_column, set_faults, subject_faults, sum_faults, twice, update_faults}
 use Rattle.subject_model.specs.Named.{is_there}
 use Rattle.state_model.specs.Fault.{Held, fault, faults_by, first_of, held_in, limit_faults, over_rows, owner_faults, owner_rule, reference_faults, reference_rule, unique_faults, unique_rule}
+use Rattle.state_model.specs.Weight.{row_count, weight}
 use Rattle.state_model.specs.Settle.{settle, settled, too_big}
 use Rattle.run_model.specs.Run.{Outcome, add_view, create_table, create_unless, delete, forget_subject, insert, insert_into, put, run, run_bound, run_unless, show_subject, stored_unless, update, update_in, view_unless}
 use Rattle.run_model.specs.Update.{Sets, null_faults, range_faults, set_fault, update_faults as running_faults}
 use Rattle.history_model.specs.History.{is_disk}
 use Rattle.history_model.specs.Reply.{committing, is_refusal}
 use Rattle.transcript_model.specs.PlainAnswer.{plain_answer, plain_reply}
-use Rattle.transcript_model.proofs.NoDisk.{AreNotDisk, IfNotDisk, NotDisk, both, condition-plain, create-plain, each, if_either, if_meant, if_none, if_one, insert-plain, list-plain, lowest-plain, select-plain, twice-plain}
+use Rattle.transcript_model.proofs.NoDisk.{AreNotDisk, IfNotDisk, NotDisk, both, condition-plain, create-plain, each, if_meant, if_none, if_one, insert-plain, lowest-plain, select-plain, twice-plain, wrong_step}
 
 -- the faults of an UPDATE: of what a column is set to
 if_found : {X : Type 0} (h : X → List Refusal) (found : Option X) → ((x : X) → AreNotDisk (h x)) → AreNotDisk (option_map_or h found [])
@@ -61,21 +63,30 @@ assigned-plain : (name : NameBytes) (column : Option (ℕ × Definition)) (kind 
 assigned-plain name None kind = tt
 assigned-plain name (Some column) kind = if_none _ _ refl
 
+sum_step : (first second : Bool) (assigned name : NameBytes)
+    → AreNotDisk (if first then refusal.WrongKind assigned ∷ [] else (if second then refusal.WrongKind name ∷ [] else []))
+sum_step true second assigned name = (refl, tt)
+sum_step false second assigned name = if_one second (refusal.WrongKind name) refl
+
 sum-plain : (assigned : NameBytes) (column summed : Option (ℕ × Definition)) (name : NameBytes) → AreNotDisk (sum_faults assigned column summed name)
-sum-plain assigned column summed name = if_either _ (refusal.WrongKind assigned ∷ []) _ (refl, tt) (if_one _ _ refl)
+sum-plain assigned column summed name =
+    sum_step (option_map_or (λ (found : ℕ × Definition). is_text found.1.kind) column false) (option_map_or (λ (found : ℕ × Definition). is_text found.1.kind) summed false) assigned name
 
 column-plain : (table : TableDef) (name : NameBytes) → AreNotDisk (not_a_column table name)
 column-plain table name = if_meant (column_in table name) _ refl
 
 expression-plain : (table : TableDef) (assigned : NameBytes) (column : Option (ℕ × Definition)) (expr : Expr) → AreNotDisk (expression_faults table assigned column expr)
-expression-plain table assigned column (Literal value) = if_found _ column (λ found. both _ _ (if_none _ _ refl) (if_one _ _ refl))
+expression-plain table assigned column (Literal value) = if_found _ column (λ found. wrong_step (goes_with found.1.kind value) (is_null value && found.1.not_null) (refusal.WrongKind assigned) (refusal.NullValue assigned) refl refl)
 expression-plain table assigned column (Column name) = both (not_a_column table name) _ (column-plain table name) (if_found _ (column_in table name) (λ found. assigned-plain assigned column found.1.kind))
 expression-plain table assigned column (Plus name number) = both (not_a_column table name) _ (column-plain table name) (sum-plain assigned column (column_in table name) name)
 expression-plain table assigned column (Minus name number) = both (not_a_column table name) _ (column-plain table name) (sum-plain assigned column (column_in table name) name)
 
 set-plain : (table : TableDef) (set : NameBytes × Expr) → AreNotDisk (set_faults table set)
 set-plain table set =
-    both _ _ (both (not_a_column table set.0) _ (column-plain table set.0) (if_one _ _ refl)) (expression-plain table set.0 (column_in table set.0) set.1)
+    both (not_a_column table set.0 ++ key_write table set.0) _
+    (both (not_a_column table set.0) (key_write table set.0) (column-plain table set.0)
+    (if_one (option_map_or (λ (found : ℕ × Definition). found.0 == table.key.0) (column_in table set.0) false) (refusal.KeyWrite set.0) refl))
+    (expression-plain table set.0 (column_in table set.0) set.1)
 
 -- and of WHERE
 where-plain : (scope : Scope) (cond : Option Cond) → AreNotDisk (where_faults scope cond)
@@ -99,7 +110,9 @@ gdpr-plain : (schema : Schema) (name : NameBytes) (key : Key) → AreNotDisk (gd
 unfolding gdpr_faults
 gdpr-plain schema name key =
     both (no_table schema name) _ (if_one _ _ refl)
-    (if_found _ (table_named schema name) (λ found. both _ _ (if_found _ (slice_get found.1.columns found.1.key.0) (λ column. if_none _ _ refl)) (if_none _ _ refl)))
+    (if_found _ (table_named schema name) (λ found. both (option_map_or (λ (column : Definition). if are_compared column.kind (key_kind key) then [] else refusal.WrongKind column.name ∷ []) (slice_get found.1.columns found.1.key.0) []) _
+    (if_found _ (slice_get found.1.columns found.1.key.0) (λ column. if_none (are_compared column.kind (key_kind key)) (refusal.WrongKind column.name) refl))
+    (if_none found.1.subject (refusal.NotSubject name) refl)))
 
 -- the faults of a CREATE VIEW
 repeated-plain : (before names : List NameBytes) → AreNotDisk (repeated_after before names)
@@ -219,7 +232,9 @@ module _ (db : Db) where
   owner-plain = rule-plain (owner_rule db) (λ number table rows row. if_one _ _ refl) 0 db.schema.tables db.rows
 
   limits-plain : AreNotDisk (limit_faults db)
-  limits-plain = both _ _ (if_one _ _ refl) (if_one _ _ refl)
+  limits-plain =
+      both (if nat_lt STORE_ROWS (row_count db) then refusal.Limit limit.Rows ∷ [] else []) _
+      (if_one (nat_lt STORE_ROWS (row_count db)) (refusal.Limit limit.Rows) refl) (if_one (nat_lt STORE_WEIGHT (weight db)) (refusal.Limit limit.Weight) refl)
 
   fault-plain : IfNotDisk (fault db)
   unfolding fault
@@ -250,12 +265,12 @@ committing_step false false None reply is own plain = rw is plain
 -- so no answer is for want of the disk
 reply-not_disk : (db : Db) (found : Statement) → is_disk (plain_reply db found) ≡ false
 unfolding plain_reply
-reply-not_disk db (statement.CreateTable table) = committing_step _ _ _ _ refl (fault-plain _) (run-plain db (statement.CreateTable table))
-reply-not_disk db (statement.CreateView view) = committing_step _ _ _ _ refl (fault-plain _) (run-plain db (statement.CreateView view))
+reply-not_disk db (statement.CreateTable table) = committing_step _ true _ _ refl (fault-plain _) (run-plain db (statement.CreateTable table))
+reply-not_disk db (statement.CreateView view) = committing_step _ true _ _ refl (fault-plain _) (run-plain db (statement.CreateView view))
 reply-not_disk db (statement.Insert name names tuples) = committing_step _ _ _ _ refl (settle-plain db _) (run-plain db (statement.Insert name names tuples))
 reply-not_disk db (statement.Update name sets cond) = committing_step _ _ _ _ refl (settle-plain db _) (run-plain db (statement.Update name sets cond))
 reply-not_disk db (statement.Delete name cond) = committing_step _ _ _ _ refl (settle-plain db _) (run-plain db (statement.Delete name cond))
-reply-not_disk db (statement.GdprForget name key) = committing_step _ _ None _ refl tt (run-plain db (statement.GdprForget name key))
+reply-not_disk db (statement.GdprForget name key) = committing_step _ true None _ refl tt (run-plain db (statement.GdprForget name key))
 reply-not_disk db (statement.Select select) = run-plain db (statement.Select select)
 reply-not_disk db (statement.GdprGet name key) = run-plain db (statement.GdprGet name key)
 reply-not_disk db statement.Begin = run-plain db statement.Begin
