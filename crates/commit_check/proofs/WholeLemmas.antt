@@ -1,5 +1,5 @@
 -- The first fault, rule by rule.
-use Rattle.std.proofs.Common.{◌≡◌, List, [], ◌∷◌, ◌++◌, Bool, true, false, refl, ◌∙◌}
+use Rattle.std.proofs.Common.{◌≡◌, List, [], ◌∷◌, ◌++◌, Bool, true, false, refl, ap, sym, ◌∙◌}
 use Rattle.std.specs.Prelude.{Option, None, Some, if◌then◌else◌, nat_lt}
 use Rattle.own_model.specs.declared.limit.LimitName.TheVariants as limit
 use Rattle.own_model.specs.declared.limit.TheConstants.{STORE_ROWS, STORE_WEIGHT}
@@ -8,6 +8,9 @@ use Rattle.own_model.specs.declared.refusal.Refusal.TheVariants.{Limit}
 use Rattle.own_model.specs.Db.{Db}
 use Rattle.state_model.specs.Fault.{fault, first_of, limit_faults, owner_faults, reference_faults, unique_faults}
 use Rattle.state_model.specs.Weight.{row_count, weight}
+use Rattle.commit_check.specs.declared.judged.Judged.{Judged}
+use Rattle.commit_check.specs.declared.judged.Judged.TheVariants.{Fault, Weighs}
+use Rattle.commit_check.specs.Judged.{IsJudged, IsWeighed}
 use Rattle.commit_check.proofs.FirstLemmas.{first-before, first-behind}
 
 -- a fault where a limit is passed
@@ -59,3 +62,8 @@ module _ (db : Db) where
 
         pub by_weight : past (nat_lt STORE_ROWS (row_count db)) (Limit limit.Rows) ≡ None → fault db ≡ past (nat_lt STORE_WEIGHT (weight db)) (Limit limit.Weight)
         by_weight none = by_limits ∙ weight_step (nat_lt STORE_ROWS (row_count db)) (nat_lt STORE_WEIGHT (weight db)) (Limit limit.Rows) (Limit limit.Weight) none
+
+        -- what is judged of the weight is judged of the whole
+        pub by_judged : past (nat_lt STORE_ROWS (row_count db)) (Limit limit.Rows) ≡ None → (judged : Judged) → IsWeighed (weight db) judged → IsJudged db judged
+        by_judged none (Fault why) weighs = by_weight none ∙ (ap (λ heavy. past heavy (Limit limit.Weight)) weighs.0 ∙ ap (λ fault. Some fault) (sym weighs.1))
+        by_judged none (Weighs size) weighs = (by_weight none ∙ ap (λ heavy. past heavy (Limit limit.Weight)) weighs.0, weighs.1)

@@ -1,3 +1,4 @@
 pub mod Firsts
 pub mod ValueCounts
 pub mod Saturated
+pub mod Judged

@@ -3,6 +3,7 @@
 
 mod graph_of;
 mod held_value;
+mod judged;
 mod naming;
 mod owner;
 mod reference;
@@ -12,9 +13,10 @@ mod value_counts;
 mod weight;
 mod whole;
 
+pub use judged::{Judged, judge_weight};
 pub use owner::first_owner_fault;
 pub use reference::first_reference_fault;
 pub use rows::row_limit_fault;
 pub use unique::first_unique_fault;
-pub use weight::weight_limit_fault;
-pub use whole::first_fault_flat;
+pub use weight::{row_size, shown_size, weight_limit_fault};
+pub use whole::{first_fault_flat, judge_flat};

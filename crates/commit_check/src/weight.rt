@@ -10,14 +10,15 @@ ghost use Rattle.subject_model.specs.Named.{named_rows, rows_in};
 ghost use Rattle.subject_model.specs.Owners.{owners, reach};
 ghost use Rattle.commit_check.specs.Saturated.{saturated};
 
+use crate::judged::{Judged, judge_weight};
 use own_base::{ROW_SIZE, Row, Subject, TableNo, VALUE_SIZE};
 use own_model::{
     BoundItem, LimitName, Refusal, STORE_WEIGHT, Source1, StoreView, TableDef, ViewDef,
 };
 use owner_sets::OwnerSets;
 
-/// The size of a row, as far as 64 bits tell it.
-fn row_size(row: &Row) -> u64
+/// The size of a row, as far as 64 bits tell it. Takes no memory.
+pub fn row_size(row: &Row) -> u64
     ensures { result ≡ saturated (row_size row.now) }
 {
     let mut size = ROW_SIZE;
@@ -91,8 +92,8 @@ fn item_size(row: &Row, item: &BoundItem) -> u64
     }
 }
 
-/// The size of what a view shows of a row.
-fn shown_size(row: &Row, items: &[BoundItem]) -> u64
+/// The size of what a view's items show of a row, as far as 64 bits tell it. Takes no memory.
+pub fn shown_size(row: &Row, items: &[BoundItem]) -> u64
     ensures { result ≡ saturated (ROW_SIZE + sum_by (item_size row.now) items.now) }
 {
     let mut size = ROW_SIZE;
@@ -149,8 +150,19 @@ fn views_weight<V: StoreView>(view: &V) -> u64
     total
 }
 
-/// A greater weight than a store may have, given the sets of the view's rows. Takes no memory.
+/// What all rows and views weigh, as far as 64 bits tell it, given the sets of the view's rows. Takes no memory.
 #[tactic(auto, unfolding(state_model::specs::Weight::weight))]
+pub(crate) fn weight_of<V: StoreView>(view: &V, sets: &OwnerSets) -> u64
+    requires limits { IsWithinLimits (V.schema_of view.now) }
+    requires ordered { IsOrdered (db_of (V.schema_of view.now) (V.rows view.now)) }
+    requires owners { AreSetsOf (db_of (V.schema_of view.now) (V.rows view.now)) (owners (db_of (V.schema_of view.now) (V.rows view.now))) sets.now.owners }
+    requires reach { AreSetsOf (db_of (V.schema_of view.now) (V.rows view.now)) (reach (db_of (V.schema_of view.now) (V.rows view.now))) sets.now.reach }
+    ensures { result ≡ saturated (weight (db_of (V.schema_of view.now) (V.rows view.now))) }
+{
+    rows_weight(view, sets).saturating_add(views_weight(view))
+}
+
+/// A greater weight than a store may have, given the sets of the view's rows. Takes no memory.
 pub fn weight_limit_fault<V: StoreView>(view: &V, sets: &OwnerSets) -> Option<Refusal>
     requires limits { IsWithinLimits (V.schema_of view.now) }
     requires ordered { IsOrdered (db_of (V.schema_of view.now) (V.rows view.now)) }
@@ -158,10 +170,8 @@ pub fn weight_limit_fault<V: StoreView>(view: &V, sets: &OwnerSets) -> Option<Re
     requires reach { AreSetsOf (db_of (V.schema_of view.now) (V.rows view.now)) (reach (db_of (V.schema_of view.now) (V.rows view.now))) sets.now.reach }
     ensures { result ≡ (if nat_lt STORE_WEIGHT (weight (db_of (V.schema_of view.now) (V.rows view.now))) then Some (Refusal.Limit LimitName.Weight) else None) }
 {
-    let weight = rows_weight(view, sets).saturating_add(views_weight(view));
-    if weight > STORE_WEIGHT {
-        Some(Refusal::Limit(LimitName::Weight))
-    } else {
-        None
+    match judge_weight(weight_of(view, sets)) {
+        Judged::Fault(why) => Some(why),
+        Judged::Weighs(_) => None,
     }
 }
