@@ -3,3 +3,4 @@ pub mod OwnedRows
 pub mod OwnedTables
 pub mod RuleNames
 pub mod SoundSchemas
+pub mod ViewedSchemas

@@ -1,9 +1,10 @@
 -- What a catalog stands for, and what a CREATE TABLE adds to it.
-use Rattle.std.specs.Prelude.{◌≡◌, ◌≤◌, ◌*◌, ◌∷◌, [], ◌++◌, ℕ, List, Bool, false, None, length}
+use Rattle.std.specs.Prelude.{◌≡◌, ◌≤◌, ◌*◌, ◌∷◌, [], ◌++◌, ℕ, List, Bool, false, true, None, length}
 use Rattle.own_model.specs.declared.create.CreateTable.{CreateTable}
 use Rattle.own_model.specs.declared.limit.TheConstants.{TABLE_COLUMNS, VIEWS}
 use Rattle.own_model.specs.declared.schema.CreateText.{CreateText}
 use Rattle.own_model.specs.declared.schema.Schema.{Schema}
+use Rattle.own_model.specs.declared.schema.ViewDef.{ViewDef}
 use Rattle.schema_draft.specs.Names.{AreNamesOf, NameList}
 use Rattle.schema_model.specs.NewEdges.{new_edges}
 use Rattle.schema_model.specs.NewTable.{new_table}
@@ -59,4 +60,19 @@ abbrev pub created_with : Created → Admitted → List ℕ → Created
 created_with before admitted text = record {
   schema = schema_with before.schema admitted;
   creates = before.creates ++ record { view = false; text = text } ∷ [];
+}
+
+-- a schema with a view at the end
+abbrev pub schema_viewed : Schema → ViewDef → Schema
+schema_viewed schema view = record {
+  tables = schema.tables;
+  views = schema.views ++ view ∷ [];
+  edges = schema.edges;
+}
+
+-- a catalog with it, and the text of its create
+abbrev pub created_viewed : Created → ViewDef → List ℕ → Created
+created_viewed before view text = record {
+  schema = schema_viewed before.schema view;
+  creates = before.creates ++ record { view = true; text = text } ∷ [];
 }

@@ -6,7 +6,7 @@ ghost use Rattle.schema_model.specs.Columns.{columns_of};
 ghost use Rattle.schema_model.specs.Explained.{explained};
 ghost use Rattle.schema_model.specs.Refusal.{refusal_of};
 ghost use Rattle.schema_model.specs.WithTable.{with_table};
-ghost use Rattle.annot_schema.specs.Created.{IsAdmissible, IsAdmitted, IsSound, created_with, nothing_created, schema_with};
+ghost use Rattle.annot_schema.specs.Created.{IsAdmissible, IsAdmitted, IsSound, created_viewed, created_with, nothing_created, schema_viewed, schema_with};
 ghost use Rattle.annot_schema.specs.Told.{IsCause};
 
 use crate::admit::admit;
@@ -15,7 +15,7 @@ use crate::explain::explained;
 use crate::fault::SchemaFault;
 use crate::longer::{with_item, with_items};
 use own_base::{List, MakeCopy, Name, TableNo, Text};
-use own_model::{CreateTable, CreateText, Reply, Schema, StoreView};
+use own_model::{CreateTable, CreateText, Reply, Schema, StoreView, VIEWS, ViewDef};
 use schema_draft::Names;
 use std::alloc::{AllocError, Global};
 use std::marker::Model;
@@ -50,6 +50,20 @@ fn schema_with(alloc: Global, schema: &Schema, admitted: Admitted) -> Result<Sch
     let tables = with_item(alloc, &schema.tables, table)?;
     let views = schema.views.copy(alloc)?;
     let edges = with_items(alloc, &schema.edges, edges)?;
+    Ok(Schema {
+        tables,
+        views,
+        edges,
+    })
+}
+
+/// The schema with a view at the end.
+fn schema_viewed(alloc: Global, schema: &Schema, view: ViewDef) -> Result<Schema, AllocError>
+    ensures { IfOk result (λ all. all ≡ schema_viewed schema.now view) }
+{
+    let tables = schema.tables.copy(alloc)?;
+    let views = with_item(alloc, &schema.views, view)?;
+    let edges = schema.edges.copy(alloc)?;
     Ok(Schema {
         tables,
         views,
@@ -133,6 +147,25 @@ impl Catalog {
     {
         let schema = schema_with(alloc, &self.schema, admitted)?;
         let creates = with_item(alloc, &self.creates, CreateText { view: false, text })?;
+        let names = Names::of(alloc, &schema)?;
+        Ok(Catalog {
+            schema,
+            creates,
+            names,
+        })
+    }
+    /// This catalog with a view at the end, and with the text of its create. There is room for one view more.
+    pub fn with_view(
+        &self,
+        alloc: Global,
+        view: ViewDef,
+        text: Text,
+    ) -> Result<Catalog, AllocError>
+        requires { length self.now.schema.views < VIEWS }
+        ensures { IfOk result (λ catalog. catalog ≡ created_viewed self.now view text) }
+    {
+        let schema = schema_viewed(alloc, &self.schema, view)?;
+        let creates = with_item(alloc, &self.creates, CreateText { view: true, text })?;
         let names = Names::of(alloc, &schema)?;
         Ok(Catalog {
             schema,

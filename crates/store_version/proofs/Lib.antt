@@ -1,0 +1,3 @@
+mod NamedRows
+mod PartsAfter
+pub mod TheirParts

@@ -1,0 +1,10 @@
+//! The state of a store in one piece: its catalog and the rows of each table, in parts that versions share. A next version is
+//! prepared beside the one that stands, and takes its place without taking memory.
+#![tactic(auto)]
+
+mod after;
+mod preparing;
+mod version;
+
+pub use preparing::{prepare, prepare_table, prepare_view, publish};
+pub use version::{Next, Version};

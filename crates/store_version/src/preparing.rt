@@ -1,0 +1,74 @@
+ghost use Rattle.std.specs.Prelude.{◌≡◌, ◌<◌, ℕ, filter, length, IfOk};
+ghost use Rattle.std.specs.List.{AllByRecursion};
+ghost use Rattle.own_model.specs.declared.limit.TheConstants.{VIEWS};
+ghost use Rattle.annot_schema.specs.Created.{IsAdmissible};
+ghost use Rattle.table_part.specs.Changes.{KeysDiffer};
+ghost use Rattle.txn_space.specs.Put.{IsChangeOf, is_of_table, put_rows};
+ghost use Rattle.store_version.specs.Added.{db_viewed, db_with};
+
+use crate::after::{parts_after, parts_copied};
+use crate::version::{Next, Version};
+use annot_schema::Admitted;
+use own_base::{Change, Text};
+use own_model::ViewDef;
+use std::alloc::{AllocError, Global};
+use std::sync::Arc;
+use table_part::TablePart;
+
+/// The version with changes of rows, which may come in any order. What each says was there before isn't looked at.
+pub fn prepare(alloc: Global, version: &Version, changes: &[Change]) -> Result<Next, AllocError>
+    requires theirs { AllByRecursion (IsChangeOf version.now.schema.tables) changes.now }
+    requires once { (number : ℕ) → KeysDiffer (filter (is_of_table number) changes.now) }
+    ensures { IfOk result (λ next. next ≡ record version.now { rows = put_rows version.now.schema.tables changes.now version.now.rows }) }
+{
+    let parts = parts_after(alloc, &version.catalog, &version.parts, changes)?;
+    let catalog = Arc::try_clone(&version.catalog)?;
+    Ok(Next {
+        version: Version { catalog, parts },
+    })
+}
+
+/// The version with a table that was admitted over its schema, without rows, and with the text of its create.
+pub fn prepare_table(
+    alloc: Global,
+    version: &Version,
+    admitted: Admitted,
+    text: Text,
+) -> Result<Next, AllocError>
+    requires { IsAdmissible version.now.schema admitted }
+    ensures { IfOk result (λ next. next ≡ db_with version.now admitted text) }
+{
+    let part = TablePart::new(admitted.table.key);
+    let catalog = version.catalog.with_table(alloc, admitted, text)?;
+    let catalog = Arc::new(alloc, catalog)?;
+    let mut parts = parts_copied(alloc, &version.parts)?;
+    parts.push(part)?;
+    Ok(Next {
+        version: Version { catalog, parts },
+    })
+}
+
+/// The version with a view that was bound on its schema, and with the text of its create. There is room for one more.
+pub fn prepare_view(
+    alloc: Global,
+    version: &Version,
+    definition: ViewDef,
+    text: Text,
+) -> Result<Next, AllocError>
+    requires { length version.now.schema.views < VIEWS }
+    ensures { IfOk result (λ next. next ≡ db_viewed version.now definition text) }
+{
+    let catalog = version.catalog.with_view(alloc, definition, text)?;
+    let catalog = Arc::new(alloc, catalog)?;
+    let parts = parts_copied(alloc, &version.parts)?;
+    Ok(Next {
+        version: Version { catalog, parts },
+    })
+}
+
+/// Puts the next version in the place of the one that it was prepared from. Takes no memory.
+pub fn publish(version: &mut Version, next: Next)
+    ensures { version.new ≡ next }
+{
+    *version = next.version;
+}
