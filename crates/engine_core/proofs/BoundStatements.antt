@@ -2,6 +2,7 @@
 use Rattle.std.proofs.Common.{◌≡◌, Bool, true, false, refl, ap, subst, sym, ◌∙◌}
 use Rattle.std.specs.Prelude.{Option, None, Some, Ok, Err}
 use Rattle.own_model.specs.declared.bound.Bound.{Bound}
+use Rattle.own_model.specs.declared.history.Verdict.TheVariants.{Took}
 use Rattle.own_model.specs.declared.refusal.Refusal.{Refusal}
 use Rattle.own_model.specs.declared.reply.Reply.TheVariants.{Refused}
 use Rattle.own_model.specs.declared.schema.Schema.{Schema}
@@ -11,8 +12,8 @@ use Rattle.own_model.specs.Db.{Db}
 use Rattle.query_model.specs.BoundStatement.{bound_statement, bound_unless, faults, meaning}
 use Rattle.query_model.specs.Refused.{lowest}
 use Rattle.readable_model.proofs.Sources.{source_is_there}
-use Rattle.run_model.specs.Run.{run, run_bound}
-use Rattle.history_model.specs.Built.{is_built}
+use Rattle.run_model.specs.Run.{Outcome, answered, run, run_bound}
+use Rattle.history_model.specs.Reply.{write_reply}
 use Rattle.transcript_model.specs.PlainAnswer.{plain_reply}
 use Rattle.write_eval.proofs.BoundWrites.{bound_write}
 use Rattle.engine_core.specs.Answered.{Tells, bound_reply, left}
@@ -71,14 +72,25 @@ reply-bound db found got bound is =
     let by = meant_by db.schema found got is in
     reply-meant db found bound (run-bound db found (meaning db.schema found) bound (is ∙ ap (λ meant. Ok meant) (sym by.1))) ∙ ap (bound_reply db) by.1
 
+run-refused : (db : Db) (found : Statement) (why : Refusal) → IsBound found → bound_statement db.schema found ≡ Err why → run db found ≡ answered db (Refused why)
+unfolding run
+run-refused db (statement.Select select) why bound is = rw is refl
+run-refused db (statement.Insert name names tuples) why bound is = rw is refl
+run-refused db (statement.Update name sets cond) why bound is = rw is refl
+run-refused db (statement.Delete name cond) why bound is = rw is refl
+run-refused db _ why bound is = absurd bound
+
+reply-step : (db : Db) (found : Statement) (why : Refusal) → IsBound found → run db found ≡ answered db (Refused why) → plain_reply db found ≡ Refused why
+unfolding plain_reply
+reply-step db (statement.Select select) why bound runs = ap (λ outcome. outcome.reply) runs
+reply-step db (statement.Insert name names tuples) why bound runs = ap (λ (outcome : Outcome). write_reply Took db outcome) runs
+reply-step db (statement.Update name sets cond) why bound runs = ap (λ (outcome : Outcome). write_reply Took db outcome) runs
+reply-step db (statement.Delete name cond) why bound runs = ap (λ (outcome : Outcome). write_reply Took db outcome) runs
+reply-step db _ why bound runs = absurd bound
+
 -- a statement that binding refuses is told why
 pub reply-refused : (db : Db) (found : Statement) (why : Refusal) → IsBound found → bound_statement db.schema found ≡ Err why → plain_reply db found ≡ Refused why
-unfolding plain_reply run
-reply-refused db (statement.Select select) why bound is = rw is refl
-reply-refused db (statement.Insert name names tuples) why bound is = rw is refl
-reply-refused db (statement.Update name sets cond) why bound is = rw is refl
-reply-refused db (statement.Delete name cond) why bound is = rw is refl
-reply-refused db _ why bound is = absurd bound
+reply-refused db found why bound is = reply-step db found why bound (run-refused db found why bound is)
 
 -- which leaves the database
 pub tells-refused : (db behind : Db) (why : Refusal) (answer : Answer) → answer.reply ≡ Refused why → answer.next ≡ None → Tells db (Refused why) behind answer

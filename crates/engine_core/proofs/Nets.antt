@@ -1,11 +1,13 @@
 -- A commit without changes.
-use Rattle.std.proofs.Common.{◌≡◌, ℕ, ◌+◌, List, [], ◌∷◌, Bool, true, false, refl, ap, sym, subst, ◌∙◌}
-use Rattle.std.specs.Prelude.{None, if◌then◌else◌}
+use Rattle.std.proofs.Common.{◌≡◌, ℕ, ◌+◌, List, [], ◌∷◌, length, Bool, true, false, refl, ap, sym, ◌∙◌, arith}
+use Rattle.std.specs.Prelude.{◌==◌, None, if◌then◌else◌}
+use Rattle.std.proofs.lemmas.Bool.{eqb-true}
 use Rattle.own_base.specs.declared.change.Change.{Change}
 use Rattle.own_model.specs.declared.history.Verdict.TheVariants.{Took}
 use Rattle.own_model.specs.declared.reply.Reply.{Reply}
 use Rattle.own_model.specs.declared.schema.TableDef.{TableDef}
 use Rattle.own_model.specs.Db.{AreRising, Db, Row}
+use Rattle.page_model.specs.Changed.{with_changes}
 use Rattle.state_model.specs.Fault.{fault}
 use Rattle.state_model.specs.Net.{net}
 use Rattle.state_model.specs.Payload.{payload_bytes}
@@ -19,11 +21,15 @@ use Rattle.engine_core.specs.declared.answer.Answer.{Answer}
 
 -- no change leaves the rows
 put-none : (number : ℕ) (tables : List TableDef) (rows : List (List Row)) → AreRising tables rows → put_from number tables [] rows ≡ rows
-unfolding put_from
+unfolding put_from with_changes
 put-none number [] [] rising = refl
 put-none number [] (first ∷ rest) rising = absurd rising
 put-none number (table ∷ tables) [] rising = absurd rising
 put-none number (table ∷ tables) (first ∷ rest) rising = ap (λ rest. first ∷ rest) (put-none (number + 1) tables rest rising.1)
+
+pub none-of : (list : List Change) → (length list == 0) ≡ true → list ≡ []
+none-of [] is = refl
+none-of (change ∷ list) is = let never = eqb-true (length (change ∷ list)) 0 is in absurd (omega arith)
 
 module _ (db : Db) (sound : Sound db) where
   pub changed-none : changed db [] ≡ db

@@ -1,9 +1,10 @@
 -- The state of a history in which no session is ever in a transaction.
-use Rattle.std.proofs.Common.{◌≡◌, ℕ, List, [], ◌∷◌, ◌++◌, length, take, refl, ap, subst, sym, ◌∙◌, arith}
+use Rattle.std.proofs.Common.{◌≡◌, ℕ, ◌+◌, ◌≤◌, List, [], ◌∷◌, ◌++◌, length, take, refl, ap, subst, sym, ◌∙◌, arith}
 use Rattle.std.specs.Prelude.{Some}
 use Rattle.std.proofs.Math.Seq.{take-length}
 use Rattle.own_model.specs.declared.history.Entry.{Entry}
 use Rattle.own_model.specs.declared.limit.TheConstants.{SESSIONS}
+use Rattle.own_model.specs.declared.reply.Reply.{Reply}
 use Rattle.own_model.specs.declared.request.Request.{Request}
 use Rattle.own_model.specs.declared.request.Request.TheVariants.{Run, Syntax, Limit, End}
 use Rattle.own_model.specs.Db.{Db, empty}
@@ -17,7 +18,7 @@ use Rattle.transcript_model.proofs.BuiltStatements.{is_built-of}
 use Rattle.transcript_model.proofs.PlainHistories.{plain-none, serial-plain}
 use Rattle.transcript_model.proofs.PlainWorlds.{plain-append}
 use Rattle.engine_core.specs.Asked.{IsBuiltRequest}
-use Rattle.engine_core.specs.Seen.{StandsFor}
+use Rattle.engine_core.specs.Seen.{Makes, Seen, StandsFor}
 
 -- before any entry
 flat-none : flat empty [] ≡ empty
@@ -48,3 +49,15 @@ built-request session (Run statement) same = is_built-of session statement same
 built-request session (Syntax byte) same = tt
 built-request session (Limit passed) same = tt
 built-request session End same = tt
+
+-- so a call is made
+pub makes-of : {D : Type 0} (before after : Seen D) (made : Entry) (place : ℕ) (told : Reply) → IsPlain (before.history ++ made ∷ [])
+    → told ≡ plain_answer (flat empty before.history) made.request → after.history ≡ before.history ++ made ∷ [] → place ≡ length before.history
+    → before.spare ≤ after.spare + 1 → after.disk ≡ before.disk → Makes before after made place told
+makes-of before after made place told plain is grown stands room disk = record {
+  history = grown;
+  stands = stands;
+  answered = ap (λ h. reply empty h place) grown ∙ (ap (reply empty (before.history ++ made ∷ [])) stands ∙ (reply-more before.history made plain ∙ ap (λ r. Some r) (sym is)));
+  spare = room;
+  disk = disk;
+}

@@ -17,13 +17,17 @@ use Rattle.own_model.specs.declared.select.Order.{Order}
 use Rattle.own_model.specs.declared.select.Select.{Select}
 use Rattle.query_model.specs.BoundView.{new_view, view_faults}
 use Rattle.query_model.specs.Refused.{lowest}
-use Rattle.query_model.specs.Scope.{NameBytes, table_named}
-use Rattle.query_model.specs.SelectFaults.{no_table, select_faults, view_named}
-use Rattle.query_model.specs.SelectMeaning.{bound_select, number_found}
+use Rattle.query_model.specs.Scope.{NameBytes, table_named, view_named}
+use Rattle.query_model.specs.SelectFaults.{no_table, select_faults}
+use Rattle.query_model.specs.SelectMeaning.{bound_select}
 use Rattle.query_eval.specs.Sources.{IsBaseOf}
 use Rattle.readable_model.specs.Sources.{IsSourceThere, IsThere}
 use Rattle.readable_model.proofs.NoFaults.{none-first, none-if, none-last}
 use Rattle.readable_model.proofs.Sources.{source_is_there}
+
+-- a source that is one table
+abbrev number_found : {A : Type 0} → Option (ℕ × A) → ℕ
+number_found found = option_map_or (λ found. found.0) found 0
 
 base-one : (schema : Schema) (grouped : Bool) (table : Option (ℕ × TableDef)) (view : Option (ℕ × ViewDef)) → is_none table ≡ false
     → IsSourceThere schema grouped (option_map_or (λ found. Table (record { 0 = found.0 })) table (View (record { 0 = number_found view })))

@@ -20,6 +20,15 @@ pub record Seen (D : Type 0) : Type 0 where
   pub spare : ℕ
   pub disk : D
 
+abbrev pub history_of : {D : Type 0} → Seen D → History
+history_of seen = seen.history
+
+abbrev pub spare_of : {D : Type 0} → Seen D → ℕ
+spare_of seen = seen.spare
+
+abbrev pub disk_of : {D : Type 0} → Seen D → D
+disk_of seen = seen.disk
+
 -- The state is the flat database of the history, in which no session is ever in a transaction.
 pub record StandsFor (db : Db) (history : History) : Type 0 where
   pub plain : IsPlain history

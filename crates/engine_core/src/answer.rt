@@ -27,8 +27,7 @@ impl Answer {
 
     /// A refusal, unless it is for want of memory.
     pub(crate) fn refused(why: Refusal) -> Result<Answer, AllocError>
-        ensures told { IfOk result (λ answer. (answer.reply ≡ Refused why) × (answer.next ≡ None)) }
-        ensures ok { IfOk result (λ _. why ≢ Memory) }
+        ensures { IfOk result (λ answer. (answer.reply ≡ Refused why) × ((answer.next ≡ None) × (why ≢ Memory))) }
     {
         match why {
             Refusal::Memory => Err(AllocError),

@@ -8,7 +8,7 @@ ghost use Rattle.state_model.specs.Settle as spec;
 ghost use Rattle.state_model.specs.Sound.{IsKept, Sound};
 ghost use Rattle.payload_size.specs.SoundNet.{IsSoundNet};
 ghost use Rattle.history_model.specs.Reply as spec_of;
-ghost use Rattle.history_model.specs.Reply.{changes, committing};
+ghost use Rattle.history_model.specs.Reply.{committing};
 ghost use Rattle.engine_core.specs.Answered.{Tells};
 ghost use Rattle.engine_core.specs.Changed.{IsNet, changed};
 
@@ -99,10 +99,13 @@ pub(crate) fn commit(
     requires sound { Sound version.now }
     requires net { IsNet version.now changes.now }
     requires kept { IsKept (changed version.now changes.now) }
-    ensures { IfOk result (Tells version.now (committing Took (changes version.now (changed version.now changes.now))
+    ensures { IfOk result (Tells version.now (committing Took (spec_of.changes version.now (changed version.now changes.now))
         (spec.settle version.now (changed version.now changes.now)) reply) (changed version.now changes.now)) }
 {
-    if is_refusal(&reply) || changes.is_empty() {
+    if is_refusal(&reply) {
+        return Ok(Answer::told(reply));
+    }
+    if changes.is_empty() {
         return Ok(Answer::told(reply));
     }
     let next = prepare(alloc, version, changes)?;

@@ -13,7 +13,6 @@ ghost use Rattle.engine_core.specs.Answered.{Tells};
 
 use crate::answer::Answer;
 use crate::commit::{first_fault, settled};
-use annot_schema::SchemaFault;
 use own_model::{CreateTable, CreateView, Reply, Statement};
 use plan_bind::bind_view;
 use sql_print::print_statement;
@@ -55,8 +54,7 @@ pub(crate) fn create_table(
                 Err(refused)
             }
         },
-        Err(SchemaFault::Memory) => Err(AllocError),
-        Err(fault) => Ok(Answer::told(Reply::Refused(fault.into_refusal()))),
+        Err(fault) => Answer::refused(fault.into_refusal()),
     }
 }
 
