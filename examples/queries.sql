@@ -9,7 +9,7 @@ CREATE TABLE products (id INT PRIMARY KEY, name TEXT NOT NULL, kind TEXT, price 
 -- What was sold: of which product, how many pieces, and in which town; NULL is a sale on the web.
 CREATE TABLE sales (id INT PRIMARY KEY, product INT NOT NULL, pieces INT NOT NULL, town TEXT);
 
--- An INSERT puts up to four rows. Without a list of columns a row has a value for each column.
+-- An INSERT puts a row or several. Without a list of columns a row has a value for each column.
 INSERT INTO products VALUES (3, 'cup', 'kitchen', 1250, 1400), (1, 'green tea', 'drinks', 480, 450);
 -- With a list the values come in its order, and a column that isn't listed gets NULL.
 INSERT INTO products (name, id, price, kind) VALUES ('coffee', 2, 890, 'drinks'), ('teapot', 5, 4200, 'kitchen');

@@ -11,4 +11,3 @@ pub mod UniqueLemmas
 pub mod SaturatedLemmas
 pub mod WeightLemmas
 pub mod WholeLemmas
-pub mod GraphThere

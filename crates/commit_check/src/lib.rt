@@ -1,7 +1,6 @@
 //! The first fault of a store's state as a whole.
 #![tactic(auto)]
 
-mod graph_of;
 mod held_value;
 mod judged;
 mod naming;

@@ -6,7 +6,6 @@ ghost use Rattle.schema_model.specs.WithinLimits.{IsWithinLimits};
 ghost use Rattle.state_model.specs.Fault.{fault};
 ghost use Rattle.commit_check.specs.Judged.{IsJudged};
 
-use crate::graph_of::graph_of;
 use crate::judged::{Judged, judge_weight};
 use crate::owner::first_owner_fault;
 use crate::reference::first_reference_fault;
@@ -14,7 +13,7 @@ use crate::rows::row_limit_fault;
 use crate::unique::first_unique_fault;
 use crate::weight::weight_of;
 use own_model::{Refusal, StoreView};
-use owner_sets::OwnerSets;
+use owner_sets::{OwnerSets, graph_of};
 use std::alloc::{AllocError, Global};
 
 /// The first fault of a store's state as a whole, or its weight: a fault of a UNIQUE column, else of a reference, else a row

@@ -38,11 +38,11 @@ edge_within schema edge owner (place, within, is) =
     let ends = ends-old schema place edge owner (slice_get_read schema.edges (length schema.edges) place edge refl within (sym is)) in
     record { upper = ends.upper; holder = ends.holder; named = named_within schema edge ends.upper ends.lower (eqb edge.holder.0 edge.lower.0) refl }
 
-edge_held : (schema : Schema) (edge : Edge) → IsOwnerSchema schema → Contains schema.edges edge → (edge.holder ≡ edge.lower) ⊎ (edge.holder ≡ edge.upper)
+pub edge_held : (schema : Schema) (edge : Edge) → IsOwnerSchema schema → Contains schema.edges edge → (edge.holder ≡ edge.lower) ⊎ (edge.holder ≡ edge.upper)
 edge_held schema edge owner among = let is : IsOwnerEdge schema edge = all_contained (IsOwnerEdge schema) schema.edges edge owner.edges among in is.held
 
 -- what stands at one place of one table has one name
-same_standing : (db : Db) (one other : RowName) (place : ℕ) → StandsAt db one place → StandsAt db other place → one.table ≡ other.table → one ≡ other
+pub same_standing : (db : Db) (one other : RowName) (place : ℕ) → StandsAt db one place → StandsAt db other place → one.table ≡ other.table → one ≡ other
 same_standing db one other place stands also same =
     let table : ◌≡◌ {A = Option TableDef} (Some stands.definition) (Some also.definition) =
     sym stands.table_is ∙ (ap (λ (t : TableNo). slice_get db.schema.tables t.0) same ∙ also.table_is) in
@@ -92,7 +92,7 @@ module _ (db : Db) (ordered : IsOrdered db) where
       own_step name at stands subject (is_subject db.schema name.table.0) refl (subject_row-standing db name at ordered stands)
 
 module _ (which : Which) (db : Db) (done : Sets) (ordered : IsOrdered db) where
-  abbrev HandsDown : RowName → Subject → Type 0
+  abbrev pub HandsDown : RowName → Subject → Type 0
   HandsDown upper subject = IsSubject db subject.0 upper ⊎ (IsFalse (is_subject_row db upper) × Contains (listed which db upper) subject.0)
 
   abbrev IsDone : ℕ → Type 0
@@ -126,7 +126,7 @@ module _ (which : Which) (db : Db) (done : Sets) (ordered : IsOrdered db) where
       handed_step upper at stands above subject (is_subject db.schema upper.table.0) (subject_row-standing db upper at ordered stands)
 
   -- A row has a subject over an edge that joins it to a row that hands the subject down.
-  record HasOver (edge : Edge) (subject : Subject) (name : RowName) : Type 0 where
+  pub record HasOver (edge : Edge) (subject : Subject) (name : RowName) : Type 0 where
     pub upper : RowName
     pub joined : Joins db name edge upper
     pub has : HandsDown upper subject
@@ -152,7 +152,7 @@ module _ (which : Which) (db : Db) (done : Sets) (ordered : IsOrdered db) where
     over_step name place stands table subject l linked false is listed = absurd (contains_none subject listed)
 
     -- what comes down over an edge
-    over_edge-has : (name : RowName) (place : ℕ) → StandsAt db name place → name.table ≡ edge.lower → (subject : Subject)
+    pub over_edge-has : (name : RowName) (place : ℕ) → StandsAt db name place → name.table ≡ edge.lower → (subject : Subject)
         → Contains (over_edge db.schema db.rows done edge place) subject → HasOver edge subject name
     unfolding over_edge
     over_edge-has name place stands table subject listed =
@@ -160,7 +160,7 @@ module _ (which : Which) (db : Db) (done : Sets) (ordered : IsOrdered db) where
         over_step name place stands table subject l (links-joined db edge ordered among (edge_within db.schema edge owner among) (edge_held db.schema edge owner among) l at)
         (eqb l.lower place) refl own
 
-    has-over_edge : (name : RowName) (place : ℕ) → StandsAt db name place → (subject : Subject) → HasOver edge subject name → Contains (over_edge db.schema db.rows done edge place) subject
+    pub has-over_edge : (name : RowName) (place : ℕ) → StandsAt db name place → (subject : Subject) → HasOver edge subject name → Contains (over_edge db.schema db.rows done edge place) subject
     unfolding over_edge
     has-over_edge name place stands subject over =
         let (at, upper_stands) = standing_there db over.upper over.joined.upper_there in

@@ -47,14 +47,14 @@ module _ (tables : ℕ) (edges : List Edge) (order : List TableNo) (graph : IsGr
       (contains_map (λ (t : TableNo). t.0) order table (at_contained order at table is)))
 
   -- and it has each
-  order_has : (table : TableNo) → table.0 < tables → (at : ℕ) × (slice_get order at ≡ Some table)
+  pub order_has : (table : TableNo) → table.0 < tables → (at : ℕ) × (slice_get order at ≡ Some table)
   order_has table within =
       let (other, among, is) = contains_of_map (λ (t : TableNo). t.0) order table.0
       (Contains-permutation (range_with_len 0 tables) (map (λ t. t.0) order) table.0 graph.each_once (contains_range tables table.0 within)) in
       contained_at order table (subst (Contains order) (same_number other table is) among)
 
   -- an edge out of a table leads to one before it
-  order_before : (edge : Edge) (place : ℕ) (table : TableNo) → Contains (filter (λ edge. edge.lower.0 == table.0) edges) edge → slice_get order place ≡ Some table
+  pub order_before : (edge : Edge) (place : ℕ) (table : TableNo) → Contains (filter (λ edge. edge.lower.0 == table.0) edges) edge → slice_get order place ≡ Some table
       → (at : ℕ) × (at < place) × (slice_get order at ≡ Some edge.upper)
   order_before edge place table among is =
       let kept = contains_of_filter (λ (e : Edge). e.lower.0 == table.0) edges edge among in

@@ -9,3 +9,7 @@ pub mod GatheredLemmas
 pub mod SetsLemmas
 pub mod InOrder
 pub mod AnyCreates
+pub mod LeadingLemmas
+pub mod MarkLemmas
+pub mod GraphThere
+pub mod SamePaths

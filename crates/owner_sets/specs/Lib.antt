@@ -1,4 +1,6 @@
+pub mod ByEdges
 pub mod Gathered
+pub mod Leading
 pub mod Links
 pub mod Sets
 pub mod Settled

@@ -71,7 +71,7 @@ fn add_link(found: &mut Vec<Link>, link: Option<Link>) -> Result<(), AllocError>
 }
 
 /// All that an edge joins. Each row that holds its column is looked at once, and the row that it names is looked up.
-pub(crate) fn links<V: StoreView>(
+pub fn links<V: StoreView>(
     alloc: Global,
     view: &V,
     edge: &Edge,

@@ -17,7 +17,7 @@ use own_model::{Edge, Schema, StoreView, TableDef};
 use std::alloc::{AllocError, Global};
 
 /// Whether the rows of a table are data subjects. Takes no memory.
-fn is_subject(schema: &Schema, table: TableNo) -> bool
+pub(crate) fn is_subject(schema: &Schema, table: TableNo) -> bool
     ensures { result ≡ spec.is_subject schema.now table.0 }
 {
     match schema.tables.items().get(table.0 as usize) {

@@ -1,13 +1,22 @@
-//! Which data subjects own each row of a store, and which reach it.
+//! Which data subjects own each row of a store, which reach it, and by which edges one of them does.
 #![tactic(auto)]
 
+mod by_edges;
 mod edges;
 mod gather;
-mod link;
+mod leading;
+pub mod link;
+mod named_row;
 mod places;
+mod schema_graph;
 mod set_at;
 mod sets;
 mod settle;
 mod which;
 
+pub use by_edges::ByEdges;
+pub use edges::links;
+pub use named_row::is_named;
+pub use places::place_named;
+pub use schema_graph::graph_of;
 pub use sets::OwnerSets;

@@ -84,7 +84,7 @@ fn place_of<V: StoreView>(view: &V, table: TableNo, key: &Value) -> Option<u64>
 }
 
 /// The place of the row of a table that a value names, where it is a key and there is one. Takes no memory.
-pub(crate) fn place_named<V: StoreView>(
+pub fn place_named<V: StoreView>(
     view: &V,
     table: TableNo,
     value: Option<&Value>,

@@ -2,12 +2,14 @@ ghost use Rattle.std.specs.Prelude.{◌≡◌, ◌<◌, ◌==◌, [], Contains, 
 ghost use Rattle.own_model.specs.declared.schema.Edge.{Edge as Held};
 ghost use Rattle.own_model.specs.Db.{IsOrdered};
 ghost use Rattle.owner_graph.specs.Graph.{IsGraphOf};
+ghost use Rattle.owner_sets.specs.Leading.{is_among};
 ghost use Rattle.owner_sets.specs.Sets.{AreSetsOf, AreSetsOfTable, db_of, set_at};
 ghost use Rattle.owner_sets.specs.WhichSets.{listed};
 ghost use Rattle.schema_model.specs.OwnerSchema.{IsOwnerSchema};
 ghost use Rattle.subject_model.specs.Owners.{owners, reach};
 
 use crate::gather::gathered;
+use crate::leading::is_among;
 use crate::set_at::set_at;
 use crate::settle::as_sets;
 use crate::which::Which;
@@ -108,5 +110,19 @@ impl OwnerSets {
         ensures { result.now ≡ set_at self.now.reach table.0 at }
     {
         set_at(self.reach.items(), table, at)
+    }
+
+    /// Whether a subject reaches the row at a place of a table. Takes no memory.
+    pub fn reaches(&self, subject: &Subject, table: TableNo, at: u64) -> bool
+        ensures { result ≡ is_among subject.now (set_at self.now.reach table.0 at) }
+    {
+        is_among(subject, self.reach(table, at))
+    }
+
+    /// The sets of all rows of those that reach them, by table, then by place. Takes no memory.
+    pub(crate) fn all_reach(&self) -> &[List<List<Subject>>]
+        ensures { result.now ≡ self.now.reach }
+    {
+        self.reach.items()
     }
 }

@@ -1,0 +1,4 @@
+pub mod BoundSubjects
+pub mod CellLemmas
+pub mod GetLemmas
+pub mod ShownLemmas

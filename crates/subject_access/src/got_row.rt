@@ -1,0 +1,67 @@
+ghost use Rattle.std.specs.Prelude.{◌≡◌, ◌<◌, ◌≤◌, [], ◌∷◌, ◌++◌, Some, length, map, slice_get, IfOk, OnOk};
+ghost use Rattle.std.specs.List.{enumerate_from};
+ghost use Rattle.own_model.specs.Db.{IsOrdered};
+ghost use Rattle.own_model.specs.declared.limit.TheConstants.{TABLE_COLUMNS};
+ghost use Rattle.own_model.specs.Stored.{rows_at};
+ghost use Rattle.owner_sets.specs.ByEdges.{AreEdgesOf};
+ghost use Rattle.owner_sets.specs.Sets.{AreSetsOf, db_of};
+ghost use Rattle.schema_model.specs.OwnerSchema.{IsOwnerSchema};
+ghost use Rattle.subject_access.specs.Shown.{shown_of};
+ghost use Rattle.subject_model.specs.Get.{shown_cell};
+ghost use Rattle.subject_model.specs.Named.{name_of};
+ghost use Rattle.subject_model.specs.Owners.{reach};
+
+use crate::cells::shown_cells;
+use own_base::{EdgeNo, List, MakeCopy, Row, Subject, TableNo};
+use own_model::{Edge, GotRow, StoreView, TableDef};
+use owner_sets::{ByEdges, OwnerSets, is_named};
+use std::alloc::{AllocError, Global};
+
+/// A row of a table as a subject is shown it that reaches it by these edges.
+fn got_row(
+    alloc: Global,
+    edges: &[Edge],
+    own: bool,
+    by: &[EdgeNo],
+    definition: &TableDef,
+    row: &Row,
+) -> Result<GotRow, AllocError>
+    requires { length row.now ≤ TABLE_COLUMNS }
+    ensures table { IfOk result (λ got. got.table ≡ definition.now.name) }
+    ensures cells { IfOk result (λ got. got.cells ≡ map (shown_cell edges.now own by.now) (enumerate_from 0 row.now)) }
+{
+    let table = definition.name.copy(alloc)?;
+    let cells = shown_cells(alloc, edges, own, by, row)?;
+    Ok(GotRow { table, cells })
+}
+
+/// Adds the row at a place of a table, as the subject is shown it, where it reaches the row.
+pub(crate) fn add_row<V: StoreView>(
+    alloc: Global,
+    view: &V,
+    sets: &OwnerSets,
+    by: &ByEdges,
+    subject: &Subject,
+    table: TableNo,
+    definition: &TableDef,
+    at: u64,
+    row: &Row,
+    shown: &mut List<GotRow>,
+) -> Result<(), AllocError>
+    requires there { slice_get (V.schema_of view.now).tables table.0 ≡ Some definition.now }
+    requires here { slice_get (rows_at (V.rows view.now) table.0) at ≡ Some row.now }
+    requires length { length row.now ≤ TABLE_COLUMNS }
+    requires ordered { IsOrdered (db_of (V.schema_of view.now) (V.rows view.now)) }
+    requires owner { IsOwnerSchema (V.schema_of view.now) }
+    requires reach { AreSetsOf (db_of (V.schema_of view.now) (V.rows view.now)) (reach (db_of (V.schema_of view.now) (V.rows view.now))) sets.now.reach }
+    requires edges { AreEdgesOf (db_of (V.schema_of view.now) (V.rows view.now)) subject.now.0 by.now }
+    ensures { OnOk result (shown.new ≡ shown.old ++ shown_of (db_of (V.schema_of view.now) (V.rows view.now)) subject.now.0 (record { name = name_of table.0 definition.now row.now; row = row.now } ∷ [])) }
+{
+    if sets.reaches(subject, table, at) {
+        let own = is_named(view, table, at, &subject.0);
+        let edges = view.schema().edges.items();
+        let got = got_row(alloc, edges, own, by.at(table, at), definition, row)?;
+        shown.add(got)?;
+    }
+    Ok(())
+}

@@ -1,0 +1,8 @@
+//! What a GDPR GET shows of a store that is viewed.
+#![tactic(auto)]
+
+mod cells;
+mod collect;
+mod got_row;
+
+pub use collect::collect_flat;

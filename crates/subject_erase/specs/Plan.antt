@@ -1,0 +1,41 @@
+-- What a subject's erasure removes and changes.
+use Rattle.std.specs.Prelude.{◌≡◌, ◌≢◌, List, [], ◌∷◌, ◌++◌, Bool, not, filter, is_some, map, if◌then◌else◌}
+use Rattle.std.specs.List.{AllByRecursion}
+use Rattle.own_base.specs.declared.change.Change.{Change}
+use Rattle.own_base.specs.declared.row_name.RowName.{RowName}
+use Rattle.own_model.specs.declared.schema.CreateText.{CreateText}
+use Rattle.own_model.specs.declared.schema.Schema.{Schema}
+use Rattle.own_model.specs.Db.{Db, Row}
+use Rattle.owner_model.specs.Joins.{row_of}
+use Rattle.subject_model.specs.Forget.{changed, forget, removed}
+use Rattle.subject_erase.specs.declared.plan.ErasePlan.{ErasePlan}
+
+-- a database of such tables and rows, however its tables were created
+abbrev pub database : List CreateText → Schema → List (List Row) → Db
+database creates schema rows = record { creates = creates; schema = schema; rows = rows }
+
+-- a change that leaves a row
+abbrev pub leaves_row : Change → Bool
+leaves_row change = is_some change.after
+
+-- of changes the names of the rows that go, and those that leave a row
+abbrev pub plan_of : List Change → ErasePlan
+plan_of changes = record { removed = map (λ change. change.name) (filter (λ change. not (leaves_row change)) changes); changed = filter leaves_row changes }
+
+-- a plan with one change more
+abbrev pub plan_with : ErasePlan → Change → ErasePlan
+plan_with plan change =
+    if leaves_row change then record plan { changed = plan.changed ++ change ∷ [] }
+    else record plan { removed = plan.removed ++ change.name ∷ [] }
+
+-- a row as it is and as the erasure leaves it, which differ
+pub record IsLoss (db : Db) (subject : RowName) (change : Change) : Type 0 where
+  pub was : change.before ≡ row_of db change.name
+  pub is : change.after ≡ row_of (forget db subject) change.name
+  pub differ : change.before ≢ change.after
+
+-- the rows that don't stay, and those that stay with a changed value, both by table, then key
+pub record IsPlan (db : Db) (subject : RowName) (plan : ErasePlan) : Type 0 where
+  pub removed : plan.removed ≡ removed db subject
+  pub changed : map (λ change. change.name) plan.changed ≡ changed db subject
+  pub each : AllByRecursion (IsLoss db subject) plan.changed

@@ -1,0 +1,216 @@
+ghost use Rattle.std.specs.Prelude.{List as Seq, ℕ, ◌≡◌, ◌∷◌, ◌++◌, IfOk, IsTrue, OnOk, Some, filter, length, slice_get};
+ghost use Rattle.std.specs.List.{AllByRecursion};
+ghost use Rattle.std.specs.Option.{option_and_then, option_to_list};
+ghost use Rattle.own_model.specs.declared.schema.CreateText.{CreateText};
+ghost use Rattle.own_model.specs.Db.{IsOrdered};
+ghost use Rattle.own_model.specs.Stored.{rows_at};
+ghost use Rattle.owner_sets.specs.Sets.{db_of};
+ghost use Rattle.schema_model.specs.OwnerSchema.{ColumnsRefer, IsOwnerSchema};
+ghost use Rattle.schema_model.specs.Tables.{is_subject};
+ghost use Rattle.schema_model.specs.WithinLimits.{IsWithinLimits};
+ghost use Rattle.state_model.specs.Rows.{AreRowsOf};
+ghost use Rattle.subject_erase.specs.Erasures as spec;
+ghost use Rattle.subject_erase.specs.Losing.{erased_at, erased_by, erased_rows, erased_table, left_by, named_at};
+ghost use Rattle.subject_erase.specs.Plan.{IsPlan, database, plan_of};
+ghost use Rattle.subject_model.specs.Forget.{forget};
+ghost use Rattle.table_part.specs.Changes.{KeysDiffer};
+ghost use Rattle.txn_space.specs.Put.{IsChangeOf, is_of_table, put_rows};
+
+use crate::flags::flag_at;
+use crate::losing::{loses_some, row_left};
+use crate::plan::ErasePlan;
+use crate::row_name::row_name;
+use crate::staying::staying_flags;
+use anon_rules::blanked;
+use own_base::{Change, ColumnSet, EdgeNo, List, MakeCopy, Row, Subject, TableNo};
+use own_model::{StoreView, TableDef};
+use owner_sets::{ByEdges, OwnerSets, graph_of};
+use std::alloc::{AllocError, Global};
+
+/// That a row goes.
+fn removal(
+    alloc: Global,
+    table: TableNo,
+    definition: &TableDef,
+    row: &Row,
+) -> Result<Change, AllocError>
+    ensures { IfOk result (λ change. change ≡ spec.removal (named_at table.0 definition.now row.now)) }
+{
+    let name = row_name(alloc, table, definition, row)?;
+    let before = row.copy(alloc)?;
+    Ok(Change {
+        name,
+        before: Some(before),
+        after: None,
+    })
+}
+
+/// That a row is left without what it loses, of which some are the columns that are ruled.
+fn blanking<V: StoreView>(
+    alloc: Global,
+    view: &V,
+    staying: &[List<bool>],
+    ruled: ColumnSet,
+    table: TableNo,
+    definition: &TableDef,
+    row: &Row,
+) -> Result<Change, AllocError>
+    requires ordered { IsOrdered (db_of (V.schema_of view.now) (V.rows view.now)) }
+    requires refer { ColumnsRefer (V.schema_of view.now) definition.now }
+    ensures { IfOk result (λ change. change ≡ spec.blanking (named_at table.0 definition.now row.now) (left_by (V.schema_of view.now) (V.rows view.now) staying.now definition.now ruled row.now)) }
+{
+    let name = row_name(alloc, table, definition, row)?;
+    let before = row.copy(alloc)?;
+    let left = row_left(alloc, view, staying, definition, ruled, row)?;
+    Ok(Change {
+        name,
+        before: Some(before),
+        after: Some(left),
+    })
+}
+
+/// What becomes of a row that stays or not, and that the subject reaches by these edges.
+fn erased_by<V: StoreView>(
+    alloc: Global,
+    view: &V,
+    staying: &[List<bool>],
+    stays: bool,
+    by: &[EdgeNo],
+    table: TableNo,
+    definition: &TableDef,
+    row: &Row,
+) -> Result<Option<Change>, AllocError>
+    requires ordered { IsOrdered (db_of (V.schema_of view.now) (V.rows view.now)) }
+    requires refer { ColumnsRefer (V.schema_of view.now) definition.now }
+    ensures { IfOk result (λ change. change ≡ erased_by (V.schema_of view.now) (V.rows view.now) staying.now definition.now stays by.now (named_at table.0 definition.now row.now)) }
+{
+    if !stays {
+        let change = removal(alloc, table, definition, row)?;
+        return Ok(Some(change));
+    }
+    let ruled = blanked(view.schema().edges.items(), by);
+    if !loses_some(view, staying, definition, ruled, row) {
+        return Ok(None);
+    }
+    let change = blanking(alloc, view, staying, ruled, table, definition, row)?;
+    Ok(Some(change))
+}
+
+/// What becomes of the row at a place of a table.
+fn erased_at<V: StoreView>(
+    alloc: Global,
+    view: &V,
+    staying: &[List<bool>],
+    by: &ByEdges,
+    table: TableNo,
+    definition: &TableDef,
+    at: u64,
+) -> Result<Option<Change>, AllocError>
+    requires there { slice_get (V.schema_of view.now).tables table.0 ≡ Some definition.now }
+    requires ordered { IsOrdered (db_of (V.schema_of view.now) (V.rows view.now)) }
+    requires refer { ColumnsRefer (V.schema_of view.now) definition.now }
+    ensures { IfOk result (λ change. change ≡ option_and_then (λ row. erased_at (V.schema_of view.now) (V.rows view.now) staying.now by.now table.0 definition.now (at, row)) (slice_get (rows_at (V.rows view.now) table.0) at)) }
+{
+    match view.row_at(table, at) {
+        Some(row) => {
+            let stays = flag_at(staying, table, at);
+            let by = by.at(table, at);
+            erased_by(alloc, view, staying, stays, by, table, definition, row)
+        }
+        None => Ok(None),
+    }
+}
+
+/// Adds a change, where there is one.
+fn add_change(changes: &mut List<Change>, change: Option<Change>) -> Result<(), AllocError>
+    ensures { OnOk result (changes.new ≡ changes.old ++ option_to_list change) }
+{
+    match change {
+        Some(change) => changes.add(change),
+        None => Ok(()),
+    }
+}
+
+/// Adds what becomes of the rows of a table.
+fn add_erased<V: StoreView>(
+    alloc: Global,
+    view: &V,
+    staying: &[List<bool>],
+    by: &ByEdges,
+    table: TableNo,
+    definition: &TableDef,
+    changes: &mut List<Change>,
+) -> Result<(), AllocError>
+    requires there { slice_get (V.schema_of view.now).tables table.0 ≡ Some definition.now }
+    requires ordered { IsOrdered (db_of (V.schema_of view.now) (V.rows view.now)) }
+    requires refer { ColumnsRefer (V.schema_of view.now) definition.now }
+    ensures { OnOk result (changes.new ≡ changes.old ++ erased_table (V.schema_of view.now) (V.rows view.now) staying.now by.now (table.0, definition.now)) }
+{
+    for at in 0..view.count(table) {
+        let change = erased_at(alloc, view, staying, by, table, definition, at)?;
+        add_change(changes, change)?;
+    }
+    Ok(())
+}
+
+/// What becomes of all rows.
+fn erased_rows<V: StoreView>(
+    alloc: Global,
+    view: &V,
+    staying: &[List<bool>],
+    by: &ByEdges,
+) -> Result<List<Change>, AllocError>
+    requires limits { IsWithinLimits (V.schema_of view.now) }
+    requires ordered { IsOrdered (db_of (V.schema_of view.now) (V.rows view.now)) }
+    requires owner { IsOwnerSchema (V.schema_of view.now) }
+    ensures { IfOk result (λ changes. changes ≡ erased_rows (V.schema_of view.now) (V.rows view.now) staying.now by.now) }
+{
+    let mut changes = List::new(alloc);
+    for (number, definition) in view.schema().tables.items().iter().enumerate() {
+        let table = TableNo(number as u32);
+        add_erased(alloc, view, staying, by, table, definition, &mut changes)?;
+    }
+    Ok(changes)
+}
+
+/// The changes by which a subject is erased, by table, then key: each row that doesn't stay goes, and of each that stays and
+/// loses a value the rest is left. Made in the view's rows, they give the rows that are left.
+pub fn erase_changes<V: StoreView>(
+    alloc: Global,
+    view: &V,
+    subject: &Subject,
+) -> Result<List<Change>, AllocError>
+    requires limits { IsWithinLimits (V.schema_of view.now) }
+    requires ordered { IsOrdered (db_of (V.schema_of view.now) (V.rows view.now)) }
+    requires owner { IsOwnerSchema (V.schema_of view.now) }
+    requires rows { AreRowsOf (V.schema_of view.now).tables (V.rows view.now) }
+    requires subject { IsTrue (is_subject (V.schema_of view.now) subject.now.0.table.0) }
+    ensures applied { IfOk result (λ changes. (creates : Seq CreateText)
+        → put_rows (V.schema_of view.now).tables changes (V.rows view.now) ≡ (forget (database creates (V.schema_of view.now) (V.rows view.now)) subject.now.0).rows) }
+    ensures theirs { IfOk result (λ changes. AllByRecursion (IsChangeOf (V.schema_of view.now).tables) changes) }
+    ensures once { IfOk result (λ changes. (number : ℕ) → KeysDiffer (filter (is_of_table number) changes)) }
+    ensures plan { IfOk result (λ changes. (creates : Seq CreateText) → IsPlan (database creates (V.schema_of view.now) (V.rows view.now)) subject.now.0 (plan_of changes)) }
+{
+    let graph = graph_of(alloc, view.schema())?;
+    let sets = OwnerSets::of(alloc, view, &graph)?;
+    let staying = staying_flags(alloc, view, &graph, &sets, subject)?;
+    let by = ByEdges::of(alloc, view, &sets, subject)?;
+    erased_rows(alloc, view, staying.items(), &by)
+}
+
+/// What a subject's erasure removes and changes, each by table, then key.
+pub fn plan_flat<V: StoreView>(
+    alloc: Global,
+    view: &V,
+    subject: &Subject,
+) -> Result<ErasePlan, AllocError>
+    requires limits { IsWithinLimits (V.schema_of view.now) }
+    requires ordered { IsOrdered (db_of (V.schema_of view.now) (V.rows view.now)) }
+    requires owner { IsOwnerSchema (V.schema_of view.now) }
+    requires rows { AreRowsOf (V.schema_of view.now).tables (V.rows view.now) }
+    requires subject { IsTrue (is_subject (V.schema_of view.now) subject.now.0.table.0) }
+    ensures { IfOk result (λ plan. (creates : Seq CreateText) → IsPlan (database creates (V.schema_of view.now) (V.rows view.now)) subject.now.0 plan) }
+{
+    let changes = erase_changes(alloc, view, subject)?;
+    ErasePlan::of_changes(alloc, changes)
+}

@@ -1,0 +1,17 @@
+//! What the erasure of a data subject removes from a store and changes in it. The store stays as it is.
+#![tactic(auto)]
+
+mod erase;
+mod flags;
+mod followed;
+mod held;
+mod losing;
+mod marks;
+mod owned;
+mod plan;
+mod row_name;
+mod staying;
+mod struck;
+
+pub use erase::{erase_changes, plan_flat};
+pub use plan::ErasePlan;

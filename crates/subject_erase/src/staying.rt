@@ -1,0 +1,111 @@
+ghost use Rattle.std.specs.Prelude.{◌≡◌, ◌<◌, ◌&&◌, ◌||◌, IfOk, IsTrue, length, map, not};
+ghost use Rattle.std.specs.List.{range_with_len};
+ghost use Rattle.own_base.specs.declared.row_name.RowName.{RowName};
+ghost use Rattle.own_model.specs.Db.{IsOrdered};
+ghost use Rattle.own_model.specs.Stored.{rows_at};
+ghost use Rattle.owner_graph.specs.Graph.{IsGraphOf};
+ghost use Rattle.owner_sets.specs.Sets.{AreSetsOf, db_of};
+ghost use Rattle.schema_model.specs.OwnerSchema.{IsOwnerSchema};
+ghost use Rattle.schema_model.specs.Tables as spec;
+ghost use Rattle.schema_model.specs.WithinLimits.{IsWithinLimits};
+ghost use Rattle.subject_erase.specs.Flags.{AreFlagsOf, flag_at};
+ghost use Rattle.subject_erase.specs.Staying.{is_held, stays_by};
+ghost use Rattle.subject_model.specs.Owners.{owners, owns};
+ghost use Rattle.subject_model.specs.Stays.{stays};
+
+use crate::flags::{Flags, flag_at};
+use crate::held::{held_flags, is_subject};
+use crate::owned::owned_flags;
+use crate::struck::struck_flags;
+use own_base::{List, Subject, TableNo};
+use own_model::{Schema, StoreView};
+use owner_graph::Graph;
+use owner_sets::OwnerSets;
+use std::alloc::{AllocError, Global};
+
+/// Whether an owner edge goes out of a table. Takes no memory.
+fn is_private(schema: &Schema, table: TableNo) -> bool
+    ensures { result ≡ spec.is_private schema.now table.0 }
+{
+    schema
+        .edges
+        .items()
+        .iter()
+        .any(|edge| edge.owner && edge.lower.0 == table.0)
+}
+
+/// Whether a row stays: not the subject's own row, which is the only subject row that it owns, and of a private table only
+/// a row that another subject holds.
+fn stays(subjects: bool, private: bool, owned: bool, held: bool) -> bool
+    ensures { result ≡ (not (subjects && owned) && (not private || held)) }
+{
+    !(subjects && owned) && (!private || held)
+}
+
+/// Which rows of a table stay, given those that the subject owns and those that another holds.
+fn table_staying<V: StoreView>(
+    alloc: Global,
+    view: &V,
+    owned: &[List<bool>],
+    held: &[List<bool>],
+    table: TableNo,
+) -> Result<List<bool>, AllocError>
+    requires { table.0 < length (V.schema_of view.now).tables }
+    ensures { IfOk result (λ flags. flags ≡ map (λ place. stays_by (V.schema_of view.now) table.0 (flag_at owned.now table.0 place) (flag_at held.now table.0 place))
+        (range_with_len 0 (length (rows_at (V.rows view.now) table.0)))) }
+{
+    let subjects = is_subject(view.schema(), table);
+    let private = is_private(view.schema(), table);
+    let mut staying = List::new(alloc);
+    for at in 0..view.count(table) {
+        let owned = flag_at(owned, table, at);
+        let held = flag_at(held, table, at);
+        staying.add(stays(subjects, private, owned, held))?;
+    }
+    Ok(staying)
+}
+
+/// Which rows of a store stay.
+fn staying_given<V: StoreView>(
+    alloc: Global,
+    view: &V,
+    owned: &[List<bool>],
+    held: &[List<bool>],
+) -> Result<Flags, AllocError>
+    requires limits { IsWithinLimits (V.schema_of view.now) }
+    requires ordered { IsOrdered (db_of (V.schema_of view.now) (V.rows view.now)) }
+    requires owner { IsOwnerSchema (V.schema_of view.now) }
+    ensures { IfOk result (λ flags. (subject : RowName) → IsTrue (spec.is_subject (V.schema_of view.now) subject.table.0)
+        → AreFlagsOf (db_of (V.schema_of view.now) (V.rows view.now)) (owns (db_of (V.schema_of view.now) (V.rows view.now)) subject) owned.now
+        → AreFlagsOf (db_of (V.schema_of view.now) (V.rows view.now)) (is_held (db_of (V.schema_of view.now) (V.rows view.now)) subject) held.now
+        → AreFlagsOf (db_of (V.schema_of view.now) (V.rows view.now)) (stays (db_of (V.schema_of view.now) (V.rows view.now)) subject) flags) }
+{
+    let mut staying = List::new(alloc);
+    for number in 0..view.schema().tables.items().len() {
+        let table = TableNo(number as u32);
+        staying.add(table_staying(alloc, view, owned, held, table)?)?;
+    }
+    Ok(staying)
+}
+
+/// Which rows of a store stay when a subject is forgotten, by the sets of their owners and the graph of the schema's edges.
+pub(crate) fn staying_flags<V: StoreView>(
+    alloc: Global,
+    view: &V,
+    graph: &Graph,
+    sets: &OwnerSets,
+    subject: &Subject,
+) -> Result<Flags, AllocError>
+    requires limits { IsWithinLimits (V.schema_of view.now) }
+    requires ordered { IsOrdered (db_of (V.schema_of view.now) (V.rows view.now)) }
+    requires owner { IsOwnerSchema (V.schema_of view.now) }
+    requires graph { IsGraphOf (length (V.schema_of view.now).tables) (V.schema_of view.now).edges graph.now }
+    requires owners { AreSetsOf (db_of (V.schema_of view.now) (V.rows view.now)) (owners (db_of (V.schema_of view.now) (V.rows view.now))) sets.now.owners }
+    requires subject { IsTrue (spec.is_subject (V.schema_of view.now) subject.now.0.table.0) }
+    ensures { IfOk result (AreFlagsOf (db_of (V.schema_of view.now) (V.rows view.now)) (stays (db_of (V.schema_of view.now) (V.rows view.now)) subject.now.0)) }
+{
+    let owned = owned_flags(alloc, view, sets, subject)?;
+    let struck = struck_flags(alloc, view, graph, owned.items())?;
+    let held = held_flags(alloc, view, graph, owned.items(), struck.items())?;
+    staying_given(alloc, view, owned.items(), held.items())
+}

@@ -1,0 +1,3 @@
+mod NetTo
+pub mod OrderedWrites
+pub mod PutLeads

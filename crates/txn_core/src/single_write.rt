@@ -1,0 +1,59 @@
+ghost use Rattle.std.specs.Prelude.{◌≡◌, ◌≢◌, List as Seq, IfErr, IfOk};
+ghost use Rattle.std.specs.List.{AllByRecursion};
+ghost use Rattle.own_model.specs.declared.refusal.Refusal.TheVariants.{Memory};
+ghost use Rattle.own_model.specs.declared.reply.Reply.TheVariants.{Refused};
+ghost use Rattle.own_model.specs.declared.schema.CreateText.{CreateText};
+ghost use Rattle.query_eval.specs.Tables.{AreTables};
+ghost use Rattle.run_model.specs.Run.{run_bound};
+ghost use Rattle.txn_space.specs.EntryNet.{database};
+ghost use Rattle.txn_space.specs.Put.{IsChangeOf, put_rows};
+ghost use Rattle.txn_space.specs.Sound.{IsBase};
+ghost use Rattle.write_eval.specs.Write.{IsWrite};
+ghost use Rattle.write_eval.specs.Writes.{db_of};
+ghost use Rattle.txn_core.specs.Single.{IsNetTo, NetTo};
+
+use own_base::{Change, List};
+use own_model::{Bound, Refusal, Reply, StoreView};
+use std::alloc::{AllocError, Global};
+use txn_space::Space;
+use write_eval::write_changes;
+
+/// The net of some changes: without those after which a row is as it was.
+fn net_of<V: StoreView>(
+    alloc: Global,
+    view: &V,
+    changes: &[Change],
+) -> Result<List<Change>, AllocError>
+    requires base { IsBase (V.schema_of view.now).tables (V.rows view.now) }
+    requires changes { AllByRecursion (IsChangeOf (V.schema_of view.now).tables) changes.now }
+    ensures { IfOk result (IsNetTo (database (V.schema_of view.now) (V.rows view.now))
+        (database (V.schema_of view.now) (put_rows (V.schema_of view.now).tables changes.now (V.rows view.now)))) }
+{
+    let mut space = Space::new(alloc);
+    space.put(alloc, view, changes)?;
+    space.changes(alloc, view)
+}
+
+/// A write outside a transaction: the reply to it, and the net of what it changes, by table, then key; or why it is refused
+/// as it runs. Where memory is refused, it is `Memory`. The view is only read.
+pub fn single<V: StoreView>(
+    alloc: Global,
+    view: &V,
+    bound: &Bound,
+) -> Result<(Reply, List<Change>), Refusal>
+    requires write { IsWrite (V.schema_of view.now) bound.now }
+    requires tables { AreTables (V.schema_of view.now) (V.rows view.now) }
+    requires base { IsBase (V.schema_of view.now).tables (V.rows view.now) }
+    ensures ok { IfOk result (λ written. (creates : Seq CreateText)
+        → NetTo (db_of creates (V.schema_of view.now) (V.rows view.now)) (run_bound (db_of creates (V.schema_of view.now) (V.rows view.now)) bound.now) written.0 written.1) }
+    ensures err { IfErr result (λ why. why ≢ Memory → (creates : Seq CreateText)
+        → (run_bound (db_of creates (V.schema_of view.now) (V.rows view.now)) bound.now).reply ≡ Refused why) }
+{
+    match write_changes(alloc, view, bound) {
+        Ok(written) => match net_of(alloc, view, written.changes.items()) {
+            Ok(changes) => Ok((Reply::Counted(written.count), changes)),
+            Err(AllocError) => Err(Refusal::Memory),
+        },
+        Err(why) => Err(why),
+    }
+}

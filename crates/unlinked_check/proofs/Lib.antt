@@ -1,0 +1,9 @@
+pub mod LinkLemmas
+pub mod LinkedRows
+pub mod LoneRows
+pub mod RowSums
+pub mod TableLeads
+pub mod TableSums
+pub mod WeightLemmas
+pub mod FaultsLeft
+pub mod Judgement

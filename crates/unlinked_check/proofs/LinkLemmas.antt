@@ -1,0 +1,82 @@
+-- What links a table, and what one has with which nothing is linked.
+use Rattle.std.proofs.Common.{◌≡◌, ℕ, Bool, true, false, not, refl, sym, ap, ◌∙◌, eq-eqb}
+use Rattle.std.specs.Prelude.{◌&&◌, ◌||◌, ◌==◌, Contains, Option, None, Some, is_some, slice_get}
+use Rattle.std.specs.List.{list_any}
+use Rattle.std.specs.Option.{option_map_or}
+use Rattle.own_base.specs.declared.number.TableNo.{TableNo}
+use Rattle.own_model.specs.declared.schema.Column.{Column}
+use Rattle.own_model.specs.declared.schema.Edge.{Edge}
+use Rattle.own_model.specs.declared.schema.RefKind.{RefKind}
+use Rattle.own_model.specs.declared.schema.Schema.{Schema}
+use Rattle.own_model.specs.declared.schema.TableDef.{TableDef}
+use Rattle.subject_model.proofs.Members.{any_contained}
+use Rattle.unlinked_check.specs.Unlinked.{is_linking, is_unlinked, links, refers_to, table_refers, touches}
+
+-- one of three causes is enough
+first_cause : (a b c : Bool) → a ≡ true → ((not a && not b) && not c) ≡ false
+first_cause a b c is = rw is refl
+
+second_cause : (a b c : Bool) → b ≡ true → ((not a && not b) && not c) ≡ false
+second_cause true b c is = refl
+second_cause false b c is = rw is refl
+
+third_cause : (a b c : Bool) → c ≡ true → ((not a && not b) && not c) ≡ false
+third_cause true b c is = refl
+third_cause false true c is = refl
+third_cause false false c is = rw is refl
+
+left_true : (a b : Bool) → a ≡ true → (a || b) ≡ true
+left_true a b is = rw is refl
+
+right_true : (a b : Bool) → b ≡ true → (a || b) ≡ true
+right_true true b is = refl
+right_true false b is = is
+
+module _ (schema : Schema) where
+  -- the tables of an edge are linked
+  touched : (number : ℕ) (edge : Edge) → Contains schema.edges edge → touches number edge ≡ true → is_unlinked schema number ≡ false
+  unfolding is_unlinked
+  touched number edge among is =
+      third_cause (links schema number) (list_any (table_refers number) schema.tables) (list_any (touches number) schema.edges) (any_contained (touches number) schema.edges edge among is)
+
+  pub lower-linked : (edge : Edge) → Contains schema.edges edge → is_unlinked schema edge.lower.0 ≡ false
+  lower-linked edge among = touched edge.lower.0 edge among (left_true _ _ (eq-eqb edge.lower.0 edge.lower.0 refl))
+
+  pub upper-linked : (edge : Edge) → Contains schema.edges edge → is_unlinked schema edge.upper.0 ≡ false
+  upper-linked edge among = touched edge.upper.0 edge among (right_true _ _ (eq-eqb edge.upper.0 edge.upper.0 refl))
+
+  -- so is one that a column refers to
+  pub referred-linked : (table : TableDef) (column : Column) (link : RefKind × TableNo) → Contains schema.tables table → Contains table.columns column → column.refers ≡ Some link
+      → is_unlinked schema link.1.0 ≡ false
+  unfolding is_unlinked
+  referred-linked table column link there among is =
+      let here : refers_to link.1.0 column ≡ true = ap (λ found. option_map_or (λ (l : RefKind × TableNo). l.1.0 == link.1.0) found false) is ∙ eq-eqb link.1.0 link.1.0 refl in
+      let own : table_refers link.1.0 table ≡ true = any_contained (refers_to link.1.0) table.columns column among here in
+      second_cause (links schema link.1.0) (list_any (table_refers link.1.0) schema.tables) (list_any (touches link.1.0) schema.edges) (any_contained (table_refers link.1.0) schema.tables table there own)
+
+  -- and one with a column that links it
+  linking-linked : (number : ℕ) (table : TableDef) (column : Column) → slice_get schema.tables number ≡ Some table → Contains table.columns column → is_linking column ≡ true
+      → is_unlinked schema number ≡ false
+  unfolding is_unlinked
+  linking-linked number table column is among linking =
+      let own : links schema number ≡ true = ap (λ found. option_map_or (λ (t : TableDef). list_any is_linking t.columns) found false) is ∙ any_contained is_linking table.columns column among linking in
+      first_cause (links schema number) (list_any (table_refers number) schema.tables) (list_any (touches number) schema.edges) own
+
+  free_step : (unlinked : Bool) (b : Bool) → unlinked ≡ true → (b ≡ true → unlinked ≡ false) → b ≡ false
+  free_step unlinked true is linked = let never : true ≡ false = sym is ∙ linked refl in cc
+  free_step unlinked false is linked = refl
+
+  none_step : {X : Type 0} (found : Option X) → is_some found ≡ false → found ≡ None
+  none_step None is = refl
+  none_step (Some x) is = let never : true ≡ false = is in cc
+
+  -- no column of a table with which nothing is linked is UNIQUE, and none refers to a table
+  pub lone-unique : (number : ℕ) (table : TableDef) (column : Column) → is_unlinked schema number ≡ true → slice_get schema.tables number ≡ Some table → Contains table.columns column
+      → column.unique ≡ false
+  lone-unique number table column lone is among =
+      free_step (is_unlinked schema number) column.unique lone (λ unique. linking-linked number table column is among (left_true column.unique (is_some column.refers) unique))
+
+  pub lone-refers : (number : ℕ) (table : TableDef) (column : Column) → is_unlinked schema number ≡ true → slice_get schema.tables number ≡ Some table → Contains table.columns column
+      → column.refers ≡ None
+  lone-refers number table column lone is among =
+      none_step column.refers (free_step (is_unlinked schema number) (is_some column.refers) lone (λ refers. linking-linked number table column is among (right_true column.unique (is_some column.refers) refers)))

@@ -1,0 +1,2 @@
+pub mod Unlinked
+pub mod NetWeight
