@@ -10,5 +10,5 @@ returns-then-is_refusal c =
 
 pub returns-then-is_empty : goal.returns-then-is_empty
 returns-then-is_empty c =
-    tells-none c.args.version.now c.requires.sound c.args.changes.now c.requires.net (none-of c.args.changes.now (sym c.if-is_empty.ensures)) c.args.reply c.told.result
-    c.told.ensures.reply c.told.ensures.stays
+    tells-none c.args.version.now c.requires.sound c.args.changes.now c.requires.net (none-of c.args.changes.now (sym c.if-is_empty.ensures)) c.args.reply c.told-then-is_empty.result
+    c.told-then-is_empty.ensures.reply c.told-then-is_empty.ensures.stays
