@@ -39,7 +39,6 @@ impl<D> Model for Engine<D> {
     ghost use Rattle.std.specs.Prelude.{◌-◌, vec_len};
     ghost use Rattle.std.specs.Vec.{vec_capacity};
     ghost use Rattle.engine_core.specs.Seen.{Seen, StandsFor};
-
     ghost use Rattle.own_model.specs.contracts.condition.Cond as cond;
     ghost use Rattle.std.specs.Coded.{codes};
 
@@ -54,11 +53,7 @@ impl<D> Model for Engine<D> {
 
 impl<D> Engine<D> {
     /// Opens a store that has nothing on its disk, with room for so many entries. The disk isn't touched.
-    pub fn open_with_room(
-        alloc: Global,
-        disk: D,
-        calls: u32,
-    ) -> Result<Engine<D>, (OpenFault, D)>
+    pub fn open_with_room(alloc: Global, disk: D, calls: u32) -> Result<Engine<D>, (OpenFault, D)>
         ensures history { IfOk result (λ engine. engine.history ≡ []) }
         ensures disk { IfOk result (λ engine. engine.disk ≡ disk) }
         ensures room { IfOk result (λ engine. calls ≤ engine.spare) }
