@@ -19,5 +19,4 @@ pub mod RowsByKey
 pub mod SerialLemmas
 pub mod SinceLemmas
 pub mod SubjectLemmas
-pub mod UnmadeLemmas
 pub mod Worlds

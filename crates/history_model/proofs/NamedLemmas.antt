@@ -3,32 +3,31 @@ use Rattle.std.proofs.Common.{◌≡◌, List, [], ◌∷◌, ◌++◌, map, fol
 use Rattle.std.specs.Prelude.{filter}
 use Rattle.std.proofs.lemmas.List.{append-nil, map-append}
 use Rattle.own_model.specs.declared.script.ScriptCall.{ScriptCall}
-use Rattle.own_model.specs.Db.{Db}
 use Rattle.history_model.specs.History.{History}
 use Rattle.history_model.specs.Made.{Called, Want, Spared, Unshown, Unmade, added, after_call, entry_of, made}
 use Rattle.history_model.specs.Named.{called_name, entry_name, was_made}
 
 -- a call is named where it is made
-kept : (base : Db) (history : History) (call : ScriptCall) (want : Want) (calls : List Called)
-    → map entry_name (added (entry_of base history call) want) ++ map called_name (filter was_made calls)
+kept : (call : ScriptCall) (want : Want) (calls : List Called)
+    → map entry_name (added (entry_of call) want) ++ map called_name (filter was_made calls)
     ≡ map called_name (filter was_made (record { call = call; want = want } ∷ calls))
-kept base history call Spared calls = refl
-kept base history call Unshown calls = refl
-kept base history call Unmade calls = refl
+kept call Spared calls = refl
+kept call Unshown calls = refl
+kept call Unmade calls = refl
 
 -- the calls of the history so far, and then those that are made
-named_fold : (base : Db) (history : History) (calls : List Called)
-    → map entry_name (fold (after_call base) history calls) ≡ map entry_name history ++ map called_name (filter was_made calls)
-named_fold base history [] = sym (append-nil (map entry_name history))
-named_fold base history (first ∷ calls) =
-    let own = added (entry_of base history first.call) first.want in
+named_fold : (history : History) (calls : List Called)
+    → map entry_name (fold (after_call) history calls) ≡ map entry_name history ++ map called_name (filter was_made calls)
+named_fold history [] = sym (append-nil (map entry_name history))
+named_fold history (first ∷ calls) =
+    let own = added (entry_of first.call) first.want in
     let rest = map called_name (filter was_made calls) in
-    named_fold base (after_call base history first) calls
+    named_fold (after_call history first) calls
     ∙ (ap (λ names. names ++ rest) (map-append entry_name history own)
     ∙ (append_assoc (map entry_name history) (map entry_name own) rest
-    ∙ ap (λ names. map entry_name history ++ names) (kept base history first.call first.want calls)))
+    ∙ ap (λ names. map entry_name history ++ names) (kept first.call first.want calls)))
 
 -- the calls of the history that calls make
-pub named-made : (base : Db) (calls : List Called) → map entry_name (made base calls) ≡ map called_name (filter was_made calls)
+pub named-made : (calls : List Called) → map entry_name (made calls) ≡ map called_name (filter was_made calls)
 unfolding made
-named-made base calls = named_fold base [] calls
+named-made calls = named_fold [] calls

@@ -1,15 +1,13 @@
 -- Histories of requests that are built.
-use Rattle.std.specs.Prelude.{◌≡◌, [], ◌∷◌}
-use Rattle.own_model.specs.Db.{Db}
+use Rattle.std.specs.Prelude.{◌≡◌}
+use Rattle.std.specs.List.{AllByRecursion}
+use Rattle.own_model.specs.declared.history.Entry.{Entry}
 use Rattle.history_model.specs.Built.{built}
-use Rattle.history_model.specs.History.{History, happens}
-use Rattle.history_model.specs.World.{World, start}
+use Rattle.history_model.specs.History.{History}
 
--- each entry's request is built where it stands: it came into the history as it is
-abbrev pub AreBuiltFrom : World → History → Type 0
-AreBuiltFrom world [] = Unit {0}
-AreBuiltFrom world (entry ∷ history) =
-    (built world.flat.schema entry.session.0 entry.request ≡ entry.request) × AreBuiltFrom (happens world entry) history
+-- an entry whose request is built: it came into the history as it is
+abbrev pub IsBuilt : Entry → Type 0
+IsBuilt entry = built entry.session.0 entry.request ≡ entry.request
 
-abbrev pub AreBuilt : Db → History → Type 0
-AreBuilt base history = AreBuiltFrom (start base) history
+abbrev pub AreBuilt : History → Type 0
+AreBuilt history = AllByRecursion IsBuilt history

@@ -4,8 +4,7 @@ use Rattle.own_model.specs.declared.history.Entry.{Entry}
 use Rattle.own_model.specs.declared.history.Verdict.TheVariants.{Took}
 use Rattle.own_model.specs.declared.script.ScriptCall.{ScriptCall}
 use Rattle.history_model.specs.Built.{built}
-use Rattle.own_model.specs.Db.{Db}
-use Rattle.history_model.specs.History.{History, flat}
+use Rattle.history_model.specs.History.{History}
 
 -- what refused memory did to a call: nothing; or it came into the history, and what it reads couldn't be shown; or it
 -- wasn't made
@@ -20,11 +19,11 @@ pub record Called : Type 0 where
   pub want : Want
 
 -- the entry that a call adds to a history
-abbrev pub entry_of : Db → History → ScriptCall → Entry
-entry_of base history call = record {
+abbrev pub entry_of : ScriptCall → Entry
+entry_of call = record {
   session = call.session;
   call = call.call;
-  request = built (flat base history).schema call.session.0 call.request;
+  request = built call.session.0 call.request;
   verdict = Took;
 }
 
@@ -41,9 +40,9 @@ place_by Unshown place = Some place
 place_by Unmade place = None
 
 -- a history after one call more
-abbrev pub after_call : Db → History → Called → History
-after_call base history called = history ++ added (entry_of base history called.call) called.want
+abbrev pub after_call : History → Called → History
+after_call history called = history ++ added (entry_of called.call) called.want
 
 -- The history of the calls made, in their order: each call's entry once, but for those that memory refused.
-unfoldable pub made : Db → List Called → History
-made base calls = fold (after_call base) [] calls
+unfoldable pub made : List Called → History
+made calls = fold after_call [] calls

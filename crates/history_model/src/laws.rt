@@ -61,8 +61,7 @@ pub fn reply_stays_when_history_grows()
 
 /// The history that calls make has those that memory didn't refuse, each once and in their order.
 pub fn each_call_made_comes_once_and_in_order()
-    ensures { (base : Db) (calls : List Called)
-        → map entry_name (made base calls) ≡ map called_name (filter was_made calls) }
+    ensures { (calls : List Called) → map entry_name (made calls) ≡ map called_name (filter was_made calls) }
 {}
 
 /// The statements of an open transaction are the SELECT, INSERT, UPDATE and DELETE calls of its session since its BEGIN, but

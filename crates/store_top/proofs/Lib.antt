@@ -1,13 +1,2 @@
-pub mod BoundInserts
-pub mod BoundSelects
-pub mod CreatedTables
-pub mod FewColumns
-pub mod InsertedRows
-pub mod KeptViews
-pub mod LastEntry
-pub mod NamedRows
-pub mod PutRows
-pub mod Results
 pub mod Runs
 pub mod Serving
-pub mod TheirParts

@@ -9,11 +9,10 @@ use Rattle.own_model.specs.declared.script.ScriptCall.{ScriptCall}
 use Rattle.own_model.specs.Db.{empty}
 use Rattle.history_model.specs.History.{History}
 use Rattle.script_model.specs.Script.{HasCalls, IsScript}
-use Rattle.history_model.specs.Serial.{Serial}
-use Rattle.transcript_model.proofs.ShortHistories.{serial-none, serial-ran}
+use Rattle.script_model.proofs.InputCalls.{calls-few, calls-sessions}
 use Rattle.store_top.specs.declared.served.TopFault.{TopFault}
 use Rattle.store_top.specs.declared.served.TopFault.TheVariants.{Usage, Read, Write, Disk, Damaged, Input, Memory}
-use Rattle.store_top.specs.Steps.{StopsAtCall, ToldBefore, ToldInPart}
+use Rattle.store_top.specs.Steps.{AreOfInput, StopsAtCall, ToldBefore, ToldInPart}
 use Rattle.store_top.specs.Top.{ReadsAtMost, RefusesInput, RunsInPart, RunsWhole, ServesBytes, ServesCalls}
 
 -- what serving the calls of an input left
@@ -28,6 +27,10 @@ bytes_by_calls bytes calls history old new rose silent (Some Read) is serves = s
 bytes_by_calls bytes calls history old new rose silent (Some Disk) is serves = serves
 bytes_by_calls bytes calls history old new rose silent (Some (Damaged area offset)) is serves = serves
 bytes_by_calls bytes calls history old new rose silent (Some (Input fault)) is serves = absurd serves
+
+-- the calls of an input are as few as it may have, and of the sessions
+pub input-calls : (bytes : List ℕ) (calls : List ScriptCall) → HasCalls bytes calls → AreOfInput calls
+input-calls bytes calls has = record { few = calls-few bytes calls has; sessions = calls-sessions bytes calls has }
 
 -- an input that is refused for another cause has at most INPUT_BYTES bytes
 not_long : (bytes : List ℕ) (why : InputFault) → IsScript bytes (Err why) → (why ≡ input.TooLong → ⊥) → length bytes ≤ INPUT_BYTES
@@ -78,27 +81,3 @@ module _ (remaining_old remaining_new written_old written_new : Option (List ℕ
         ends = λ other. end (not_long bytes why by.0 other);
         is_script = by.0;
       }
-
--- the empty history is Serial
-pub serial-silent : (history : History) → history ≡ [] → Serial empty history
-serial-silent history is = subst (Serial empty) (sym is) serial-none
-
-serial_stopped : (bytes : List ℕ) (calls : List ScriptCall) (history : History) (Told : List ℕ → List ℕ → Type 0) → HasCalls bytes calls
-    → StopsAtCall calls history Told → Serial empty history
-serial_stopped bytes calls history Told is stops =
-    serial-ran bytes calls (stops.done ++ stops.last ∷ []) stops.rest history _ is
-    (append_assoc stops.done (stops.last ∷ []) stops.rest ∙ sym stops.parts) stops.made
-
--- the history that serving the bytes of an input made is Serial
-pub serial-bytes : (bytes : List ℕ) (history : History) (old new : Option (List ℕ)) (rose silent : Type 0) → (silent → history ≡ []) → (fault : Option TopFault)
-    → ServesBytes bytes history old new rose silent fault → Serial empty history
-serial-bytes bytes history old new rose silent none None serves =
-    serial-ran bytes serves.0 serves.0 [] history serves.2.text serves.1 (append-nil serves.0) serves.2.transcript
-serial-bytes bytes history old new rose silent none (Some Write) serves = serial_stopped bytes serves.0 history _ serves.1 serves.3
-serial-bytes bytes history old new rose silent none (Some Memory) (is_text, inl nothing) = serial-silent history (none nothing)
-serial-bytes bytes history old new rose silent none (Some Memory) (is_text, inr some) = serial_stopped bytes some.0 history _ some.1 some.2
-serial-bytes bytes history old new rose silent none (Some (Input why)) serves = serial-silent history (none serves.2)
-serial-bytes bytes history old new rose silent none (Some Usage) serves = absurd serves
-serial-bytes bytes history old new rose silent none (Some Read) serves = absurd serves
-serial-bytes bytes history old new rose silent none (Some Disk) serves = absurd serves
-serial-bytes bytes history old new rose silent none (Some (Damaged area offset)) serves = absurd serves

@@ -1,16 +1,15 @@
 -- Calls served one after another.
-use Rattle.std.proofs.Common.{◌≡◌, ℕ, ◌+◌, ◌≤◌, List, [], ◌∷◌, ◌++◌, length, take, refl, ap, sym, subst, ◌∙◌, arith, append_assoc, append-nil}
+use Rattle.std.proofs.Common.{◌≡◌, ℕ, List, [], ◌∷◌, ◌++◌, length, take, refl, ap, sym, subst, ◌∙◌, arith, append_assoc, append-nil}
 use Rattle.std.specs.Prelude.{Option, None, Some, Result, Ok, Err}
 use Rattle.std.specs.Io.KnownBytes.{Appends}
-use Rattle.std.proofs.lemmas.List.{length-append}
+use Rattle.std.specs.List.{AllByRecursion}
 use Rattle.own_model.specs.declared.script.ScriptCall.{ScriptCall}
 use Rattle.own_model.specs.Db.{empty}
 use Rattle.script_model.specs.Numbered.{AreNumbered}
+use Rattle.script_model.specs.Split.{IsOfASession}
 use Rattle.history_model.specs.History.{History}
 use Rattle.history_model.specs.Made.{Want, Spared, Unshown, Unmade, added, entry_of}
-use Rattle.transcript_model.specs.Short.{AreOfInput, IsShort}
 use Rattle.transcript_model.specs.Transcript.{text_of_call}
-use Rattle.transcript_model.proofs.ShortHistories.{short-next}
 use Rattle.transcript_model.proofs.PrintedLemmas.{CallsWithin, EntriesWithin}
 use Rattle.transcript_model.proofs.TranscriptLemmas.{calls_within-more, entries_within-more, transcript-more, transcript-none}
 use Rattle.store_top.specs.declared.steps.RunFault.{RunFault}
@@ -43,25 +42,20 @@ pub record Serving (calls done rest : List ScriptCall) (history : History) (old 
   pub runs : RunsTo done history old new
   pub numbered : AreNumbered done rest
   pub readable : AreReadable rest
+  pub sessions : AllByRecursion IsOfASession rest
   pub calls_within : CallsWithin done done
   pub entries_within : EntriesWithin done history
-  pub few : length history ≤ length done
-
-few_added : (history : History) (call : ScriptCall) (want : Want) → length (history ++ added (entry_of empty history call) want) ≤ length history + 1
-few_added history call Spared = omega (arith, length-append history (entry_of empty history call ∷ []))
-few_added history call Unshown = omega (arith, length-append history (entry_of empty history call ∷ []))
-few_added history call Unmade = rw append-nil (omega arith)
 
 -- none is served yet
-pub serving-none : (calls : List ScriptCall) (old : Option (List ℕ)) → AreNumbered [] calls → AreReadable calls → Serving calls [] calls [] old old
-serving-none calls old numbered readable = record {
+pub serving-none : (calls : List ScriptCall) (old : Option (List ℕ)) → AreNumbered [] calls → AreReadable calls → AllByRecursion IsOfASession calls → Serving calls [] calls [] old old
+serving-none calls old numbered readable sessions = record {
   whole = refl;
   runs = record { text = []; transcript = transcript-none empty; written = appends-nothing old };
   numbered = numbered;
   readable = readable;
+  sessions = sessions;
   calls_within = tt;
   entries_within = tt;
-  few = omega arith;
 }
 
 -- one more is served
@@ -70,7 +64,6 @@ pub serving-more : (calls done : List ScriptCall) (call : ScriptCall) (rest : Li
     → Serving calls (done ++ call ∷ []) rest after old new
 serving-more calls done call rest history after old mid new before served step =
     let next = before.numbered.0 in
-    let long = length-append done (call ∷ []) in
     record {
       whole = append_assoc done (call ∷ []) rest ∙ before.whole;
       runs = record {
@@ -80,16 +73,10 @@ serving-more calls done call rest history after old mid new before served step =
       };
       numbered = before.numbered.1;
       readable = before.readable.1;
+      sessions = before.sessions.1;
       calls_within = calls_within-more done call next before.calls_within;
-      entries_within = rw step.history_is (entries_within-more empty done history call step.want next before.entries_within);
-      few = let le = before.few in let more = few_added history call step.want in rw long (rw step.history_is (omega arith));
+      entries_within = rw step.history_is (entries_within-more done history call step.want next before.entries_within);
     }
-
--- with the entry of the next call the history is short
-pub serving-short : (calls done : List ScriptCall) (call : ScriptCall) (rest : List ScriptCall) (history : History) (old mid : Option (List ℕ))
-    → AreOfInput calls → AreReadable calls → Serving calls done (call ∷ rest) history old mid → IsShort (history ++ entry_of empty history call ∷ [])
-serving-short calls done call rest history old mid input readable before =
-    short-next calls input readable done call rest history before.runs.text before.whole before.runs.transcript
 
 -- a fault comes at one more
 module _ (calls done : List ScriptCall) (call : ScriptCall) (rest : List ScriptCall) (history after : History) (old mid new : Option (List ℕ))

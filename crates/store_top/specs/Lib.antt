@@ -1,9 +1,3 @@
-pub mod BoundThere
-pub mod Built
-pub mod Engine
-pub mod Kept
-pub mod Put
-pub mod State
 pub mod Status
 pub mod Steps
 pub mod Top

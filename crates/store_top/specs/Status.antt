@@ -1,5 +1,7 @@
--- Exit statuses.
+-- Why a run ended, and its exit status.
 use Rattle.std.specs.Prelude.{ℕ, Option, None, Some}
+use Rattle.engine_core.specs.declared.open.OpenFault.{OpenFault}
+use Rattle.engine_core.specs.declared.open.OpenFault.TheVariants as opening
 use Rattle.store_top.specs.declared.served.TopFault.{TopFault}
 use Rattle.store_top.specs.declared.served.TopFault.TheVariants.{Usage, Read, Write, Disk, Damaged, Input, Memory}
 
@@ -13,3 +15,9 @@ status_of (Some Disk) = 5
 status_of (Some (Damaged area offset)) = 6
 status_of (Some (Input fault)) = 7
 status_of (Some Memory) = 8
+
+-- the fault of a run whose store was not opened
+abbrev pub unopened : OpenFault → TopFault
+unopened opening.DiskFault = Disk
+unopened (opening.Damaged area offset) = Damaged area offset
+unopened opening.Memory = Memory

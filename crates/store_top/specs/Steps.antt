@@ -1,10 +1,12 @@
 -- What serving calls one after another does to a history and a sink.
-use Rattle.std.specs.Prelude.{◌≡◌, ℕ, ◌<◌, List, [], ◌∷◌, ◌++◌, length, Option, take, Result, Ok, Err, IfOk}
+use Rattle.std.specs.Prelude.{◌≡◌, ℕ, ◌+◌, ◌<◌, ◌≤◌, List, [], ◌∷◌, ◌++◌, length, Option, take, Result, Ok, Err, IfOk}
 use Rattle.std.specs.Io.KnownBytes.{Appends}
 use Rattle.std.specs.List.{AllByRecursion}
+use Rattle.own_model.specs.declared.limit.TheConstants.{INPUT_CALLS, SESSIONS}
 use Rattle.own_model.specs.declared.script.ScriptCall.{ScriptCall}
 use Rattle.own_model.specs.Db.{empty}
 use Rattle.grammar_model.specs.Readable.{IsReadable}
+use Rattle.script_model.specs.Split.{IsOfASession}
 use Rattle.history_model.specs.History.{History}
 use Rattle.history_model.specs.Made.{Want, Unmade, added, entry_of}
 use Rattle.history_model.specs.MayBeUnmade.{MayBeUnmade}
@@ -15,6 +17,11 @@ use Rattle.store_top.specs.declared.steps.RunFault.TheVariants.{Write, Memory}
 -- each of these calls asks for what a text or a session's end can give
 abbrev pub AreReadable : List ScriptCall → Type 0
 AreReadable calls = AllByRecursion (λ call. IsReadable call.request) calls
+
+-- no more calls than an input may have, and an end of each session; and each is of one of the sessions
+pub record AreOfInput (calls : List ScriptCall) : Type 0 where
+  pub few : length calls ≤ INPUT_CALLS + SESSIONS
+  pub sessions : AllByRecursion IsOfASession calls
 
 -- known bytes grew by a text, and by a part of the next call's text, which isn't all of it
 abbrev pub ToldInPart : Option (List ℕ) → Option (List ℕ) → List ℕ → List ℕ → Type 0
@@ -34,16 +41,16 @@ TellsCall (Err Memory) old new text = ToldBefore old new [] text
 -- call's.
 pub record MakesCall {T E : Type 0} (bytes_of : T → List ℕ) (call : ScriptCall) (before after : History) (result : Result T E) : Type 0 where
   pub want : Want
-  pub history_is : after ≡ before ++ added (entry_of empty before call) want
-  pub spared : want ≡ Unmade → MayBeUnmade (entry_of empty before call).request
+  pub history_is : after ≡ before ++ added (entry_of call) want
+  pub spared : want ≡ Unmade → MayBeUnmade (entry_of call).request
   pub text_is : IfOk result (λ text. bytes_of text ≡ text_of_call empty before call want)
 
 -- The history grew by the call's entry, unless memory kept it from being made, and the sink has what the result says of
 -- the call's text.
 pub record MakesCallTo (call : ScriptCall) (before after : History) (old new : Option (List ℕ)) (result : Result (Unit {0}) RunFault) : Type 0 where
   pub want : Want
-  pub history_is : after ≡ before ++ added (entry_of empty before call) want
-  pub spared : want ≡ Unmade → MayBeUnmade (entry_of empty before call).request
+  pub history_is : after ≡ before ++ added (entry_of call) want
+  pub spared : want ≡ Unmade → MayBeUnmade (entry_of call).request
   pub written : TellsCall result old new (text_of_call empty before call want)
 
 -- these calls were made in a run, and known bytes grew by its text
@@ -66,7 +73,7 @@ pub record StopsAtCall (calls : List ScriptCall) (history : History) (Told : Lis
   pub transcript : IsTranscript empty done before text
   -- and with it
   pub want : Want
-  pub history_is : history ≡ before ++ added (entry_of empty before last) want
-  pub spared : want ≡ Unmade → MayBeUnmade (entry_of empty before last).request
+  pub history_is : history ≡ before ++ added (entry_of last) want
+  pub spared : want ≡ Unmade → MayBeUnmade (entry_of last).request
   pub made : IsTranscript empty (done ++ last ∷ []) history (text ++ text_of_call empty before last want)
   pub told : Told text (text_of_call empty before last want)

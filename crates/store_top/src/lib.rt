@@ -3,14 +3,8 @@
 #![tactic(auto)]
 
 mod built;
-mod create;
-mod engine;
-mod rows;
 mod running;
-mod selecting;
 mod served;
-mod state;
-mod statements;
 mod steps;
 
 pub use running::{run, step};

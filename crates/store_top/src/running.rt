@@ -1,20 +1,17 @@
 ghost use Rattle.std.specs.Prelude.{◌≡◌, ◌≢◌, ◌+◌, ◌≤◌, ◌↔◌, ◌⊎◌, [], map, Some, None, false, string_bytes, vec_len};
-ghost use Rattle.std.specs.Vec.{vec_capacity};
 ghost use Rattle.outer_world.specs.FaultCount.{CountRose};
 ghost use Rattle.own_model.specs.declared.script.InputFault.{InputFault as InputFaultSeen};
 ghost use Rattle.own_model.specs.Db.{empty};
 ghost use Rattle.script_model.specs.Numbered.{AreNumbered};
 ghost use Rattle.history_model.specs.Serial.{Serial};
-ghost use Rattle.transcript_model.specs.Short.{AreOfInput};
-ghost use Rattle.store_top.specs.Engine.{HoldsFlat};
-ghost use Rattle.store_top.specs.Status.{status_of};
+ghost use Rattle.store_top.specs.Status.{status_of, unopened};
 ghost use Rattle.store_words.specs.Words.{mode_of};
-ghost use Rattle.store_top.specs.Steps.{AreReadable, ToldBefore, ToldInPart};
+ghost use Rattle.store_top.specs.Steps.{AreOfInput, AreReadable, ToldBefore, ToldInPart};
 ghost use Rattle.store_top.specs.Top.{IsBeforeCalls, IsUsageOrMemory, IsWithoutDisk, ReadsAtMost, RefusesInput, RunsInPart, RunsWhole, ServesBytes, ServesCalls};
 
-use crate::engine::Engine;
 use crate::served::{Served, TopFault, status};
 use crate::steps::{RunFault, serve_calls};
+use engine_core::{Closed, Engine, OpenFault};
 use outer_world::{Disk, Gate, ReadAllFault, Sink, Source, read_all};
 use own_base::List;
 use own_model::{Entry, INPUT_BYTES, InputFault, ScriptCall};
@@ -25,57 +22,79 @@ use std::sync::Wait;
 use std::thread::Threads;
 use store_words::{Mode, mode_of};
 
-/// How a run ended, without its disk.
+/// How a run ended.
 #[derive(Debug)]
-struct Ended {
+struct Ended<D> {
     fault: Option<TopFault>,
     history: List<Entry>,
+    disk: D,
 }
 
 /// The end of a run in which no call was made.
-fn without_calls(alloc: Global, fault: TopFault) -> Ended
+fn without_calls<D>(alloc: Global, fault: TopFault, disk: D) -> Ended<D>
     ensures fault { result.fault ≡ Some fault }
     ensures history { result.history ≡ [] }
+    ensures disk { result.disk ≡ disk }
     ensures serial { Serial empty result.history }
 {
     Ended {
         fault: Some(fault),
         history: List::new(alloc),
+        disk,
+    }
+}
+
+/// The fault of a run whose store was not opened.
+fn unopened(fault: OpenFault) -> TopFault
+    ensures { result ≡ unopened fault }
+{
+    match fault {
+        OpenFault::DiskFault => TopFault::Disk,
+        OpenFault::Damaged { area, offset } => TopFault::Damaged { area, offset },
+        OpenFault::Memory => TopFault::Memory,
     }
 }
 
 /// Serves calls over no table.
-fn serve_script<W: Sink>(alloc: Global, calls: Vec<ScriptCall>, sink: &mut W) -> Ended
+fn serve_script<W: Sink, D>(
+    alloc: Global,
+    calls: Vec<ScriptCall>,
+    sink: &mut W,
+    disk: D,
+) -> Ended<D>
     requires numbered { AreNumbered [] calls.items }
     requires readable { AreReadable calls.items }
     requires input { AreOfInput calls.items }
-    ensures { ServesCalls calls.items result.history (W.written sink.old) (W.written sink.new) (CountRose (W.faults sink.old) (W.faults sink.new))
+    ensures served { ServesCalls calls.items result.history (W.written sink.old) (W.written sink.new) (CountRose (W.faults sink.old) (W.faults sink.new))
         ((sink.new ≡ sink.old) × (result.history ≡ [])) result.fault }
+    ensures disk { result.disk ≡ disk }
+    ensures serial { Serial empty result.history }
 {
-    match Engine::with_room(alloc, calls.len()) {
+    match Engine::open_with_room(alloc, disk, calls.len() as u32) {
         Ok(engine) => serve_engine(alloc, engine, calls, sink),
-        Err(AllocError) => {
+        Err((fault, disk)) => {
             drop(calls);
-            without_calls(alloc, TopFault::Memory)
+            without_calls(alloc, unopened(fault), disk)
         }
     }
 }
 
 /// Serves calls by an engine that has served none yet.
-fn serve_engine<W: Sink>(
+fn serve_engine<W: Sink, D>(
     alloc: Global,
-    engine: Engine,
+    engine: Engine<D>,
     calls: Vec<ScriptCall>,
     sink: &mut W,
-) -> Ended
-    requires holds { HoldsFlat engine }
-    requires fresh { engine.history.items ≡ [] }
-    requires room { vec_len calls ≤ vec_capacity engine.history }
+) -> Ended<D>
+    requires fresh { engine.history ≡ [] }
+    requires room { vec_len calls ≤ engine.spare }
     requires numbered { AreNumbered [] calls.items }
     requires readable { AreReadable calls.items }
     requires input { AreOfInput calls.items }
-    ensures { ServesCalls calls.items result.history (W.written sink.old) (W.written sink.new) (CountRose (W.faults sink.old) (W.faults sink.new))
+    ensures served { ServesCalls calls.items result.history (W.written sink.old) (W.written sink.new) (CountRose (W.faults sink.old) (W.faults sink.new))
         ((sink.new ≡ sink.old) × (result.history ≡ [])) result.fault }
+    ensures disk { result.disk ≡ engine.disk }
+    ensures serial { Serial empty result.history }
 {
     let mut engine = engine;
     let fault = match serve_calls(&mut engine, alloc, calls, sink) {
@@ -83,26 +102,35 @@ fn serve_engine<W: Sink>(
         Err(RunFault::Write) => Some(TopFault::Write),
         Err(RunFault::Memory) => Some(TopFault::Memory),
     };
+    let Closed { history, disk } = engine.close();
     Ended {
         fault,
-        history: engine.into_history(),
+        history,
+        disk,
     }
 }
 
 /// Serves the calls of an input.
-fn serve_bytes<W: Sink>(alloc: Global, bytes: &[u8], sink: &mut W) -> Ended
-    ensures { ServesBytes bytes.now result.history (W.written sink.old) (W.written sink.new) (CountRose (W.faults sink.old) (W.faults sink.new))
+fn serve_bytes<W: Sink, D>(alloc: Global, bytes: &[u8], sink: &mut W, disk: D) -> Ended<D>
+    ensures served { ServesBytes bytes.now result.history (W.written sink.old) (W.written sink.new) (CountRose (W.faults sink.old) (W.faults sink.new))
         ((sink.new ≡ sink.old) × (result.history ≡ [])) result.fault }
+    ensures disk { result.disk ≡ disk }
+    ensures serial { Serial empty result.history }
 {
     match read_script(alloc, bytes) {
-        Ok(script) => serve_script(alloc, script.calls.into_vec(), sink),
-        Err(InputFault::Memory) => without_calls(alloc, TopFault::Memory),
-        Err(fault) => without_calls(alloc, TopFault::Input(fault)),
+        Ok(script) => serve_script(alloc, script.calls.into_vec(), sink, disk),
+        Err(InputFault::Memory) => without_calls(alloc, TopFault::Memory, disk),
+        Err(fault) => without_calls(alloc, TopFault::Input(fault), disk),
     }
 }
 
 /// Reads the input whole, and serves its calls.
-fn serve_source<R: Source, W: Sink>(alloc: Global, source: &mut R, sink: &mut W) -> Ended
+fn serve_source<R: Source, W: Sink, D>(
+    alloc: Global,
+    source: &mut R,
+    sink: &mut W,
+    disk: D,
+) -> Ended<D>
     ensures read_fault { result.fault ≡ Some TopFault.Read → CountRose (R.faults source.old) (R.faults source.new) }
     ensures input_fault { (fault : InputFaultSeen) → result.fault ≡ Some (TopFault.Input fault)
         → RefusesInput (R.remaining source.old) (R.remaining source.new) fault }
@@ -120,22 +148,27 @@ fn serve_source<R: Source, W: Sink>(alloc: Global, source: &mut R, sink: &mut W)
     ensures lawful { result.fault ≢ Some TopFault.Usage }
     ensures at_most { ReadsAtMost (R.remaining source.old) (R.remaining source.new) (INPUT_BYTES + 1) }
     ensures serial { Serial empty result.history }
+    ensures disk { result.disk ≡ disk }
 {
     match read_all(alloc, source, INPUT_BYTES + 1) {
-        Ok(bytes) => serve_bytes(alloc, &bytes, sink),
-        Err(ReadAllFault::Failed) => without_calls(alloc, TopFault::Read),
-        Err(ReadAllFault::Memory) => without_calls(alloc, TopFault::Memory),
+        Ok(bytes) => serve_bytes(alloc, &bytes, sink, disk),
+        Err(ReadAllFault::Failed) => without_calls(alloc, TopFault::Read, disk),
+        Err(ReadAllFault::Memory) => without_calls(alloc, TopFault::Memory, disk),
     }
 }
 
-/// The end of a run, with its disk.
-fn with_disk<D>(ended: Ended, disk: D) -> Served<D>
+/// The end of a run, with its status.
+fn served<D>(ended: Ended<D>) -> Served<D>
     ensures status { result.status ≡ status_of ended.fault }
     ensures fault { result.fault ≡ ended.fault }
     ensures history { result.history ≡ ended.history }
-    ensures disk { result.disk ≡ disk }
+    ensures disk { result.disk ≡ ended.disk }
 {
-    let Ended { fault, history } = ended;
+    let Ended {
+        fault,
+        history,
+        disk,
+    } = ended;
     Served {
         status: status(&fault),
         fault,
@@ -188,8 +221,7 @@ pub fn step<R: Source, W: Sink, D>(
     // The history has one order, and leaves no bad state at any of its places.
     ensures serial { Serial empty result.history }
 {
-    let ended = serve_source(alloc, source, sink);
-    with_disk(ended, disk)
+    served(serve_source(alloc, source, sink, disk))
 }
 
 /// Runs the mode that the words after the store's name are: `step` alone, which does what the function `step` does.
@@ -244,7 +276,7 @@ pub fn run<Rt: Threads + Wait + Sync, R: Source, W: Sink, D: Disk + Send, G: Gat
 {
     match mode_of(alloc, words) {
         Ok(Some(Mode::Step)) => step(alloc, source, sink, disk),
-        Ok(None) => with_disk(without_calls(alloc, TopFault::Usage), disk),
-        Err(AllocError) => with_disk(without_calls(alloc, TopFault::Memory), disk),
+        Ok(None) => served(without_calls(alloc, TopFault::Usage, disk)),
+        Err(AllocError) => served(without_calls(alloc, TopFault::Memory, disk)),
     }
 }

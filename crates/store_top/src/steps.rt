@@ -1,15 +1,12 @@
-ghost use Rattle.std.specs.Prelude.{◌≡◌, ◌<◌, ◌≤◌, ◌++◌, ◌∷◌, [], vec_len, OnOk, Err};
-ghost use Rattle.std.specs.Vec.{vec_capacity};
+ghost use Rattle.std.specs.Prelude.{◌≡◌, ◌+◌, ◌<◌, ◌≤◌, [], vec_len, OnOk, Err};
 ghost use Rattle.outer_world.specs.FaultCount.{CountRose};
-ghost use Rattle.own_model.specs.Db.{empty};
 ghost use Rattle.grammar_model.specs.Readable.{IsReadable};
 ghost use Rattle.script_model.specs.Numbered.{AreNumbered};
-ghost use Rattle.history_model.specs.Made.{entry_of};
-ghost use Rattle.transcript_model.specs.Short.{AreOfInput, IsShort};
-ghost use Rattle.store_top.specs.Engine.{HoldsFlat};
-ghost use Rattle.store_top.specs.Steps.{AreReadable, MakesCall, MakesCallTo, RunsTo, StopsAtCall, ToldBefore, ToldInPart};
+ghost use Rattle.script_model.specs.Split.{IsOfASession};
+ghost use Rattle.store_top.specs.Steps.{AreOfInput, AreReadable, MakesCall, MakesCallTo, RunsTo, StopsAtCall, ToldBefore, ToldInPart};
 
-use crate::engine::Engine;
+use crate::built::built;
+use engine_core::{Engine, Step};
 use outer_world::{Sink, write_all};
 use own_base::Text;
 use own_model::{Refusal, Reply, ScriptCall};
@@ -27,30 +24,31 @@ pub(crate) enum RunFault {
 }
 
 /// Serves a call, and gives its lines.
-fn lines_of_call(engine: &mut Engine, alloc: Global, call: ScriptCall) -> Result<Text, AllocError>
-    requires holds { HoldsFlat engine.old }
-    requires room { vec_len engine.old.history < vec_capacity engine.old.history }
+fn lines_of_call<D>(
+    engine: &mut Engine<D>,
+    alloc: Global,
+    call: ScriptCall,
+) -> Result<Text, AllocError>
+    requires room { 0 < engine.old.spare }
     requires readable { IsReadable call.request }
-    requires short { IsShort (engine.old.history.items ++ entry_of empty engine.old.history.items call ∷ []) }
-    ensures holds { HoldsFlat engine.new }
-    ensures makes { MakesCall (λ text. text) call engine.old.history.items engine.new.history.items result }
-    ensures room { vec_capacity engine.old.history ≤ vec_capacity engine.new.history }
+    requires session { IsOfASession call }
+    ensures makes { MakesCall (λ text. text) call engine.old.history engine.new.history result }
+    ensures room { engine.old.spare ≤ engine.new.spare + 1 }
+    ensures disk { engine.new.disk ≡ engine.old.disk }
 {
-    let session = call.session;
-    let number = call.call;
-    match engine.step(alloc, call) {
-        Ok(answered) => {
-            let text = print_reply(
-                alloc,
-                Some(answered.place),
-                session,
-                number,
-                &answered.reply,
-            );
-            drop(answered);
+    let ScriptCall {
+        session,
+        call: number,
+        request,
+    } = call;
+    match engine.step(session, number, built(session, request)) {
+        Step::Answered(place, reply) => {
+            let text = print_reply(alloc, Some(place), session, number, &reply);
+            drop(reply);
             text
         }
-        Err(AllocError) => {
+        Step::Look(..) => unreachable!(),
+        Step::NoMemory => {
             let reply = Reply::Refused(Refusal::Memory);
             let text = print_reply(alloc, None, session, number, &reply);
             drop(reply);
@@ -60,19 +58,18 @@ fn lines_of_call(engine: &mut Engine, alloc: Global, call: ScriptCall) -> Result
 }
 
 /// Serves a call, and writes its lines.
-fn serve_call<W: Sink>(
-    engine: &mut Engine,
+fn serve_call<W: Sink, D>(
+    engine: &mut Engine<D>,
     alloc: Global,
     call: ScriptCall,
     sink: &mut W,
 ) -> Result<(), RunFault>
-    requires holds { HoldsFlat engine.old }
-    requires room { vec_len engine.old.history < vec_capacity engine.old.history }
+    requires room { 0 < engine.old.spare }
     requires readable { IsReadable call.request }
-    requires short { IsShort (engine.old.history.items ++ entry_of empty engine.old.history.items call ∷ []) }
-    ensures holds { HoldsFlat engine.new }
-    ensures makes { MakesCallTo call engine.old.history.items engine.new.history.items (W.written sink.old) (W.written sink.new) result }
-    ensures room { vec_capacity engine.old.history ≤ vec_capacity engine.new.history }
+    requires session { IsOfASession call }
+    ensures makes { MakesCallTo call engine.old.history engine.new.history (W.written sink.old) (W.written sink.new) result }
+    ensures room { engine.old.spare ≤ engine.new.spare + 1 }
+    ensures disk { engine.new.disk ≡ engine.old.disk }
     ensures fault { result ≡ Err RunFault.Write → CountRose (W.faults sink.old) (W.faults sink.new) }
     ensures counted { W.faults sink.old ≤ W.faults sink.new }
 {
@@ -83,23 +80,23 @@ fn serve_call<W: Sink>(
 }
 
 /// Serves calls one after another, and writes each call's lines before the next. After the first fault no call is made.
-pub(crate) fn serve_calls<W: Sink>(
-    engine: &mut Engine,
+pub(crate) fn serve_calls<W: Sink, D>(
+    engine: &mut Engine<D>,
     alloc: Global,
     calls: Vec<ScriptCall>,
     sink: &mut W,
 ) -> Result<(), RunFault>
-    requires holds { HoldsFlat engine.old }
-    requires fresh { engine.old.history.items ≡ [] }
-    requires room { vec_len calls ≤ vec_capacity engine.old.history }
+    requires fresh { engine.old.history ≡ [] }
+    requires room { vec_len calls ≤ engine.old.spare }
     requires numbered { AreNumbered [] calls.items }
     requires readable { AreReadable calls.items }
     requires input { AreOfInput calls.items }
 
-    ensures served { OnOk result (RunsTo calls.items engine.new.history.items (W.written sink.old) (W.written sink.new)) }
-    ensures broken { result ≡ Err RunFault.Write → StopsAtCall calls.items engine.new.history.items (ToldInPart (W.written sink.old) (W.written sink.new)) }
-    ensures refused { result ≡ Err RunFault.Memory → StopsAtCall calls.items engine.new.history.items (ToldBefore (W.written sink.old) (W.written sink.new)) }
+    ensures served { OnOk result (RunsTo calls.items engine.new.history (W.written sink.old) (W.written sink.new)) }
+    ensures broken { result ≡ Err RunFault.Write → StopsAtCall calls.items engine.new.history (ToldInPart (W.written sink.old) (W.written sink.new)) }
+    ensures refused { result ≡ Err RunFault.Memory → StopsAtCall calls.items engine.new.history (ToldBefore (W.written sink.old) (W.written sink.new)) }
     ensures fault { result ≡ Err RunFault.Write → CountRose (W.faults sink.old) (W.faults sink.new) }
+    ensures disk { engine.new.disk ≡ engine.old.disk }
 {
     for call in calls {
         serve_call(engine, alloc, call, sink)?;

@@ -1,12 +1,8 @@
 pub mod BuiltStatements
-pub mod BuiltWorlds
-pub mod Faultless
-pub mod FewRows
 pub mod NoDisk
+pub mod NoDiskRuns
+pub mod PlainHistories
+pub mod PlainWorlds
 pub mod PrintedLemmas
-pub mod ShortHistories
-pub mod SmallNets
 pub mod SparedLemmas
-pub mod TakeRows
 pub mod TranscriptLemmas
-pub mod Unowned

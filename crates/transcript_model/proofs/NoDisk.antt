@@ -1,13 +1,9 @@
--- No statement that is built is answered by a failure of the disk.
+-- Nothing for which binding or the catalog refuses a statement is a failure of the disk.
 use Rattle.std.proofs.Common.{◌≡◌, ℕ, ◌+◌, List, [], ◌∷◌, ◌++◌, length, map, Bool, true, false, fold, refl, subst}
 use Rattle.std.specs.Prelude.{◌&&◌, Option, Some, None, Result, Ok, Err, find, flat_map, zip, if◌then◌else◌}
 use Rattle.std.specs.List.{AllByRecursion}
 use Rattle.std.specs.Option.{option_map, option_map_or, option_or}
-use Rattle.own_base.specs.declared.number.TableNo.{TableNo}
-use Rattle.own_base.specs.declared.value.Key.{Key}
 use Rattle.own_base.specs.declared.value.Value.{Value}
-use Rattle.own_model.specs.declared.bound.BoundSelect.{BoundSelect}
-use Rattle.own_model.specs.declared.bound.Bound.TheVariants as bound
 use Rattle.own_model.specs.declared.condition.Cond.{Cond, roll-Cond}
 use Rattle.own_model.specs.declared.condition.Cond.TheFolds.{fold-roll-Cond, ind-Cond, map-Cond}
 use Rattle.own_model.specs.declared.condition.Cond.TheOpen.{Cond-F}
@@ -18,7 +14,7 @@ use Rattle.own_model.specs.declared.limit.LimitName.TheVariants as limit
 use Rattle.own_model.specs.declared.refusal.Refusal.{Refusal}
 use Rattle.own_model.specs.declared.refusal.Refusal.TheVariants as refusal
 use Rattle.own_model.specs.declared.refusal.Refusal.TheVariants.{NoColumn, NullValue, WrongKind}
-use Rattle.own_model.specs.declared.reply.Reply.TheVariants.{Refused, Rows}
+use Rattle.own_model.specs.declared.reply.Reply.TheVariants.{Refused}
 use Rattle.own_model.specs.declared.schema.Column.{Column as Definition}
 use Rattle.own_model.specs.declared.schema.Kind.{Kind}
 use Rattle.own_model.specs.declared.schema.Schema.{Schema}
@@ -30,14 +26,9 @@ use Rattle.own_model.specs.declared.select.Order.{Order}
 use Rattle.own_model.specs.declared.select.Select.{Select}
 use Rattle.own_model.specs.declared.select.What.{What}
 use Rattle.own_model.specs.declared.select.What.TheVariants as what
-use Rattle.own_model.specs.declared.statement.Statement.{Statement}
-use Rattle.own_model.specs.declared.statement.Statement.TheVariants as statement
-use Rattle.own_model.specs.Db.{Db, Row}
-use Rattle.own_model.specs.Stored.{holds_rows}
 use Rattle.owner_model.specs.Cycle.{cycle_of}
 use Rattle.schema_model.specs.References.{references_of}
 use Rattle.schema_model.specs.Refusal.{broken, first_broken, refusal_of}
-use Rattle.query_model.specs.BoundStatement.{bound_statement, bound_unless, faults, meaning}
 use Rattle.query_model.specs.ConditionFaults.{condition_faults, fault_step, kind_meant, operand_faults, operand_kind, together, unlike, where_faults}
 use Rattle.query_model.specs.Kinds.{are_compared, goes_with}
 use Rattle.query_model.specs.Refused.{lowest, sooner}
@@ -45,46 +36,44 @@ use Rattle.query_model.specs.Scope.{NameBytes, Scope, column_meant, no_column, t
 use Rattle.query_model.specs.SelectFaults.{from_faults, group_faults, is_grouped, item_faults, join_faults, listed_items, no_table, order_faults, scoped_faults, select_faults, select_scope}
 use Rattle.query_model.specs.Truth.{is_null}
 use Rattle.query_model.specs.WriteFaults.{column_in, columns_for, columns_left, insert_faults, insert_faults_in, list_faults, not_a_column, takes_no_null, tuple_faults, twice, value_faults, wrong_count}
-use Rattle.run_model.specs.Run.{Outcome, create_table, create_unless, insert, insert_into, put, run, run_bound, run_unless}
-use Rattle.history_model.specs.Built.{is_built}
 use Rattle.history_model.specs.History.{is_disk}
 
 -- a refusal that isn't for want of the disk
 abbrev pub NotDisk : Refusal → Type 0
 NotDisk why = is_disk (Refused why) ≡ false
 
-abbrev AreNotDisk : List Refusal → Type 0
+abbrev pub AreNotDisk : List Refusal → Type 0
 AreNotDisk faults = AllByRecursion NotDisk faults
 
 -- one that is such a refusal, or none
-abbrev IfNotDisk : Option Refusal → Type 0
+abbrev pub IfNotDisk : Option Refusal → Type 0
 IfNotDisk None = Unit {0}
 IfNotDisk (Some why) = NotDisk why
 
 -- where a test says so, one such refusal
-if_one : (b : Bool) (why : Refusal) → NotDisk why → AreNotDisk (if b then why ∷ [] else [])
+pub if_one : (b : Bool) (why : Refusal) → NotDisk why → AreNotDisk (if b then why ∷ [] else [])
 if_one true why own = (own, tt)
 if_one false why own = tt
 
-if_none : (b : Bool) (why : Refusal) → NotDisk why → AreNotDisk (if b then [] else why ∷ [])
+pub if_none : (b : Bool) (why : Refusal) → NotDisk why → AreNotDisk (if b then [] else why ∷ [])
 if_none true why own = tt
 if_none false why own = (own, tt)
 
-if_either : (b : Bool) (some others : List Refusal) → AreNotDisk some → AreNotDisk others → AreNotDisk (if b then some else others)
+pub if_either : (b : Bool) (some others : List Refusal) → AreNotDisk some → AreNotDisk others → AreNotDisk (if b then some else others)
 if_either true some others all more = all
 if_either false some others all more = more
 
 -- two lists of them, and one for each element of a list
-both : (some others : List Refusal) → AreNotDisk some → AreNotDisk others → AreNotDisk (some ++ others)
+pub both : (some others : List Refusal) → AreNotDisk some → AreNotDisk others → AreNotDisk (some ++ others)
 both [] others all more = more
 both (why ∷ some) others all more = (all.0, both some others all.1 more)
 
-each : {X : Type 0} (f : X → List Refusal) (xs : List X) → ((x : X) → AreNotDisk (f x)) → AreNotDisk (flat_map f xs)
+pub each : {X : Type 0} (f : X → List Refusal) (xs : List X) → ((x : X) → AreNotDisk (f x)) → AreNotDisk (flat_map f xs)
 each f [] own = tt
 each f (x ∷ xs) own = both (f x) (flat_map f xs) (own x) (each f xs own)
 
 -- a name that means nothing
-if_meant : {X : Type 0} (found : Option X) (why : Refusal) → NotDisk why → AreNotDisk (option_map_or (λ found. []) found (why ∷ []))
+pub if_meant : {X : Type 0} (found : Option X) (why : Refusal) → NotDisk why → AreNotDisk (option_map_or (λ found. []) found (why ∷ []))
 if_meant None why own = (own, tt)
 if_meant (Some x) why own = tt
 
@@ -124,7 +113,7 @@ module _ (scope : Scope) where
   rolled-plain x plain = rw (fold-roll-Cond (List Refusal) (fault_step scope) x) plain
 
   -- the faults of a condition
-  condition-plain : (cond : Cond) → IsPlain cond
+  pub condition-plain : (cond : Cond) → IsPlain cond
   condition-plain = ind-Cond IsPlain (λ x y is.
       rolled-plain x (subst (λ z. AreNotDisk (fault_step scope (map-Cond Cond (List Refusal) (condition_faults scope) z))) is (step-plain y)))
 
@@ -172,7 +161,7 @@ module _ (schema : Schema) (select : Select) where
   select-plain = both (from_faults schema select) _ (from_case select.join refl) (scoped-plain (select_scope schema select))
 
 -- the faults of an INSERT
-wrong_step : (goes nulls : Bool) (wrong null : Refusal) → NotDisk wrong → NotDisk null → AreNotDisk ((if goes then [] else wrong ∷ []) ++ (if nulls then null ∷ [] else []))
+pub wrong_step : (goes nulls : Bool) (wrong null : Refusal) → NotDisk wrong → NotDisk null → AreNotDisk ((if goes then [] else wrong ∷ []) ++ (if nulls then null ∷ [] else []))
 wrong_step true true wrong null own more = (more, tt)
 wrong_step true false wrong null own more = tt
 wrong_step false true wrong null own more = (own, (more, tt))
@@ -183,11 +172,11 @@ value-plain table None value = tt
 value-plain table (Some column) value =
     wrong_step (goes_with column.1.kind value) (is_null value && takes_no_null table column) (WrongKind column.1.name) (NullValue column.1.name) refl refl
 
-twice-plain : (before names : List NameBytes) → AreNotDisk (twice before names)
+pub twice-plain : (before names : List NameBytes) → AreNotDisk (twice before names)
 twice-plain before [] = tt
 twice-plain before (name ∷ names) = both _ (twice (before ++ name ∷ []) names) (if_one _ _ refl) (twice-plain (before ++ name ∷ []) names)
 
-list-plain : (table : TableDef) (names : Option (List NameBytes)) → AreNotDisk (list_faults table names)
+pub list-plain : (table : TableDef) (names : Option (List NameBytes)) → AreNotDisk (list_faults table names)
 list-plain table None = tt
 list-plain table (Some names) = both _ (twice [] names) (each (not_a_column table) names (λ name. if_meant (column_in table name) _ refl)) (twice-plain [] names)
 
@@ -202,7 +191,7 @@ named-plain : (found : Option (ℕ × TableDef)) (names : Option (List NameBytes
 named-plain None names tuples = tt
 named-plain (Some found) names tuples = both (list_faults found.1 names) _ (list-plain found.1 names) (each (tuple_faults found.1 names) tuples (tuple-plain found.1 names))
 
-insert-plain : (schema : Schema) (name : NameBytes) (names : Option (List NameBytes)) (tuples : List (List Value)) → AreNotDisk (insert_faults schema name names tuples)
+pub insert-plain : (schema : Schema) (name : NameBytes) (names : Option (List NameBytes)) (tuples : List (List Value)) → AreNotDisk (insert_faults schema name names tuples)
 unfolding insert_faults
 insert-plain schema name names tuples = both (no_table schema name) _ (if_one _ _ refl) (named-plain (table_named schema name) names tuples)
 
@@ -216,7 +205,7 @@ lowest_fold [] kept all own = own
 lowest_fold (fault ∷ faults) None all own = lowest_fold faults (Some fault) all.1 all.0
 lowest_fold (fault ∷ faults) (Some kept) all own = lowest_fold faults (sooner (Some kept) fault) all.1 (sooner_step kept fault _ own all.0)
 
-lowest-plain : (faults : List Refusal) → AreNotDisk faults → IfNotDisk (lowest faults)
+pub lowest-plain : (faults : List Refusal) → AreNotDisk faults → IfNotDisk (lowest faults)
 unfolding lowest
 lowest-plain faults all = lowest_fold faults None all tt
 
@@ -243,50 +232,10 @@ limits_step true more = refl
 limits_step false true = refl
 limits_step false false = tt
 
-create-plain : (schema : Schema) (holds : ℕ → Bool) (create : CreateTable) → IfNotDisk (refusal_of schema holds create)
+pub create-plain : (schema : Schema) (holds : ℕ → Bool) (create : CreateTable) → IfNotDisk (refusal_of schema holds create)
 unfolding refusal_of
 create-plain schema holds create =
     or-plain _ _ (if_some _ _ None refl tt)
     (or-plain _ _ (broken-plain 1 (broken schema create))
     (or-plain _ _ (mapped _ (cycle_of _ _) (λ cycle. refl))
     (or-plain _ _ (mapped _ (find _ (references_of create)) (λ reference. refl)) (limits_step _ _))))
-
--- an answer that isn't for want of the disk
-abbrev AnswersPlainly : Outcome → Type 0
-AnswersPlainly outcome = is_disk outcome.reply ≡ false
-
-module _ (db : Db) where
-  unless_step : (table : CreateTable) (why : Option Refusal) → IfNotDisk why → AnswersPlainly (create_unless db table why)
-  unless_step table None plain = refl
-  unless_step table (Some why) plain = plain
-
-  shown_step : (b : Bool) (rows : List Row) → is_disk (if b then Refused (refusal.Limit limit.Reply) else Rows rows) ≡ false
-  shown_step true rows = refl
-  shown_step false rows = refl
-
-  put_step : (number : ℕ) (table : TableDef) (count : ℕ) (result : Result (List Row) Key) → AnswersPlainly (put db number table count result)
-  put_step number table count (Ok rows) = refl
-  put_step number table count (Err key) = refl
-
-  into_step : (number : ℕ) (tuples : List Row) (found : Option TableDef) → AnswersPlainly (insert_into db number tuples found)
-  into_step number tuples None = refl
-  into_step number tuples (Some table) = put_step number table (length tuples) _
-
-  select_step : (query : BoundSelect) (told : Option Refusal) → IfNotDisk told → AnswersPlainly (run_unless db (bound_unless told (bound.Select query)))
-  unfolding run_bound
-  select_step query None plain = shown_step _ _
-  select_step query (Some why) plain = plain
-
-  insert_step : (number : TableNo) (tuples : List Row) (told : Option Refusal) → IfNotDisk told → AnswersPlainly (run_unless db (bound_unless told (bound.Insert number tuples)))
-  unfolding run_bound insert
-  insert_step number tuples None plain = into_step number.0 tuples _
-  insert_step number tuples (Some why) plain = plain
-
-  -- a statement that is built isn't answered so
-  pub run-plain : (found : Statement) → is_built db.schema found ≡ true → AnswersPlainly (run db found)
-  unfolding run create_table bound_statement faults meaning
-  run-plain (statement.CreateTable table) built = unless_step table _ (create-plain db.schema (holds_rows db.rows) table)
-  run-plain statement.Explain built = refl
-  run-plain (statement.Select select) built = select_step _ _ (lowest-plain _ (select-plain db.schema select))
-  run-plain (statement.Insert name names tuples) built = insert_step _ _ _ (lowest-plain _ (insert-plain db.schema name names tuples))
-  run-plain _ built = let never : false ≡ true = built in absurd (cc)

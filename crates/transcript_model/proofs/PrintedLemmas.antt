@@ -154,18 +154,18 @@ others_added done entry Spared calls next within = others_within done entry call
 others_added done entry Unshown calls next within = others_within done entry calls next within
 others_added done entry Unmade calls next within = nothing_of calls
 
-is_of_own : (base : Db) (history : History) (call : ScriptCall) → is_of call (entry_of base history call) ≡ true
-is_of_own base history call = search rules
+is_of_own : (call : ScriptCall) → is_of call (entry_of call) ≡ true
+is_of_own call = search rules
 
-pub place_added : (base : Db) (history : History) (call : ScriptCall) (want : Want) → NoneOf call history
-    → place_of (history ++ added (entry_of base history call) want) call ≡ place_by want (length history)
-place_added base history call Spared none = place_from-last 0 call history (entry_of base history call) none (is_of_own base history call) ∙ ap (λ n. Some n) (omega arith)
-place_added base history call Unshown none = place_from-last 0 call history (entry_of base history call) none (is_of_own base history call) ∙ ap (λ n. Some n) (omega arith)
-place_added base history call Unmade none = ap (λ h. place_of h call) (append-nil history) ∙ place_from-none 0 call history none
+pub place_added : (history : History) (call : ScriptCall) (want : Want) → NoneOf call history
+    → place_of (history ++ added (entry_of call) want) call ≡ place_by want (length history)
+place_added history call Spared none = place_from-last 0 call history (entry_of call) none (is_of_own call) ∙ ap (λ n. Some n) (omega arith)
+place_added history call Unshown none = place_from-last 0 call history (entry_of call) none (is_of_own call) ∙ ap (λ n. Some n) (omega arith)
+place_added history call Unmade none = ap (λ h. place_of h call) (append-nil history) ∙ place_from-none 0 call history none
 
-pub made-append : (base : Db) (calls : List Called) (called : Called) → made base (calls ++ called ∷ []) ≡ after_call base (made base calls) called
+pub made-append : (calls : List Called) (called : Called) → made (calls ++ called ∷ []) ≡ after_call (made calls) called
 unfolding made
-made-append base calls called = fold-append (after_call base) [] calls (called ∷ [])
+made-append calls called = fold-append after_call [] calls (called ∷ [])
 
 pub printed-last : (base : Db) (history : History) (calls : List Called) (called : Called)
     → printed base history (calls ++ called ∷ []) ≡ printed base history calls ++ lines_of base history called

@@ -24,11 +24,11 @@ spared-calls (called ∷ rest) all = λ i. record { call = called.call; want = a
 
 -- the history and the text of a run in which memory refused nothing
 pub run-spared : (base : Db) (calls : List ScriptCall) (history : History) (text : List ℕ) (run : IsTranscript base calls history text)
-    → IsSpared run.called → (history ≡ made base (spared calls)) × (text ≡ printed base (made base (spared calls)) (spared calls))
+    → IsSpared run.called → (history ≡ made (spared calls)) × (text ≡ printed base (made (spared calls)) (spared calls))
 run-spared base calls history text run all =
     let same = spared-calls run.called all ∙ ap spared run.calls_are in
-    let history_is = run.history_is ∙ ap (made base) same in
-    (history_is, run.text_is ∙ (ap (λ h. printed base h run.called) history_is ∙ ap (printed base (made base (spared calls))) same))
+    let history_is = run.history_is ∙ ap made same in
+    (history_is, run.text_is ∙ (ap (λ h. printed base h run.called) history_is ∙ ap (printed base (made (spared calls))) same))
 
 -- a text tells of memory where a part of it does
 tells-front : (front rest : List ℕ) → TellsMemory front → TellsMemory (front ++ rest)
@@ -111,48 +111,48 @@ added_at_most history entry Unshown = omega (arith, length-append history (entry
 added_at_most history entry Unmade = omega (arith, length-append history [])
 
 -- calls make an entry each at most
-fold_at_most : (base : Db) (history : History) (called : List Called) → length (fold (after_call base) history called) ≤ length history + length called
-fold_at_most base history [] = omega arith
-fold_at_most base history (first ∷ rest) =
-    let step = added_at_most history (entry_of base history first.call) first.want in
-    let more = fold_at_most base (after_call base history first) rest in
+fold_at_most : (history : History) (called : List Called) → length (fold after_call history called) ≤ length history + length called
+fold_at_most history [] = omega arith
+fold_at_most history (first ∷ rest) =
+    let step = added_at_most history (entry_of first.call) first.want in
+    let more = fold_at_most (after_call history first) rest in
     omega arith
 
 -- where there is an entry for each call, every call was made
-made_step : (base : Db) (history : History) (call : ScriptCall) (want : Want) (rest : List Called)
-    → length (fold (after_call base) (history ++ added (entry_of base history call) want) rest) ≡ length history + (length rest + 1)
-    → ((history : History) → length (fold (after_call base) history rest) ≡ length history + length rest
-    → fold (after_call base) history rest ≡ fold (after_call base) history (spared (map (λ (c : Called). c.call) rest)))
-    → fold (after_call base) (history ++ added (entry_of base history call) want) rest
-    ≡ fold (after_call base) (history ++ entry_of base history call ∷ []) (spared (map (λ (c : Called). c.call) rest))
-made_step base history call Spared rest long more = more (history ++ entry_of base history call ∷ []) (omega (arith, length-append history (entry_of base history call ∷ [])))
-made_step base history call Unshown rest long more = more (history ++ entry_of base history call ∷ []) (omega (arith, length-append history (entry_of base history call ∷ [])))
-made_step base history call Unmade rest long more =
-    let few = fold_at_most base (history ++ []) rest in
+made_step : (history : History) (call : ScriptCall) (want : Want) (rest : List Called)
+    → length (fold after_call (history ++ added (entry_of call) want) rest) ≡ length history + (length rest + 1)
+    → ((history : History) → length (fold after_call history rest) ≡ length history + length rest
+    → fold after_call history rest ≡ fold after_call history (spared (map (λ (c : Called). c.call) rest)))
+    → fold after_call (history ++ added (entry_of call) want) rest
+    ≡ fold after_call (history ++ entry_of call ∷ []) (spared (map (λ (c : Called). c.call) rest))
+made_step history call Spared rest long more = more (history ++ entry_of call ∷ []) (omega (arith, length-append history (entry_of call ∷ [])))
+made_step history call Unshown rest long more = more (history ++ entry_of call ∷ []) (omega (arith, length-append history (entry_of call ∷ [])))
+made_step history call Unmade rest long more =
+    let few = fold_at_most (history ++ []) rest in
     let same = length-append history [] in
     absurd (omega arith)
 
-made_all : (base : Db) (history : History) (called : List Called) → length (fold (after_call base) history called) ≡ length history + length called
-    → fold (after_call base) history called ≡ fold (after_call base) history (spared (map (λ (c : Called). c.call) called))
-made_all base history [] long = refl
-made_all base history (first ∷ rest) long =
-    made_step base history first.call first.want rest (omega arith) (λ history long. made_all base history rest long)
+made_all : (history : History) (called : List Called) → length (fold after_call history called) ≡ length history + length called
+    → fold after_call history called ≡ fold after_call history (spared (map (λ (c : Called). c.call) called))
+made_all history [] long = refl
+made_all history (first ∷ rest) long =
+    made_step history first.call first.want rest (omega arith) (λ history long. made_all history rest long)
 
-made-same : (base : Db) (called : List Called) → length (made base called) ≡ length called → made base called ≡ made base (spared (map (λ (c : Called). c.call) called))
+made-same : (called : List Called) → length (made called) ≡ length called → made called ≡ made (spared (map (λ (c : Called). c.call) called))
 unfolding made
-made-same base called long = made_all base [] called (omega arith)
+made-same called long = made_all [] called (omega arith)
 
 -- The history and the text of a transcript that has an entry for each call and doesn't tell of memory.
 pub transcript-full : (base : Db) (calls : List ScriptCall) (history : History) (text : List ℕ) → IsTranscript base calls history text
     → length history ≡ length calls → (TellsMemory text → ⊥)
-    → (history ≡ made base (spared calls)) × (text ≡ printed base (made base (spared calls)) (spared calls))
+    → (history ≡ made (spared calls)) × (text ≡ printed base (made (spared calls)) (spared calls))
 transcript-full base calls history text transcript long none =
     let called = transcript.called in
     let mapped = length-map called (λ (c : Called). c.call) in
     let counted : length (map (λ (c : Called). c.call) called) ≡ length calls = ap length transcript.calls_are in
-    let own : length history ≡ length (made base called) = ap length transcript.history_is in
-    let full : length (made base called) ≡ length called = omega arith in
-    let history_is = transcript.history_is ∙ (made-same base called full ∙ ap (λ calls. made base (spared calls)) transcript.calls_are) in
+    let own : length history ≡ length (made called) = ap length transcript.history_is in
+    let full : length (made called) ≡ length called = omega arith in
+    let history_is = transcript.history_is ∙ (made-same called full ∙ ap (λ calls. made (spared calls)) transcript.calls_are) in
     let silent : TellsMemory (printed base history called) → ⊥ = λ tells. none (subst TellsMemory (sym transcript.text_is) tells) in
     let text_is = transcript.text_is ∙ (printed-same base history called silent ∙ ap (λ calls. printed base history (spared calls)) transcript.calls_are) in
     (history_is, text_is ∙ ap (λ h. printed base h (spared calls)) history_is)

@@ -8,7 +8,6 @@ use Rattle.own_model.specs.Db.{Db}
 use Rattle.history_model.specs.History.{History, reply}
 use Rattle.history_model.specs.Made.{Want, Spared, Unshown, Unmade, Called, added, after_call, entry_of, made, place_by}
 use Rattle.history_model.specs.MayBeUnmade.{MayBeUnmade}
-use Rattle.history_model.proofs.UnmadeLemmas.{unmade-append}
 use Rattle.script_model.proofs.Counts.{count-more, count-own}
 use Rattle.script_model.proofs.InputCalls.{all-append}
 use Rattle.text_model.specs.Lines.{reply_lines}
@@ -19,23 +18,22 @@ use Rattle.transcript_model.proofs.PrintedLemmas.{CallsWithin, EntriesWithin, Is
 -- A call more: its entry goes after the history, unless memory refused it, and its lines after the text.
 pub transcript-more : (base : Db) (calls : List ScriptCall) (history : History) (text : List ℕ) (call : ScriptCall) (want : Want)
     → IsTranscript base calls history text → IsNext calls call → CallsWithin calls calls → EntriesWithin calls history
-    → (want ≡ Unmade → MayBeUnmade (entry_of base history call).request)
-    → IsTranscript base (calls ++ call ∷ []) (history ++ added (entry_of base history call) want)
-    (text ++ lines_at base (history ++ added (entry_of base history call) want) (record { call = call; want = want }) (place_by want (length history)))
+    → (want ≡ Unmade → MayBeUnmade (entry_of call).request)
+    → IsTranscript base (calls ++ call ∷ []) (history ++ added (entry_of call) want)
+    (text ++ lines_at base (history ++ added (entry_of call) want) (record { call = call; want = want }) (place_by want (length history)))
 unfolding made
 transcript-more base calls history text call want run next within earlier cause =
     let last : Called = record { call = call; want = want } in
-    let grown = history ++ added (entry_of base history call) want in
+    let grown = history ++ added (entry_of call) want in
     let same_calls = map-append (λ called. called.call) run.called (last ∷ []) ∙ ap (λ calls. calls ++ call ∷ []) run.calls_are in
-    let others = others_added calls (entry_of base history call) want run.called next (rw run.calls_are within) in
-    let before = run.text_is ∙ sym (printed-append base history (added (entry_of base history call) want) run.called others) in
-    let lines = lines_of-place base grown last (place_by want (length history)) (place_added base history call want (none_within calls call history next earlier)) in
+    let others = others_added calls (entry_of call) want run.called next (rw run.calls_are within) in
+    let before = run.text_is ∙ sym (printed-append base history (added (entry_of call) want) run.called others) in
+    let lines = lines_of-place base grown last (place_by want (length history)) (place_added history call want (none_within calls call history next earlier)) in
     record {
       called = run.called ++ last ∷ [];
       calls_are = same_calls;
-      unmade = unmade-append base [] run.called last run.unmade
-          (λ unmade. let P : History → Type 0 = λ h. MayBeUnmade (entry_of base h call).request in subst P run.history_is (cause unmade));
-      history_is = ap (λ h. after_call base h last) run.history_is ∙ sym (made-append base run.called last);
+      unmade = all-append (λ (c : Called). c.want ≡ Unmade → MayBeUnmade (entry_of c.call).request) run.called (last ∷ []) run.unmade (cause, tt);
+      history_is = ap (λ h. after_call h last) run.history_is ∙ sym (made-append run.called last);
       text_is = ap (λ t. t ++ lines_at base grown last (place_by want (length history))) before
           ∙ (ap (λ l. printed base grown run.called ++ l) lines ∙ sym (printed-last base grown run.called last));
     }
@@ -61,20 +59,20 @@ entries_kept done more [] within = tt
 entries_kept done more (entry ∷ history) within =
     (let least = count-more entry.session.0 done more in let own = within.0 in omega arith, entries_kept done more history within.1)
 
-entries_last : (base : Db) (done : List ScriptCall) (history : History) (call : ScriptCall) → IsNext done call → EntriesWithin done history
-    → EntriesWithin (done ++ call ∷ []) (history ++ entry_of base history call ∷ [])
-entries_last base done history call next within =
-    all-append _ history (entry_of base history call ∷ []) (entries_kept done call history within) (let own = count-own done call in omega arith, tt)
+entries_last : (done : List ScriptCall) (history : History) (call : ScriptCall) → IsNext done call → EntriesWithin done history
+    → EntriesWithin (done ++ call ∷ []) (history ++ entry_of call ∷ [])
+entries_last done history call next within =
+    all-append _ history (entry_of call ∷ []) (entries_kept done call history within) (let own = count-own done call in omega arith, tt)
 
-pub entries_within-more : (base : Db) (done : List ScriptCall) (history : History) (call : ScriptCall) (want : Want) → IsNext done call → EntriesWithin done history
-    → EntriesWithin (done ++ call ∷ []) (history ++ added (entry_of base history call) want)
-entries_within-more base done history call Spared next within = entries_last base done history call next within
-entries_within-more base done history call Unshown next within = entries_last base done history call next within
-entries_within-more base done history call Unmade next within = rw append-nil (entries_kept done call history within)
+pub entries_within-more : (done : List ScriptCall) (history : History) (call : ScriptCall) (want : Want) → IsNext done call → EntriesWithin done history
+    → EntriesWithin (done ++ call ∷ []) (history ++ added (entry_of call) want)
+entries_within-more done history call Spared next within = entries_last done history call next within
+entries_within-more done history call Unshown next within = entries_last done history call next within
+entries_within-more done history call Unmade next within = rw append-nil (entries_kept done call history within)
 
 told_step : (base : Db) (history : History) (call : ScriptCall) (shown : Reply) (reply_there : Option Reply)
-    → reply base (history ++ entry_of base history call ∷ []) (length history) ≡ reply_there → Tells shown reply_there
-    → (want : Want) × (added (entry_of base history call) want ≡ entry_of base history call ∷ [])
+    → reply base (history ++ entry_of call ∷ []) (length history) ≡ reply_there → Tells shown reply_there
+    → (want : Want) × (added (entry_of call) want ≡ entry_of call ∷ [])
     × (reply_lines (Some (length history)) call.session.0 call.call shown ≡ text_of_call base history call want)
 told_step base history call shown None is told = absurd told
 told_step base history call shown (Some reply) is (inl same) = (Spared, refl, rw is (ap (reply_lines (Some (length history)) call.session.0 call.call) same))
@@ -82,7 +80,7 @@ told_step base history call shown (Some reply) is (inr same) = (Unshown, refl, r
 
 -- what is told of the last entry is the text of its call
 pub told-last : (base : Db) (history : History) (call : ScriptCall) (shown : Reply)
-    → Tells shown (reply base (history ++ entry_of base history call ∷ []) (length history))
-    → (want : Want) × (added (entry_of base history call) want ≡ entry_of base history call ∷ [])
+    → Tells shown (reply base (history ++ entry_of call ∷ []) (length history))
+    → (want : Want) × (added (entry_of call) want ≡ entry_of call ∷ [])
     × (reply_lines (Some (length history)) call.session.0 call.call shown ≡ text_of_call base history call want)
 told-last base history call shown told = told_step base history call shown _ refl told

@@ -1,5 +1,5 @@
 pub mod PlainAnswer
+pub mod PlainHistory
 pub mod Printed
-pub mod Short
 pub mod TellsMemory
 pub mod Transcript

@@ -1,5 +1,5 @@
 -- What calls leave that are made one after another: a history and a text.
-use Rattle.std.specs.Prelude.{◌≡◌, ℕ, List, [], ◌++◌, length, map}
+use Rattle.std.specs.Prelude.{◌≡◌, ℕ, List, ◌++◌, length, map}
 use Rattle.std.specs.List.{AllByRecursion}
 use Rattle.own_model.specs.declared.script.ScriptCall.{ScriptCall}
 use Rattle.own_model.specs.Db.{Db}
@@ -11,7 +11,7 @@ use Rattle.transcript_model.specs.Printed.{lines_at, printed}
 -- the text of one call more
 abbrev pub text_of_call : Db → History → ScriptCall → Want → List ℕ
 text_of_call base history call want =
-    lines_at base (history ++ added (entry_of base history call) want) (record { call = call; want = want }) (place_by want (length history))
+    lines_at base (history ++ added (entry_of call) want) (record { call = call; want = want }) (place_by want (length history))
 
 -- The calls were made over a database, in their order and each once, but for those that memory kept from being made; they
 -- made the history, and the text is theirs.
@@ -19,8 +19,8 @@ pub record IsTranscript (base : Db) (calls : List ScriptCall) (history : History
   -- what refused memory did to each call
   pub called : List Called
   pub calls_are : map (λ called. called.call) called ≡ calls
-  pub unmade : AreUnmadeByMemory base [] called
-  pub history_is : history ≡ made base called
+  pub unmade : AreUnmadeByMemory called
+  pub history_is : history ≡ made called
   pub text_is : text ≡ printed base history called
 
 -- each of these calls, where memory refuses none

@@ -1,5 +1,5 @@
 use Rattle.script_model.proofs.InputCalls.{calls-numbered, calls-readable}
-use Rattle.transcript_model.proofs.ShortHistories.{input-calls}
+use Rattle.store_top.proofs.Runs.{input-calls}
 use Rattle.store_top.proofs.running.serve_bytes.Goals as goal
 
 pub serve_script-requires-clause-numbered : goal.serve_script-requires-clause-numbered

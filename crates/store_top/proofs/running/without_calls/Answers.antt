@@ -1,5 +1,8 @@
-use Rattle.store_top.proofs.Runs.{serial-silent}
+use Rattle.std.proofs.Common.{subst, sym}
+use Rattle.own_model.specs.Db.{empty}
+use Rattle.history_model.specs.Serial.{Serial}
+use Rattle.transcript_model.proofs.PlainHistories.{plain-none, serial-plain}
 use Rattle.store_top.proofs.running.without_calls.Goals as goal
 
 pub returns-clause-serial : goal.returns-clause-serial
-returns-clause-serial c = serial-silent _ c.new.ensures
+returns-clause-serial g c = subst (Serial empty) (sym c.new.ensures) (serial-plain _ plain-none)

@@ -1,35 +1,28 @@
-use Rattle.std.proofs.Common.{arith}
+use Rattle.std.proofs.Common.{arith, refl, ◌∙◌}
 use Rattle.std.proofs.lemmas.Result.{err_from_is_err_and}
-use Rattle.store_top.proofs.Serving.{serving-none, serving-more, serving-short, serving-breaks, serving-refused}
+use Rattle.store_top.proofs.Serving.{serving-none, serving-more, serving-breaks, serving-refused}
 use Rattle.store_top.proofs.steps.serve_calls.Goals as goal
 
 pub loop-call-init : goal.loop-call-init
 loop-call-init g c = record {
-  holds = c.requires.holds;
-  capacity = omega arith;
+  room = rw c.into_iter-call-iterator.ensures.into_iter_gives.0 (omega (arith, c.requires.room));
+  disk = refl;
   counted = omega arith;
-  serving = rw (c.into_iter-call-iterator.ensures.into_iter_gives.0, c.requires.fresh) (serving-none c.args.calls.items (g.W.Sink.written c.args.sink.now) c.requires.numbered c.requires.readable);
+  serving = rw (c.into_iter-call-iterator.ensures.into_iter_gives.0, c.requires.fresh) (serving-none c.args.calls.items (g.W.Sink.written c.args.sink.now) c.requires.numbered c.requires.readable c.requires.input.sessions);
 }
-
--- the history stays short
-pub serve_call-requires-clause-short : goal.serve_call-requires-clause-short
-serve_call-requires-clause-short g c =
-    let before = rw c.in-Some.ensures.steps.0 at c.loop-call.invariant.serving in
-    serving-short c.args.calls.items c.loop-call.yielded c.in-Some.call _ c.loop-call.engine.history.items (g.W.Sink.written c.args.sink.now)
-    (g.W.Sink.written c.loop-call.sink) c.requires.input c.requires.readable before
 
 pub loop-call-preserved : goal.loop-call-preserved
 loop-call-preserved g c =
     let before = rw c.in-Some.ensures.steps.0 at c.loop-call.invariant.serving in
     let room = c.in_ok-serve_call.ensures.room in
     let counted = c.in_ok-serve_call.ensures.counted in
-    let capacity = c.loop-call.invariant.capacity in
+    let left = rw c.in-Some.ensures.steps.0 at c.loop-call.invariant.room in
     let earlier = c.loop-call.invariant.counted in
     record {
-      holds = c.in_ok-serve_call.ensures.holds;
-      capacity = omega arith;
+      room = omega arith;
+      disk = c.in_ok-serve_call.ensures.disk ∙ c.loop-call.invariant.disk;
       counted = omega arith;
-      serving = serving-more c.args.calls.items c.loop-call.yielded c.in-Some.call _ c.loop-call.engine.history.items c.serve_call.new.engine.history.items
+      serving = serving-more c.args.calls.items c.loop-call.yielded c.in-Some.call _ c.loop-call.engine.history c.serve_call.new.engine.history
           (g.W.Sink.written c.args.sink.now) (g.W.Sink.written c.loop-call.sink) (g.W.Sink.written c.serve_call.new.sink) before c.in_ok-serve_call.field-0 c.in_ok-serve_call.ensures.makes;
     }
 
@@ -37,7 +30,7 @@ pub returns-in_err-serve_call-clause-broken : goal.returns-in_err-serve_call-cla
 returns-in_err-serve_call-clause-broken g c is =
     let before = rw c.in-Some.ensures.steps.0 at c.loop-call.invariant.serving in
     let failed = err_from_is_err_and c.from_residual.result c.from_residual.ensures.1 in
-    serving-breaks c.args.calls.items c.loop-call.yielded c.in-Some.call _ c.loop-call.engine.history.items c.serve_call.new.engine.history.items
+    serving-breaks c.args.calls.items c.loop-call.yielded c.in-Some.call _ c.loop-call.engine.history c.serve_call.new.engine.history
     (g.W.Sink.written c.args.sink.now) (g.W.Sink.written c.loop-call.sink) (g.W.Sink.written c.serve_call.new.sink) before _ c.in_err-serve_call.ensures.makes
     (cc (is, failed.1, failed.2))
 
@@ -45,6 +38,6 @@ pub returns-in_err-serve_call-clause-refused : goal.returns-in_err-serve_call-cl
 returns-in_err-serve_call-clause-refused g c is =
     let before = rw c.in-Some.ensures.steps.0 at c.loop-call.invariant.serving in
     let failed = err_from_is_err_and c.from_residual.result c.from_residual.ensures.1 in
-    serving-refused c.args.calls.items c.loop-call.yielded c.in-Some.call _ c.loop-call.engine.history.items c.serve_call.new.engine.history.items
+    serving-refused c.args.calls.items c.loop-call.yielded c.in-Some.call _ c.loop-call.engine.history c.serve_call.new.engine.history
     (g.W.Sink.written c.args.sink.now) (g.W.Sink.written c.loop-call.sink) (g.W.Sink.written c.serve_call.new.sink) before _ c.in_err-serve_call.ensures.makes
     (cc (is, failed.1, failed.2))

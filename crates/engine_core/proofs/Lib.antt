@@ -1,0 +1,12 @@
+mod BoundSelects
+mod BoundStatements
+mod Commits
+mod CreatedTables
+mod FewColumns
+mod KeptTables
+mod KeptViews
+mod Nets
+mod NoCreates
+mod Standing
+mod TableSources
+mod Writes

@@ -1,0 +1,65 @@
+-- A commit without changes.
+use Rattle.std.proofs.Common.{◌≡◌, ℕ, ◌+◌, List, [], ◌∷◌, length, Bool, true, false, refl, ap, sym, ◌∙◌, arith}
+use Rattle.std.specs.Prelude.{◌==◌, None, if◌then◌else◌}
+use Rattle.std.proofs.lemmas.Bool.{eqb-true}
+use Rattle.own_base.specs.declared.change.Change.{Change}
+use Rattle.own_model.specs.declared.history.Verdict.TheVariants.{Took}
+use Rattle.own_model.specs.declared.reply.Reply.{Reply}
+use Rattle.own_model.specs.declared.schema.TableDef.{TableDef}
+use Rattle.own_model.specs.Db.{AreRising, Db, Row}
+use Rattle.page_model.specs.Changed.{with_changes}
+use Rattle.state_model.specs.Fault.{fault}
+use Rattle.state_model.specs.Net.{net}
+use Rattle.state_model.specs.Payload.{payload_bytes}
+use Rattle.state_model.specs.Settle.{settle, settled, too_big}
+use Rattle.state_model.specs.Sound.{Sound}
+use Rattle.txn_space.specs.Put.{put_from, put_rows}
+use Rattle.history_model.specs.Reply.{changes, committing, is_refusal}
+use Rattle.engine_core.specs.Answered.{Tells, left}
+use Rattle.engine_core.specs.Changed.{IsNet, changed}
+use Rattle.engine_core.specs.declared.answer.Answer.{Answer}
+
+-- no change leaves the rows
+put-none : (number : ℕ) (tables : List TableDef) (rows : List (List Row)) → AreRising tables rows → put_from number tables [] rows ≡ rows
+unfolding put_from with_changes
+put-none number [] [] rising = refl
+put-none number [] (first ∷ rest) rising = absurd rising
+put-none number (table ∷ tables) [] rising = absurd rising
+put-none number (table ∷ tables) (first ∷ rest) rising = ap (λ rest. first ∷ rest) (put-none (number + 1) tables rest rising.1)
+
+pub none-of : (list : List Change) → (length list == 0) ≡ true → list ≡ []
+none-of [] is = refl
+none-of (change ∷ list) is = let never = eqb-true (length (change ∷ list)) 0 is in absurd (omega arith)
+
+module _ (db : Db) (sound : Sound db) where
+  pub changed-none : changed db [] ≡ db
+  changed-none = ap (λ rows. record db { rows = rows }) (put-none 0 db.schema.tables db.rows sound.kept.ordered.rising)
+
+  -- and its net is empty
+  module _ (list : List Change) (is : IsNet db list) (none : list ≡ []) where
+    same : changed db list ≡ db
+    same = ap (changed db) none ∙ changed-none
+
+    empty_net : net db db ≡ []
+    empty_net = ap (net db) (sym same) ∙ (sym is.net ∙ none)
+
+    settles : settle db db ≡ None
+    unfolding settle payload_bytes
+    settles = rw (sound.faultless, empty_net) refl
+
+    unchanged : changes db db ≡ false
+    unchanged = rw empty_net refl
+
+    step : (refused : Bool) (reply : Reply) → is_refusal reply ≡ refused → committing Took false None reply ≡ reply
+    step true reply is = rw is refl
+    step false reply is = rw is refl
+
+    leaves-step : (refused : Bool) → left db None ≡ (if refused then db else db)
+    leaves-step true = refl
+    leaves-step false = refl
+
+    -- so it is told as it ran, and leaves the database
+    pub tells-none : (reply : Reply) (answer : Answer) → answer.reply ≡ reply → answer.next ≡ None
+        → Tells db (committing Took (changes db (changed db list)) (settle db (changed db list)) reply) (changed db list) answer
+    tells-none reply answer told stays =
+        rw same (rw (unchanged, settles, step (is_refusal reply) reply refl) (record { told = told; leaves = rw stays (leaves-step (is_refusal reply)) }))

@@ -1,0 +1,23 @@
+use Rattle.std.proofs.Common.{subst}
+use Rattle.std.proofs.lemmas.Result.{IfOk-weaker}
+use Rattle.grammar_model.specs.Readable.{IsWritten}
+use Rattle.own_model.specs.declared.limit.TheConstants.{STATEMENT_BYTES}
+use Rattle.readable_model.proofs.Within.{view_within}
+use Rattle.state_model.proofs.CreatedSchema.{views_within-created}
+use Rattle.engine_core.proofs.CreatedTables.{tells-unviewed, view-room}
+use Rattle.engine_core.proofs.creating.create_view.Goals as goal
+
+pub bind_view-requires-clause-views : goal.bind_view-requires-clause-views
+bind_view-requires-clause-views c = rw (c.schema.ensures.same, c.catalog.ensures.schema) (views_within-created c.args.version.now c.requires.kept.created)
+
+pub bind_view-requires-clause-items : goal.bind_view-requires-clause-items
+bind_view-requires-clause-items c = view_within c.args.create.now (subst (IsWritten STATEMENT_BYTES) c.requires.of c.requires.written)
+
+pub prepare_view-requires : goal.prepare_view-requires
+prepare_view-requires c = view-room c.args.version.now.schema c.args.create.now c.in-Ok.definition (rw (c.schema.ensures.same, c.catalog.ensures.schema) at c.in-Ok.ensures.ok)
+
+pub returns-in-Err : goal.returns-in-Err
+returns-in-Err c =
+    IfOk-weaker c.refused.result _ _ (λ answer is.
+    tells-unviewed c.args.version.now c.args.create.now c.in-Err.why answer (rw (c.schema.ensures.same, c.catalog.ensures.schema) at (c.in-Err.ensures.err is.1.1)) is.0 is.1.0)
+    c.refused.ensures

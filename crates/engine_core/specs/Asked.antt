@@ -1,0 +1,33 @@
+-- Requests as the engine runs them.
+use Rattle.std.specs.Prelude.{◌≡◌, true}
+use Rattle.own_model.specs.declared.bound.Bound.{Bound}
+use Rattle.own_model.specs.declared.bound.Bound.TheVariants as bound
+use Rattle.own_model.specs.declared.request.Request.{Request}
+use Rattle.own_model.specs.declared.request.Request.TheVariants.{Run}
+use Rattle.own_model.specs.declared.schema.Schema.{Schema}
+use Rattle.own_model.specs.declared.statement.Statement.{Statement}
+use Rattle.own_model.specs.declared.statement.Statement.TheVariants.{Delete, Insert, Select, Update}
+use Rattle.readable_model.specs.Sources.{IsThere}
+use Rattle.history_model.specs.Built.{is_built}
+use Rattle.write_eval.specs.Write.{IsWrite}
+
+-- a statement that is bound before it runs
+abbrev pub IsBound : Statement → Type 0
+IsBound (Select select) = Unit {0}
+IsBound (Insert table columns rows) = Unit {0}
+IsBound (Update table sets cond) = Unit {0}
+IsBound (Delete table cond) = Unit {0}
+IsBound _ = ⊥
+
+-- what such a statement is bound to: a SELECT whose source is there, or a write
+abbrev pub IsMeant : Schema → Bound → Type 0
+IsMeant schema (bound.Select query) = IsThere schema query
+IsMeant schema (bound.Insert table rows) = IsWrite schema (bound.Insert table rows)
+IsMeant schema (bound.Update table sets cond) = IsWrite schema (bound.Update table sets cond)
+IsMeant schema (bound.Delete table cond) = IsWrite schema (bound.Delete table cond)
+IsMeant schema _ = ⊥
+
+-- a request that runs nothing but what is built
+abbrev pub IsBuiltRequest : Request → Type 0
+IsBuiltRequest (Run statement) = is_built statement ≡ true
+IsBuiltRequest _ = Unit {0}

@@ -1,0 +1,5 @@
+pub mod Answered
+pub mod Asked
+pub mod Changed
+pub mod Seen
+pub mod Views

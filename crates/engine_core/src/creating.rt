@@ -1,0 +1,83 @@
+ghost use Rattle.std.specs.Prelude.{◌≡◌, true, IfOk};
+ghost use Rattle.own_model.specs.declared.history.Verdict.TheVariants.{Took};
+ghost use Rattle.own_model.specs.declared.limit.TheConstants.{STATEMENT_BYTES};
+ghost use Rattle.own_model.specs.declared.statement.Statement.TheVariants as statement_of;
+ghost use Rattle.own_model.specs.declared.reply.Reply.TheVariants.{Done};
+ghost use Rattle.own_model.specs.Db.{Db};
+ghost use Rattle.grammar_model.specs.Readable.{IsWritten};
+ghost use Rattle.state_model.specs.Fault.{fault};
+ghost use Rattle.state_model.specs.Sound.{IsKept};
+ghost use Rattle.run_model.specs.Run as run;
+ghost use Rattle.history_model.specs.Reply.{committing, create_reply};
+ghost use Rattle.engine_core.specs.Answered.{Tells};
+
+use crate::answer::Answer;
+use crate::commit::{first_fault, settled};
+use own_model::{CreateTable, CreateView, Reply, Statement};
+use plan_bind::bind_view;
+use sql_print::print_statement;
+use std::alloc::{AllocError, Global};
+use std::mem::drop;
+use store_version::{Next, Version, prepare_table, prepare_view};
+
+/// The answer to a CREATE that leads to a next version, if that has no fault.
+fn checked(alloc: Global, next: Next) -> Result<Answer, AllocError>
+    requires { IsKept next }
+    ensures { IfOk result (λ answer. (db : Db) → Tells db (committing Took true (fault next) Done) next answer) }
+{
+    match first_fault(alloc, &next) {
+        Ok(cause) => Ok(settled(next, cause, Reply::Done)),
+        Err(refused) => {
+            drop(next);
+            Err(refused)
+        }
+    }
+}
+
+/// CREATE TABLE, which the statement is.
+pub(crate) fn create_table(
+    alloc: Global,
+    version: &Version,
+    create: &CreateTable,
+    statement: &Statement,
+) -> Result<Answer, AllocError>
+    requires kept { IsKept version.now }
+    requires of { statement.now ≡ statement_of.CreateTable create.now }
+    requires written { IsWritten STATEMENT_BYTES statement.now }
+    ensures { IfOk result (Tells version.now (create_reply Took (run.create_table version.now create.now)) (run.create_table version.now create.now).db) }
+{
+    match version.catalog().admit(alloc, version, create) {
+        Ok(admitted) => match print_statement(alloc, statement) {
+            Ok(text) => checked(alloc, prepare_table(alloc, version, admitted, text)?),
+            Err(refused) => {
+                drop(admitted);
+                Err(refused)
+            }
+        },
+        Err(fault) => Answer::refused(fault.into_refusal()),
+    }
+}
+
+/// CREATE VIEW, which the statement is.
+pub(crate) fn create_view(
+    alloc: Global,
+    version: &Version,
+    create: &CreateView,
+    statement: &Statement,
+) -> Result<Answer, AllocError>
+    requires kept { IsKept version.now }
+    requires of { statement.now ≡ statement_of.CreateView create.now }
+    requires written { IsWritten STATEMENT_BYTES statement.now }
+    ensures { IfOk result (Tells version.now (create_reply Took (run.add_view version.now create.now)) (run.add_view version.now create.now).db) }
+{
+    match bind_view(alloc, version.catalog().schema(), create) {
+        Ok(definition) => match print_statement(alloc, statement) {
+            Ok(text) => checked(alloc, prepare_view(alloc, version, definition, text)?),
+            Err(refused) => {
+                drop(definition);
+                Err(refused)
+            }
+        },
+        Err(why) => Answer::refused(why),
+    }
+}

@@ -1,0 +1,18 @@
+//! The engine of a store: the state of a store and the history that made it, one call at a time.
+#![tactic(auto)]
+
+mod answer;
+mod closed;
+mod commit;
+mod creating;
+mod engine;
+mod open;
+mod reading;
+mod statements;
+mod step;
+mod writing;
+
+pub use closed::Closed;
+pub use engine::Engine;
+pub use open::OpenFault;
+pub use step::{NoLook, Step};
