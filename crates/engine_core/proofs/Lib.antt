@@ -3,6 +3,7 @@ mod BoundStatements
 mod Commits
 mod CreatedTables
 mod FewColumns
+mod Forgotten
 mod KeptTables
 mod KeptViews
 mod Nets

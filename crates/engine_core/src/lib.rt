@@ -10,6 +10,7 @@ mod open;
 mod reading;
 mod statements;
 mod step;
+mod subjects;
 mod writing;
 
 pub use closed::Closed;

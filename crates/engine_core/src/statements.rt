@@ -12,6 +12,7 @@ ghost use Rattle.engine_core.specs.Asked.{IsBound, IsBuiltRequest, IsMeant};
 use crate::answer::Answer;
 use crate::creating::{create_table, create_view};
 use crate::reading::select_reply;
+use crate::subjects::{forget, get_reply};
 use crate::writing::write;
 use own_model::{Bound, Refusal, Reply, Request, Statement};
 use plan_bind::bind;
@@ -32,7 +33,9 @@ fn run_meant(alloc: Global, version: &Version, bound: &Bound) -> Result<Answer, 
         Bound::Insert { .. } | Bound::Update { .. } | Bound::Delete { .. } => {
             write(alloc, version, bound)
         }
-        Bound::Get(_) | Bound::Forget(_) | Bound::Explain => unreachable!(),
+        Bound::Get(subject) => Ok(Answer::told(get_reply(alloc, version, subject)?)),
+        Bound::Forget(subject) => forget(alloc, version, subject),
+        Bound::Explain => unreachable!(),
     }
 }
 
