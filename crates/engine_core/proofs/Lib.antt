@@ -4,6 +4,7 @@ mod Commits
 mod CreatedTables
 mod FewColumns
 mod Forgotten
+mod Judged
 mod KeptTables
 mod KeptViews
 mod Nets

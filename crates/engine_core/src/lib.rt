@@ -7,6 +7,7 @@ mod commit;
 mod creating;
 mod engine;
 mod open;
+mod prepared;
 mod reading;
 mod statements;
 mod step;

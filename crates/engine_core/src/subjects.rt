@@ -9,7 +9,7 @@ ghost use Rattle.history_model.specs.Reply.{forget_reply};
 ghost use Rattle.engine_core.specs.Answered.{Tells};
 
 use crate::answer::Answer;
-use crate::commit::settled;
+use crate::commit::{judged, settled};
 use own_base::{Change, Subject};
 use own_model::{Reply, StoreView};
 use std::alloc::{AllocError, Global};
@@ -68,6 +68,11 @@ pub(crate) fn forget(
     let changes = erase_changes(alloc, version, subject)?;
     let next = prepare(alloc, version, changes.items())?;
     let reply = forgotten(changes.items());
-    drop(changes);
-    Ok(settled(next, None, reply))
+    match judged(alloc, &next) {
+        Ok(judged) => Ok(settled(next, judged, None, reply)),
+        Err(refused) => {
+            drop(next);
+            Err(refused)
+        }
+    }
 }
