@@ -1,18 +1,17 @@
 -- From the calls of an input to a run.
-use Rattle.std.proofs.Common.{◌≡◌, ℕ, ◌≤◌, length, List, [], ◌∷◌, ◌++◌, append_assoc, refl, sym, subst, ◌∙◌, inl, inr, append-nil}
+use Rattle.std.proofs.Common.{◌≡◌, ℕ, ◌≤◌, length, List, refl, inl, inr}
 use Rattle.std.specs.Prelude.{Option, None, Some, Err, ◌⊎◌}
 use Rattle.std.specs.Io.KnownBytes.{Consumes, IsAtEnd}
 use Rattle.own_model.specs.declared.limit.TheConstants.{INPUT_BYTES}
 use Rattle.own_model.specs.declared.script.InputFault.{InputFault}
 use Rattle.own_model.specs.declared.script.InputFault.TheVariants as input
 use Rattle.own_model.specs.declared.script.ScriptCall.{ScriptCall}
-use Rattle.own_model.specs.Db.{empty}
 use Rattle.history_model.specs.History.{History}
 use Rattle.script_model.specs.Script.{HasCalls, IsScript}
 use Rattle.script_model.proofs.InputCalls.{calls-few, calls-sessions}
 use Rattle.store_top.specs.declared.served.TopFault.{TopFault}
 use Rattle.store_top.specs.declared.served.TopFault.TheVariants.{Usage, Read, Write, Disk, Damaged, Input, Memory}
-use Rattle.store_top.specs.Steps.{AreOfInput, StopsAtCall, ToldBefore, ToldInPart}
+use Rattle.store_top.specs.Steps.{AreOfInput, ToldBefore, ToldInPart}
 use Rattle.store_top.specs.Top.{ReadsAtMost, RefusesInput, RunsInPart, RunsWhole, ServesBytes, ServesCalls}
 
 -- what serving the calls of an input left

@@ -1,5 +1,5 @@
 -- Calls served one after another.
-use Rattle.std.proofs.Common.{◌≡◌, ℕ, List, [], ◌∷◌, ◌++◌, length, take, refl, ap, sym, subst, ◌∙◌, arith, append_assoc, append-nil}
+use Rattle.std.proofs.Common.{◌≡◌, ℕ, List, [], ◌∷◌, ◌++◌, take, refl, ap, sym, subst, ◌∙◌, append_assoc, append-nil}
 use Rattle.std.specs.Prelude.{Option, None, Some, Result, Ok, Err}
 use Rattle.std.specs.Io.KnownBytes.{Appends}
 use Rattle.std.specs.List.{AllByRecursion}
@@ -8,7 +8,6 @@ use Rattle.own_model.specs.Db.{empty}
 use Rattle.script_model.specs.Numbered.{AreNumbered}
 use Rattle.script_model.specs.Split.{IsOfASession}
 use Rattle.history_model.specs.History.{History}
-use Rattle.history_model.specs.Made.{Want, Spared, Unshown, Unmade, added, entry_of}
 use Rattle.transcript_model.specs.Transcript.{text_of_call}
 use Rattle.transcript_model.proofs.PrintedLemmas.{CallsWithin, EntriesWithin}
 use Rattle.transcript_model.proofs.TranscriptLemmas.{calls_within-more, entries_within-more, transcript-more, transcript-none}

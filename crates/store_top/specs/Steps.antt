@@ -1,5 +1,5 @@
 -- What serving calls one after another does to a history and a sink.
-use Rattle.std.specs.Prelude.{◌≡◌, ℕ, ◌+◌, ◌<◌, ◌≤◌, List, [], ◌∷◌, ◌++◌, length, Option, take, Result, Ok, Err, IfOk}
+use Rattle.std.specs.Prelude.{◌≡◌, ◌≢◌, ℕ, ◌+◌, ◌<◌, ◌≤◌, List, [], ◌∷◌, ◌++◌, length, Option, take, Result, Ok, Err, IfOk}
 use Rattle.std.specs.Io.KnownBytes.{Appends}
 use Rattle.std.specs.List.{AllByRecursion}
 use Rattle.own_model.specs.declared.limit.TheConstants.{INPUT_CALLS, SESSIONS}
@@ -8,7 +8,7 @@ use Rattle.own_model.specs.Db.{empty}
 use Rattle.grammar_model.specs.Readable.{IsReadable}
 use Rattle.script_model.specs.Split.{IsOfASession}
 use Rattle.history_model.specs.History.{History}
-use Rattle.history_model.specs.Made.{Want, Unmade, added, entry_of}
+use Rattle.history_model.specs.Made.{Want, Unmade, Unshown, added, entry_of}
 use Rattle.history_model.specs.MayBeUnmade.{MayBeUnmade}
 use Rattle.transcript_model.specs.Transcript.{IsTranscript, text_of_call}
 use Rattle.store_top.specs.declared.steps.RunFault.{RunFault}
@@ -38,11 +38,12 @@ TellsCall (Err Write) old new text = ToldInPart old new [] text
 TellsCall (Err Memory) old new text = ToldBefore old new [] text
 
 -- The history grew by the call's entry, unless memory kept it from being made, and the text, where there is one, is the
--- call's.
+-- call's. A call that was made is told just as the history replies to it.
 pub record MakesCall {T E : Type 0} (bytes_of : T → List ℕ) (call : ScriptCall) (before after : History) (result : Result T E) : Type 0 where
   pub want : Want
   pub history_is : after ≡ before ++ added (entry_of call) want
   pub spared : want ≡ Unmade → MayBeUnmade (entry_of call).request
+  pub shown : want ≢ Unshown
   pub text_is : IfOk result (λ text. bytes_of text ≡ text_of_call empty before call want)
 
 -- The history grew by the call's entry, unless memory kept it from being made, and the sink has what the result says of

@@ -58,7 +58,7 @@ const CASES: [Case; 9] = [
         sink_fails: &[],
         status: 0,
         entries: 10,
-        output: "0 1.1 ok\n1 1.2 ok\n2 1.3 refused taken users\n3 1.4 refused syntax 0\n4 1.5 ok\n5 1.6 ok 1\n6 1.7 refused rows cities\n7 1.8 graph 4\n  users subject\n  msgs private\n  msgs.sender OWNED_BY users\n  cities public\n8 1.9 rows 1\n  2\n9 1.10 end\n",
+        output: "0 1.1 ok\n1 1.2 ok\n2 1.3 refused taken users\n3 1.4 refused owner msgs 1\n4 1.5 ok\n5 1.6 ok 1\n6 1.7 refused rows cities\n7 1.8 graph 4\n  users subject\n  msgs private\n  msgs.sender OWNED_BY users\n  cities public\n8 1.9 rows 1\n  2\n9 1.10 end\n",
     },
     Case {
         word: "step",

@@ -1,4 +1,4 @@
-use Rattle.std.proofs.Common.{arith, refl, ◌∙◌}
+use Rattle.std.proofs.Common.{Err, arith, refl, ◌∙◌}
 use Rattle.std.proofs.lemmas.Result.{err_from_is_err_and}
 use Rattle.store_top.proofs.Serving.{serving-none, serving-more, serving-breaks, serving-refused}
 use Rattle.store_top.proofs.steps.serve_calls.Goals as goal
@@ -31,7 +31,7 @@ returns-in_err-serve_call-clause-broken g c is =
     let before = rw c.in-Some.ensures.steps.0 at c.loop-call.invariant.serving in
     let failed = err_from_is_err_and c.from_residual.result c.from_residual.ensures.1 in
     serving-breaks c.args.calls.items c.loop-call.yielded c.in-Some.call _ c.loop-call.engine.history c.serve_call.new.engine.history
-    (g.W.Sink.written c.args.sink.now) (g.W.Sink.written c.loop-call.sink) (g.W.Sink.written c.serve_call.new.sink) before _ c.in_err-serve_call.ensures.makes
+    (g.W.Sink.written c.args.sink.now) (g.W.Sink.written c.loop-call.sink) (g.W.Sink.written c.serve_call.new.sink) before (Err c.in_err-serve_call.field-0.0) c.in_err-serve_call.ensures.makes
     (cc (is, failed.1, failed.2))
 
 pub returns-in_err-serve_call-clause-refused : goal.returns-in_err-serve_call-clause-refused
@@ -39,5 +39,5 @@ returns-in_err-serve_call-clause-refused g c is =
     let before = rw c.in-Some.ensures.steps.0 at c.loop-call.invariant.serving in
     let failed = err_from_is_err_and c.from_residual.result c.from_residual.ensures.1 in
     serving-refused c.args.calls.items c.loop-call.yielded c.in-Some.call _ c.loop-call.engine.history c.serve_call.new.engine.history
-    (g.W.Sink.written c.args.sink.now) (g.W.Sink.written c.loop-call.sink) (g.W.Sink.written c.serve_call.new.sink) before _ c.in_err-serve_call.ensures.makes
+    (g.W.Sink.written c.args.sink.now) (g.W.Sink.written c.loop-call.sink) (g.W.Sink.written c.serve_call.new.sink) before (Err c.in_err-serve_call.field-0.0) c.in_err-serve_call.ensures.makes
     (cc (is, failed.1, failed.2))
