@@ -1,1 +1,5 @@
+mod HeldTables
+pub mod Holders
+mod KeptItems
 mod RowLemmas
+mod TestLemmas

@@ -18,6 +18,7 @@ use Rattle.run_model.specs.Agree.{keys_meet}
 use Rattle.row_locks.specs.declared.hold.Hold.{Hold}
 use Rattle.row_locks.specs.declared.hold.Hold.TheVariants.{Free, Read, Written}
 use Rattle.row_locks.specs.Hold.{blocks}
+use Rattle.row_locks.proofs.TestLemmas.{and_false, joined, or_assoc, or_false}
 use Rattle.row_locks.specs.Locks.{AreRising, Rows, has_row, held_item, row_items, rows_meet}
 
 -- a test for a key, from either side
@@ -76,10 +77,6 @@ none_above key low (row ∷ rows) write is all =
     let apart : is_equal (key_cmp row.0 key) ≡ false = ap is_equal (first ∙ above) in
     rw apart (none_above key low rows write is all.1)
 
-or_false : (b : Bool) → (b || false) ≡ b
-or_false true = refl
-or_false false = refl
-
 -- under a key there is one row at most, and it alone is asked
 pub found : (rows : Rows) (key : Key) (write : Bool) → AreRising rows → rows_meet rows (Some key) write ≡ option_map_or (λ hold. blocks hold write) (lookup (is_at (key_cmp key)) rows) false
 unfolding IsStrictlySortedBy
@@ -90,11 +87,6 @@ found (row ∷ rows) key write rising = by (is_equal (key_cmp row.0 key)) refl (
         → rows_meet (row ∷ rows) (Some key) write ≡ option_map_or (λ hold. blocks hold write) (lookup (is_at (key_cmp key)) (row ∷ rows)) false
     by true is later = rw (at_key key row.0, is, none_above key row.0 rows write is rising.0) (or_false (blocks row.1 write))
     by false is later = rw (at_key key row.0, is) later
-
--- A place more for a key that has none: nothing else is held.
-and_false : (b : Bool) → (b && false) ≡ false
-and_false true = refl
-and_false false = refl
 
 module _ (key : Key) where
   pub added-same : (table : ℕ) (rows : Rows) → lookup (is_at (key_cmp key)) rows ≡ None → row_items table (insert_entry key_cmp rows key Free) ≡ row_items table rows
@@ -123,21 +115,6 @@ module _ (key : Key) where
 pub still_there : (before after : Option Hold) (b : Bool) (own : Hold) → after ≡ cond b (Some own) before → is_some before ≡ true → is_some after ≡ true
 still_there before after true own is there = rw is refl
 still_there before after false own is there = rw is there
-
--- A row is held more strongly.
-joined : (k b x r : Bool) → ((k && (b || x)) || r) ≡ (((k && b) || r) || (k && x))
-joined true true x true = refl
-joined true true x false = refl
-joined true false true true = refl
-joined true false true false = refl
-joined true false false true = refl
-joined true false false false = refl
-joined false b x true = refl
-joined false b x false = refl
-
-or_assoc : (a b c : Bool) → (a || (b || c)) ≡ ((a || b) || c)
-or_assoc true b c = refl
-or_assoc false b c = refl
 
 module _ (key : Key) (new : Hold) where
   pub held-more : (asked : Option Key) (asked_write more : Bool) (hold : Hold) (rows : Rows) → lookup (is_at (key_cmp key)) rows ≡ Some hold → blocks new asked_write ≡ (blocks hold asked_write || more)

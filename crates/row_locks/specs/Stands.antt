@@ -1,5 +1,5 @@
 -- What a session's items are good for: items stand for others where the same footprints meet them, and the same rows lie on them.
-use Rattle.std.specs.Prelude.{◌≡◌, ℕ, List, Option, filter_map, option_map}
+use Rattle.std.specs.Prelude.{◌≡◌, ℕ, List, ◌==◌, Option, None, filter_map, option_map, if◌then◌else◌}
 use Rattle.std.specs.List.{list_any}
 use Rattle.own_base.specs.declared.row_name.RowName.{RowName}
 use Rattle.own_model.specs.declared.footprint.FootItem.{FootItem}
@@ -21,7 +21,11 @@ AreHeld kept held = (session : ℕ) → StandFor (kept_by kept session) (held se
 abbrev pub holding_among : (ℕ → List FootItem) → List FootItem → ℕ → Option Holding
 holding_among held footprint session = option_map (λ item. record { session = session; item = item }) (first_overlap (held session) footprint)
 
--- The lowest other session that does.
+-- the same of another session
+abbrev pub holding_of_other : (ℕ → List FootItem) → ℕ → List FootItem → ℕ → Option Holding
+holding_of_other held session footprint other = if other == session then None else holding_among held footprint other
+
+-- The lowest other session that holds such an item.
 unfoldable pub holder_among : (ℕ → List FootItem) → ℕ → List FootItem → Option Holding
 holder_among held session footprint = first_holding (filter_map (holding_among held footprint) (others session))
 

@@ -6,6 +6,7 @@ mod hold;
 mod lock_table;
 mod row_holds;
 mod session_locks;
+mod sessions;
 mod table_locks;
 
 pub use held_item::HeldItem;

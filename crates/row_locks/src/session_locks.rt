@@ -1,14 +1,14 @@
-ghost use Rattle.std.specs.Prelude.{◌≡◌, ◌<◌, ◌≤◌, ◌||◌, ◌&&◌, ℕ, [], Bool, Option, Some, find, length, slice_get, slice_index_or, true, OnOk};
+ghost use Rattle.std.specs.Prelude.{◌≡◌, ◌≤◌, ◌||◌, [], length, slice_get, true, OnErr, OnOk};
 ghost use Rattle.std.specs.List.{list_all, list_any};
 ghost use Rattle.std.specs.Option.{option_copied};
 ghost use Rattle.own_model.specs.declared.footprint.FootItem.{FootItem as Item};
 ghost use Rattle.run_model.specs.Agree.{lies_on, overlaps};
 ghost use Rattle.history_model.specs.Held.{first_overlap};
 ghost use Rattle.history_model.specs.History.{lie_on};
-ghost use Rattle.row_locks.specs.Kept.{has_place_in, items_from, items_of};
+ghost use Rattle.row_locks.specs.Kept.{has_place_in, items_of};
 
 use crate::table_locks::TableLocks;
-use own_base::RowName;
+use own_base::{RowName, TableNo};
 use own_model::FootItem;
 use std::alloc::{AllocError, Global};
 
@@ -28,11 +28,18 @@ impl SessionLocks {
         }
     }
 
+    /// The locks of a table, where there are any. Takes no memory.
+    fn locks(&self, table: TableNo) -> Option<&TableLocks>
+        ensures { option_copied result ≡ slice_get self.now.tables.items table.0 }
+    {
+        self.tables.get(table.0 as usize)
+    }
+
     /// Whether an item that is held overlaps an item. Takes no memory.
     fn overlap(&self, item: &FootItem) -> bool
         ensures { result ≡ list_any (overlaps item.now) (items_of self.now) }
     {
-        match self.tables.get(item.table.0 as usize) {
+        match self.locks(item.table) {
             None => false,
             Some(locks) => locks.block(item),
         }
@@ -42,7 +49,7 @@ impl SessionLocks {
     fn hold_name(&self, name: &RowName) -> bool
         ensures { result ≡ list_any (lies_on name.now) (items_of self.now) }
     {
-        match self.tables.get(name.table.0 as usize) {
+        match self.locks(name.table) {
             None => false,
             Some(locks) => locks.block_row(&name.key, true),
         }
@@ -96,7 +103,7 @@ impl SessionLocks {
     }
 
     /// Makes a place for each of some items, which aren't held by that.
-    pub(crate) fn add_places(&mut self, alloc: Global, items: &[FootItem]) -> Result<(), AllocError>
+    fn add_places(&mut self, alloc: Global, items: &[FootItem]) -> Result<(), AllocError>
         ensures places { OnOk result (list_all (has_place_in self.new.tables.items) items.now ≡ true) }
         ensures same { items_of self.new ≡ items_of self.old }
     {
@@ -112,19 +119,27 @@ impl SessionLocks {
         ensures places { (other : Item) → has_place_in self.new.tables.items other ≡ has_place_in self.old.tables.items other }
         ensures more { (asked : Item) → list_any (overlaps asked) (items_of self.new) ≡ (list_any (overlaps asked) (items_of self.old) || overlaps asked item.now) }
     {
-        if let Some(locks) = self.tables.get_mut(item.table.0 as usize) {
-            locks.hold(item);
-        }
+        self.tables[item.table.0 as usize].hold(item);
     }
 
     /// Holds some items besides. Each has a place. Takes no memory.
-    pub(crate) fn hold_all(&mut self, items: &[FootItem])
+    fn hold_all(&mut self, items: &[FootItem])
         requires { list_all (has_place_in self.old.tables.items) items.now ≡ true }
         ensures { (asked : Item) → list_any (overlaps asked) (items_of self.new) ≡ (list_any (overlaps asked) (items_of self.old) || list_any (overlaps asked) items.now) }
     {
         for item in items {
             self.hold(item);
         }
+    }
+
+    /// Holds some items besides: all of them, or none where memory is refused.
+    pub(crate) fn grant(&mut self, alloc: Global, items: &[FootItem]) -> Result<(), AllocError>
+        ensures more { OnOk result ((asked : Item) → list_any (overlaps asked) (items_of self.new) ≡ (list_any (overlaps asked) (items_of self.old) || list_any (overlaps asked) items.now)) }
+        ensures unchanged { OnErr result (items_of self.new ≡ items_of self.old) }
+    {
+        self.add_places(alloc, items)?;
+        self.hold_all(items);
+        Ok(())
     }
 
     /// Holds nothing. Takes no memory.

@@ -1,0 +1,53 @@
+-- Items that stand for others, and the sessions that hold them.
+use Rattle.std.proofs.Common.{◌≡◌, ℕ, List, [], ◌∷◌, ◌++◌, Bool, Some, None, Option, refl, sym, ap, ◌∙◌, ◌||◌}
+use Rattle.std.specs.Prelude.{filter_map, find, option_map}
+use Rattle.std.specs.List.{list_any}
+use Rattle.std.proofs.lemmas.List.Folds.{list_any-append}
+use Rattle.own_base.specs.declared.row_name.RowName.{RowName}
+use Rattle.own_model.specs.declared.footprint.FootItem.{FootItem}
+use Rattle.run_model.specs.Agree.{lies_on, overlaps}
+use Rattle.history_model.specs.Held.{Holding, first_holding, first_overlap, held, holder, others}
+use Rattle.history_model.specs.History.{lie_on}
+use Rattle.history_model.specs.World.{World}
+use Rattle.row_locks.specs.Stands.{AreHeld, StandFor, holder_among, holding_among}
+use Rattle.row_locks.specs.Kept.{kept_by}
+use Rattle.row_locks.proofs.KeptItems.{lies_any, named}
+
+-- items stand for themselves
+pub stand-same : (items : List FootItem) → StandFor items items
+stand-same items = record { overlap = λ item. refl; lie = λ name. refl }
+
+-- where the same items overlap them, the same names lie on them
+pub stand-overlaps : (kept items : List FootItem) → ((item : FootItem) → list_any (overlaps item) kept ≡ list_any (overlaps item) items) → StandFor kept items
+stand-overlaps kept items same = record { overlap = same; lie = λ name. lies_any name kept ∙ (same (named name) ∙ sym (lies_any name items)) }
+
+-- items more
+pub stand-more : (kept more items footprint : List FootItem) → ((item : FootItem) → list_any (overlaps item) more ≡ (list_any (overlaps item) kept || list_any (overlaps item) footprint))
+    → StandFor kept items → StandFor more (items ++ footprint)
+stand-more kept more items footprint holds stands =
+    stand-overlaps more (items ++ footprint) (λ item. holds item ∙ (ap (λ (b : Bool). b || list_any (overlaps item) footprint) (stands.overlap item) ∙ sym (list_any-append (overlaps item) items footprint)))
+
+-- the first item in whose way they stand is the same
+pub overlap-alike : (kept items : List FootItem) (footprint : List FootItem) → StandFor kept items → first_overlap kept footprint ≡ first_overlap items footprint
+overlap-alike kept items [] stands = refl
+overlap-alike kept items (item ∷ footprint) stands = rw (stands.overlap item, overlap-alike kept items footprint stands) refl
+
+-- and whether one of some names lies on them
+pub lie-alike : (kept items : List FootItem) (names : List RowName) → StandFor kept items → lie_on names kept ≡ lie_on names items
+lie-alike kept items [] stands = refl
+lie-alike kept items (name ∷ names) stands = rw (stands.lie name, lie-alike kept items names stands) refl
+
+module _ (kept : List (List FootItem)) (held : ℕ → List FootItem) (are : AreHeld kept held) (footprint : List FootItem) where
+  holdings-alike : (sessions : List ℕ) → filter_map (holding_among (kept_by kept) footprint) sessions ≡ filter_map (holding_among held footprint) sessions
+  holdings-alike [] = refl
+  holdings-alike (session ∷ sessions) = rw (overlap-alike (kept_by kept session) (held session) footprint (are session), holdings-alike sessions) refl
+
+  -- the holder is the same
+  pub holder-alike : (session : ℕ) → holder_among (kept_by kept) session footprint ≡ holder_among held session footprint
+  unfolding holder_among
+  holder-alike session = ap first_holding (holdings-alike (others session))
+
+-- the holder among what the sessions of a world hold is the world's
+pub holder-of_world : (world : World) (session : ℕ) (footprint : List FootItem) → holder_among (held world) session footprint ≡ holder world session footprint
+unfolding holder_among holder
+holder-of_world world session footprint = refl
