@@ -1,7 +1,8 @@
 -- Items that stand for others, and the sessions that hold them.
-use Rattle.std.proofs.Common.{◌≡◌, ℕ, List, [], ◌∷◌, ◌++◌, Bool, Some, None, Option, refl, sym, ap, ◌∙◌, ◌||◌}
-use Rattle.std.specs.Prelude.{filter_map, find, option_map}
+use Rattle.std.proofs.Common.{◌≡◌, ℕ, List, [], ◌∷◌, ◌++◌, ◌≢◌, ◌==◌, Bool, true, false, Some, None, Option, refl, sym, ap, ◌∙◌, ◌||◌, subst}
+use Rattle.std.specs.Prelude.{filter_map, find, if◌then◌else◌, option_map}
 use Rattle.std.specs.List.{list_any}
+use Rattle.std.proofs.lemmas.Bool.{eqb-false, eqb-true}
 use Rattle.std.proofs.lemmas.List.Folds.{list_any-append}
 use Rattle.own_base.specs.declared.row_name.RowName.{RowName}
 use Rattle.own_model.specs.declared.footprint.FootItem.{FootItem}
@@ -51,3 +52,27 @@ module _ (kept : List (List FootItem)) (held : ℕ → List FootItem) (are : Are
 pub holder-of_world : (world : World) (session : ℕ) (footprint : List FootItem) → holder_among (held world) session footprint ≡ holder world session footprint
 unfolding holder_among holder
 holder-of_world world session footprint = refl
+
+-- no name lies on nothing
+none_lie : (names : List RowName) → lie_on names [] ≡ false
+none_lie [] = refl
+none_lie (name ∷ names) = none_lie names
+
+pub lie-none : (kept items : List FootItem) (names : List RowName) → kept ≡ [] → StandFor kept items → lie_on names items ≡ false
+lie-none kept items names none stands = sym (lie-alike kept items names stands) ∙ (ap (lie_on names) none ∙ none_lie names)
+
+-- A session that is granted a footprint holds it besides, and one that is released holds nothing; the others hold what they held.
+module _ (before after : List (List FootItem)) (held : ℕ → List FootItem) (are : AreHeld before held) (session : ℕ) (others : (other : ℕ) → other ≢ session → kept_by after other ≡ kept_by before other) where
+  held-with : (items : List FootItem) → StandFor (kept_by after session) items → AreHeld after (λ other. if other == session then items else held other)
+  held-with items own other = by (other == session) refl
+    where
+      by : (b : Bool) → (other == session) ≡ b → StandFor (kept_by after other) (if b then items else held other)
+      by true same = subst (λ n. StandFor (kept_by after n) items) (sym (eqb-true other session same)) own
+      by false apart = subst (λ some. StandFor some (held other)) (sym (others other (eqb-false other session apart))) (are other)
+
+  pub held-granted : (footprint : List FootItem) → ((items : List FootItem) → StandFor (kept_by before session) items → StandFor (kept_by after session) (items ++ footprint))
+      → AreHeld after (λ other. if other == session then held session ++ footprint else held other)
+  held-granted footprint grants = held-with (held session ++ footprint) (grants (held session) (are session))
+
+  pub held-released : kept_by after session ≡ [] → AreHeld after (λ other. if other == session then [] else held other)
+  held-released nothing = held-with [] (subst (λ some. StandFor some []) (sym nothing) (stand-same []))

@@ -6,7 +6,7 @@ ghost use Rattle.row_locks.specs.Stands.{AreHeld, StandFor, holder_among, holdin
 
 use crate::held_item::HeldItem;
 use crate::session_locks::SessionLocks;
-use crate::sessions::grant;
+use crate::sessions::{grant, release};
 use own_base::{RowName, SessionNo};
 use own_model::{Footprint, SESSIONS};
 use std::alloc::{AllocError, Global};
@@ -114,9 +114,7 @@ impl LockTable {
         ensures nothing { kept_by self.new session.0 ≡ [] }
         ensures others { (other : ℕ) → other ≢ session.0 → kept_by self.new other ≡ kept_by self.old other }
     {
-        if let Some(locks) = self.sessions.get_mut(session.0 as usize) {
-            locks.clear();
-        }
+        release(&mut self.sessions, session);
     }
 
     /// Whether one of the names lies on an item that a session holds. Takes no memory.

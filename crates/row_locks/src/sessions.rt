@@ -1,4 +1,4 @@
-ghost use Rattle.std.specs.Prelude.{◌≡◌, ◌≢◌, ◌≤◌, ◌||◌, ℕ, length, OnErr, OnOk};
+ghost use Rattle.std.specs.Prelude.{◌≡◌, ◌≢◌, ◌≤◌, ◌||◌, ℕ, [], length, OnErr, OnOk};
 ghost use Rattle.std.specs.List.{list_any};
 ghost use Rattle.own_model.specs.declared.footprint.FootItem.{FootItem as Item};
 ghost use Rattle.run_model.specs.Agree.{overlaps};
@@ -39,4 +39,15 @@ pub(crate) fn grant(
     let number = session.0 as usize;
     grow(alloc, sessions, number + 1)?;
     sessions[number].grant(alloc, items)
+}
+
+/// Lets a session hold nothing. Takes no memory.
+pub(crate) fn release(sessions: &mut Vec<SessionLocks>, session: SessionNo)
+    ensures nothing { kept_by (kept sessions.new.items) session.0 ≡ [] }
+    ensures others { (other : ℕ) → other ≢ session.0 → kept_by (kept sessions.new.items) other ≡ kept_by (kept sessions.old.items) other }
+{
+    let number = session.0 as usize;
+    if number < sessions.len() {
+        sessions[number].clear();
+    }
 }
