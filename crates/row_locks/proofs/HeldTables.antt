@@ -68,8 +68,7 @@ items_from_set first (locks ∷ tables) (suc place) old new within is same =
 at_by : (test : TableLocks → Bool) (tables : List TableLocks) (place other : ℕ) (old new : TableLocks) → place < length tables → old ≡ get_or tables place old → (b : Bool) → (other == place) ≡ b
     → (at test (slice_set tables place new) other ≡ cond b (test new) (at test tables other)) × (b ≡ true → at test tables other ≡ test old)
 at_by test tables place other old new within is true own =
-    let same : other ≡ place = eqb-true other place own in
-    (
+    let same : other ≡ place = eqb-true other place own in (
       subst (λ n. at test (slice_set tables place new) n ≡ test new) (sym same) (at_set test tables place new within),
       λ _. subst (λ n. at test tables n ≡ test old) (sym same) (at_own test tables place old within is),
     )

@@ -29,13 +29,7 @@ impl Hold {
         ensures { (asked : Bool) → blocks result asked ≡ (blocks self asked || (asked || write)) }
     {
         match self {
-            Hold::Free | Hold::Read => {
-                if write {
-                    Hold::Written
-                } else {
-                    Hold::Read
-                }
-            }
+            Hold::Free | Hold::Read => { if write { Hold::Written } else { Hold::Read } }
             Hold::Written => Hold::Written,
         }
     }

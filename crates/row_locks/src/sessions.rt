@@ -10,11 +10,7 @@ use own_model::FootItem;
 use std::alloc::{AllocError, Global};
 
 /// Makes room for so many sessions.
-fn grow(
-    alloc: Global,
-    sessions: &mut Vec<SessionLocks>,
-    count: usize,
-) -> Result<(), AllocError>
+fn grow(alloc: Global, sessions: &mut Vec<SessionLocks>, count: usize) -> Result<(), AllocError>
     ensures enough { OnOk result (count ≤ length sessions.new.items) }
     ensures same { (number : ℕ) → kept_by (kept sessions.new.items) number ≡ kept_by (kept sessions.old.items) number }
 {
