@@ -61,6 +61,14 @@ none_lie (name ∷ names) = none_lie names
 pub lie-none : (kept items : List FootItem) (names : List RowName) → kept ≡ [] → StandFor kept items → lie_on names items ≡ false
 lie-none kept items names none stands = sym (lie-alike kept items names stands) ∙ (ap (lie_on names) none ∙ none_lie names)
 
+-- nothing is kept where nobody holds anything
+pub held-none : AreHeld [] (λ session. [])
+held-none = λ session. stand-same []
+
+-- where what is kept is as it was it stands for what it stood for, as after a refused grant
+pub held-unchanged : (before after : List (List FootItem)) (held : ℕ → List FootItem) → ((number : ℕ) → kept_by after number ≡ kept_by before number) → AreHeld before held → AreHeld after held
+held-unchanged before after held same are = λ session. subst (λ some. StandFor some (held session)) (sym (same session)) (are session)
+
 -- A session that is granted a footprint holds it besides, and one that is released holds nothing; the others hold what they held.
 module _ (before after : List (List FootItem)) (held : ℕ → List FootItem) (are : AreHeld before held) (session : ℕ) (others : (other : ℕ) → other ≢ session → kept_by after other ≡ kept_by before other) where
   held-with : (items : List FootItem) → StandFor (kept_by after session) items → AreHeld after (λ other. if other == session then items else held other)

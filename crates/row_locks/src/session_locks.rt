@@ -143,6 +143,7 @@ impl SessionLocks {
     }
 
     /// Holds nothing. Takes no memory.
+    #[tactic(auto, using(crate::proofs::KeptItems::items_none))]
     pub(crate) fn clear(&mut self)
         ensures { items_of self.new ≡ [] }
     {
