@@ -1,13 +1,13 @@
 -- Items that stand for others, and the sessions that hold them.
-use Rattle.std.proofs.Common.{◌≡◌, ℕ, List, [], ◌∷◌, ◌++◌, ◌≢◌, ◌==◌, Bool, true, false, Some, None, Option, refl, sym, ap, ◌∙◌, ◌||◌, subst}
-use Rattle.std.specs.Prelude.{filter_map, find, if◌then◌else◌, option_map}
+use Rattle.std.proofs.Common.{◌≡◌, ℕ, List, [], ◌∷◌, ◌++◌, ◌≢◌, ◌==◌, Bool, true, false, refl, sym, ap, ◌∙◌, ◌||◌, subst}
+use Rattle.std.specs.Prelude.{filter_map, if◌then◌else◌}
 use Rattle.std.specs.List.{list_any}
 use Rattle.std.proofs.lemmas.Bool.{eqb-false, eqb-true}
 use Rattle.std.proofs.lemmas.List.Folds.{list_any-append}
 use Rattle.own_base.specs.declared.row_name.RowName.{RowName}
 use Rattle.own_model.specs.declared.footprint.FootItem.{FootItem}
-use Rattle.run_model.specs.Agree.{lies_on, overlaps}
-use Rattle.history_model.specs.Held.{Holding, first_holding, first_overlap, held, holder, others}
+use Rattle.run_model.specs.Agree.{overlaps}
+use Rattle.history_model.specs.Held.{first_holding, first_overlap, held, holder, others}
 use Rattle.history_model.specs.History.{lie_on}
 use Rattle.history_model.specs.World.{World}
 use Rattle.row_locks.specs.Stands.{AreHeld, StandFor, holder_among, holding_among}

@@ -1,6 +1,6 @@
 -- The items that a session's locks keep, and what overlaps them.
-use Rattle.std.proofs.Common.{◌≡◌, ℕ, zero, suc, ◌+◌, ◌<◌, ◌≤◌, List, [], ◌∷◌, ◌++◌, Bool, true, false, length, Some, None, Option, refl, sym, ap, ◌∙◌, subst, ◌||◌, get_or, arith, ◌==◌}
-use Rattle.std.specs.Prelude.{◌&&◌, slice_get, slice_set}
+use Rattle.std.proofs.Common.{◌≡◌, ℕ, zero, suc, ◌+◌, ◌<◌, List, [], ◌∷◌, Bool, true, false, Some, None, Option, refl, sym, ◌∙◌, arith, ◌==◌}
+use Rattle.std.specs.Prelude.{◌&&◌, slice_get}
 use Rattle.std.specs.List.{list_any}
 use Rattle.std.specs.Option.{option_map_or}
 use Rattle.std.proofs.lemmas.Bool.{eq-eqb, eqb-true, ne_eqb}
@@ -8,7 +8,7 @@ use Rattle.std.proofs.lemmas.List.Folds.{list_any-append}
 use Rattle.own_base.specs.declared.row_name.RowName.{RowName}
 use Rattle.own_base.specs.declared.value.Key.{Key}
 use Rattle.own_model.specs.declared.footprint.FootItem.{FootItem}
-use Rattle.run_model.specs.Agree.{is_on_key, keys_meet, lies_on, overlaps}
+use Rattle.run_model.specs.Agree.{keys_meet, lies_on, overlaps}
 use Rattle.row_locks.specs.declared.hold.Hold.{Hold}
 use Rattle.row_locks.specs.declared.hold.Hold.TheVariants.{Free, Read, Written}
 use Rattle.row_locks.specs.declared.table_locks.TableLocks.{TableLocks}

@@ -1,9 +1,9 @@
 -- The rows of a table that are held, by rising key: what is found under a key, and one place or hold more.
-use Rattle.std.proofs.Common.{◌≡◌, ℕ, List, [], ◌∷◌, ◌++◌, Bool, true, false, cond, Some, None, Option, Ordering, refl, sym, ap, ◌∙◌, subst, ◌||◌, arith}
-use Rattle.std.specs.Prelude.{◌&&◌, flat_map}
+use Rattle.std.proofs.Common.{◌≡◌, ℕ, List, [], ◌∷◌, ◌++◌, Bool, true, false, cond, Some, None, Option, Ordering, refl, sym, ap, ◌∙◌, subst, ◌||◌}
+use Rattle.std.specs.Prelude.{◌&&◌}
 use Rattle.std.specs.declared.cmp.Ordering.TheVariants.{Less, Equal, Greater}
 use Rattle.std.specs.BTreeMap.{insert_entry, is_at}
-use Rattle.std.specs.List.{AllByRecursion as Each, list_any}
+use Rattle.std.specs.List.{AllByRecursion as Each}
 use Rattle.std.specs.List.Sorted.{IsStrictlySortedBy}
 use Rattle.std.specs.Map.{keys_of, lookup, set_value}
 use Rattle.std.specs.Option.{is_some, option_map_or}
@@ -16,7 +16,7 @@ use Rattle.own_model.specs.Stored.{is_equal}
 use Rattle.own_model.proofs.KeyOrder.{key_order}
 use Rattle.run_model.specs.Agree.{keys_meet}
 use Rattle.row_locks.specs.declared.hold.Hold.{Hold}
-use Rattle.row_locks.specs.declared.hold.Hold.TheVariants.{Free, Read, Written}
+use Rattle.row_locks.specs.declared.hold.Hold.TheVariants.{Free}
 use Rattle.row_locks.specs.Hold.{blocks}
 use Rattle.row_locks.proofs.TestLemmas.{and_false, joined, or_assoc, or_false}
 use Rattle.row_locks.specs.Locks.{AreRising, Rows, has_row, held_item, row_items, rows_meet}
