@@ -1,0 +1,7 @@
+use Rattle.std.proofs.Common.{ap, ◌∙◌}
+use Rattle.row_locks.specs.Kept.{items_from}
+use Rattle.row_locks.proofs.KeptItems.{items_none}
+use Rattle.row_locks.proofs.session_locks.SessionLocks.new.Goals as goal
+
+pub returns : goal.returns
+returns c = ap (items_from 0) c.new.ensures.items ∙ items_none 0

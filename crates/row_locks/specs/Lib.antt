@@ -1,0 +1,4 @@
+pub mod Hold
+pub mod Kept
+pub mod Locks
+pub mod Stands
