@@ -3,6 +3,8 @@ mod BoundStatements
 mod Commits
 mod CreatedTables
 mod FewColumns
+mod Forgotten
+mod Judged
 mod KeptTables
 mod KeptViews
 mod Nets

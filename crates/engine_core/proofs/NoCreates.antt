@@ -1,5 +1,5 @@
 -- How its tables were created has no part in what is wrong with a database.
-use Rattle.std.proofs.Common.{◌≡◌, ℕ, ◌+◌, ◌*◌, zero, suc, List, [], ◌∷◌, ◌++◌, length, map, not, refl}
+use Rattle.std.proofs.Common.{◌≡◌, ℕ, ◌+◌, ◌*◌, zero, suc, List, [], ◌∷◌, ◌++◌, length, map, not, refl, sym, ◌∙◌}
 use Rattle.std.specs.Prelude.{◌&&◌, filter, flat_map, nat_lt, sum_by, if◌then◌else◌}
 use Rattle.std.specs.List.{list_any}
 use Rattle.own_base.specs.Row.{row_size}
@@ -9,6 +9,9 @@ use Rattle.own_model.specs.declared.limit.TheConstants.{STORE_ROWS, STORE_WEIGHT
 use Rattle.own_model.specs.declared.refusal.Refusal.{Refusal}
 use Rattle.own_model.specs.declared.refusal.Refusal.TheVariants.{Limit, Owner}
 use Rattle.own_model.specs.Db.{Db, Row, key_of}
+use Rattle.commit_check.specs.declared.judged.Judged.{Judged}
+use Rattle.commit_check.specs.declared.judged.Judged.TheVariants.{Fault, Weighs}
+use Rattle.commit_check.specs.Judged.{IsJudged}
 use Rattle.owner_sets.specs.Sets.{db_of}
 use Rattle.schema_model.specs.Tables.{is_private}
 use Rattle.subject_model.specs.Named.{name_of, named_rows}
@@ -43,7 +46,7 @@ module _ (db : Db) where
   unfolding owners is_subject_row
   owners-same name = λ i. filter (λ subject. owns-same subject name i) (subjects db)
 
-  weight-same : weight bare ≡ weight db
+  pub weight-same : weight bare ≡ weight db
   unfolding weight is_subject_row
   weight-same =
       λ i. sum_by (λ named. row_size named.row * at_least_one (length (owners-same named.name i))
@@ -63,3 +66,8 @@ module _ (db : Db) where
   fault-same =
       λ i. first_of (unique_faults db ++ reference_faults db ++ owner-same i
       ++ ((if nat_lt STORE_ROWS (row_count db) then Limit limit.Rows ∷ [] else []) ++ (if nat_lt STORE_WEIGHT (weight-same i) then Limit limit.Weight ∷ [] else [])))
+
+  -- and so is what is judged of it
+  pub judged-same : (judged : Judged) → IsJudged bare judged → IsJudged db judged
+  judged-same (Fault why) is = sym fault-same ∙ is
+  judged-same (Weighs size) is = (sym fault-same ∙ is.0, sym weight-same ∙ is.1)

@@ -5,15 +5,15 @@ ghost use Rattle.own_model.specs.declared.reply.Reply.TheVariants.{Refused};
 ghost use Rattle.own_model.specs.Db.{Db};
 ghost use Rattle.engine_core.specs.Answered.{Tells};
 
+use crate::prepared::Prepared;
 use own_model::{Refusal, Reply};
 use std::alloc::AllocError;
-use store_version::Next;
 
 /// What a request is answered, and the state that it leaves where that is another.
 #[derive(Drop)]
 pub(crate) struct Answer {
     pub(crate) reply: Reply,
-    pub(crate) next: Option<Next>,
+    pub(crate) next: Option<Prepared>,
 }
 
 impl Answer {

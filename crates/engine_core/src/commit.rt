@@ -1,4 +1,4 @@
-ghost use Rattle.std.specs.Prelude.{◌≡◌, Bool, None, false, IfOk};
+ghost use Rattle.std.specs.Prelude.{◌≡◌, Bool, false, IfOk};
 ghost use Rattle.own_model.specs.declared.history.Verdict.TheVariants.{Took};
 ghost use Rattle.own_model.specs.Db.{Db};
 ghost use Rattle.state_model.specs.Fault.{fault};
@@ -6,6 +6,8 @@ ghost use Rattle.state_model.specs.Net.{net};
 ghost use Rattle.state_model.specs.Payload.{payload_bytes};
 ghost use Rattle.state_model.specs.Settle as spec;
 ghost use Rattle.state_model.specs.Sound.{IsKept, Sound};
+ghost use Rattle.state_model.specs.Weight.{weight};
+ghost use Rattle.commit_check.specs.Judged.{IsJudged};
 ghost use Rattle.payload_size.specs.SoundNet.{IsSoundNet};
 ghost use Rattle.history_model.specs.Reply as spec_of;
 ghost use Rattle.history_model.specs.Reply.{committing};
@@ -13,20 +15,44 @@ ghost use Rattle.engine_core.specs.Answered.{Tells};
 ghost use Rattle.engine_core.specs.Changed.{IsNet, changed};
 
 use crate::answer::Answer;
-use commit_check::first_fault_flat;
+use crate::prepared::Prepared;
+use commit_check::{Judged, judge_flat};
 use own_base::Change;
-use own_model::{PAYLOAD_BYTES, Refusal, Reply};
+use own_model::{PAYLOAD_BYTES, Refusal, Reply, StoreView};
 use payload_size::payload_size;
 use std::alloc::{AllocError, Global};
 use std::mem::drop;
 use store_version::{Next, Version, prepare};
+use unlinked_check::{are_unlinked, judge_unlinked};
 
-/// The first fault of a next version.
-pub(crate) fn first_fault(alloc: Global, next: &Next) -> Result<Option<Refusal>, AllocError>
+/// What is judged of a next version as a whole.
+pub(crate) fn judged(alloc: Global, next: &Next) -> Result<Judged, AllocError>
     requires { IsKept next.now }
-    ensures { IfOk result (λ first. first ≡ fault next.now) }
+    ensures { IfOk result (IsJudged next.now) }
 {
-    first_fault_flat(alloc, next)
+    judge_flat(alloc, next)
+}
+
+/// What is judged of it, where changes lead to it. Where nothing is linked with their tables, no row but theirs is looked at.
+fn judged_by(
+    alloc: Global,
+    version: &Version,
+    weighs: u64,
+    next: &Next,
+    changes: &[Change],
+) -> Result<Judged, AllocError>
+    requires sound { Sound version.now }
+    requires weighs { weight version.now ≡ weighs }
+    requires net { IsNet version.now changes.now }
+    requires kept { IsKept next.now }
+    requires next { next.now ≡ changed version.now changes.now }
+    ensures { IfOk result (IsJudged next.now) }
+{
+    if are_unlinked(version.schema(), changes) {
+        Ok(judge_unlinked(version, next, weighs, changes))
+    } else {
+        judged(alloc, next)
+    }
 }
 
 /// Whether a reply is a refusal.
@@ -36,21 +62,36 @@ fn is_refusal(reply: &Reply) -> bool
     matches!(reply, Reply::Refused(_))
 }
 
-/// The answer to a call that commits: the next version is left, unless there is a cause that refuses it.
-pub(crate) fn settled(next: Next, cause: Option<Refusal>, reply: Reply) -> Answer
-    requires { spec_of.is_refusal reply ≡ false }
-    ensures { (db : Db) (needed : Bool) → Tells db (committing Took needed cause reply) next result }
+/// The answer to a call that leads to a next version: refused where that has a fault, and else where there is another cause;
+/// otherwise the next version is left.
+pub(crate) fn settled(
+    next: Next,
+    judged: Judged,
+    cause: Option<Refusal>,
+    reply: Reply,
+) -> Answer
+    requires judged { IsJudged next judged }
+    requires accepted { spec_of.is_refusal reply ≡ false }
+    ensures { (db : Db) (needed : Bool) → Tells db (committing Took needed (spec.settled (fault next) cause) reply) next result }
 {
-    match cause {
-        None => Answer {
-            reply,
-            next: Some(next),
-        },
-        Some(why) => {
+    match judged {
+        Judged::Fault(why) => {
             drop(next);
+            drop(cause);
             drop(reply);
             Answer::told(Reply::Refused(why))
         }
+        Judged::Weighs(weighs) => match cause {
+            None => Answer {
+                reply,
+                next: Some(Prepared { next, weighs }),
+            },
+            Some(why) => {
+                drop(next);
+                drop(reply);
+                Answer::told(Reply::Refused(why))
+            }
+        },
     }
 }
 
@@ -67,25 +108,21 @@ fn too_big(changes: &[Change]) -> Option<Refusal>
     }
 }
 
-/// Why a commit is refused that leads to a next version: its first fault, else the length of its changes.
-fn cause_of(
-    alloc: Global,
-    version: &Version,
-    next: &Next,
-    changes: &[Change],
-) -> Result<Option<Refusal>, AllocError>
+/// Why a commit without a fault is refused: the length of its changes.
+fn cause_of(version: &Version, next: &Next, judged: &Judged, changes: &[Change]) -> Option<Refusal>
     requires sound { Sound version.now }
     requires kept { IsKept next.now }
     requires schema { version.now.schema ≡ next.now.schema }
     requires net { changes.now ≡ net version.now next.now }
-    ensures { IfOk result (λ cause. cause ≡ spec.settle version.now next.now) }
+    requires judged { IsJudged next.now judged.now }
+    ensures { spec.settled (fault next.now) result ≡ spec.settle version.now next.now }
 {
     let _ = version;
-    let first = first_fault(alloc, next)?;
-    if first.is_some() {
-        return Ok(first);
+    let _ = next;
+    match judged {
+        Judged::Fault(_) => None,
+        Judged::Weighs(_) => too_big(changes),
     }
-    Ok(too_big(changes))
 }
 
 /// The answer to a call that commits changes and is answered so where they are accepted. A refusal stays one. Without any
@@ -93,10 +130,12 @@ fn cause_of(
 pub(crate) fn commit(
     alloc: Global,
     version: &Version,
+    weighs: u64,
     changes: &[Change],
     reply: Reply,
 ) -> Result<Answer, AllocError>
     requires sound { Sound version.now }
+    requires weighs { weight version.now ≡ weighs }
     requires net { IsNet version.now changes.now }
     requires kept { IsKept (changed version.now changes.now) }
     ensures { IfOk result (Tells version.now (committing Took (spec_of.changes version.now (changed version.now changes.now))
@@ -109,8 +148,11 @@ pub(crate) fn commit(
         return Ok(Answer::told(reply));
     }
     let next = prepare(alloc, version, changes)?;
-    match cause_of(alloc, version, &next, changes) {
-        Ok(cause) => Ok(settled(next, cause, reply)),
+    match judged_by(alloc, version, weighs, &next, changes) {
+        Ok(judged) => {
+            let cause = cause_of(version, &next, &judged, changes);
+            Ok(settled(next, judged, cause, reply))
+        }
         Err(refused) => {
             drop(next);
             drop(reply);

@@ -12,7 +12,7 @@ ghost use Rattle.history_model.specs.Reply.{committing, create_reply};
 ghost use Rattle.engine_core.specs.Answered.{Tells};
 
 use crate::answer::Answer;
-use crate::commit::{first_fault, settled};
+use crate::commit::{judged, settled};
 use own_model::{CreateTable, CreateView, Reply, Statement};
 use plan_bind::bind_view;
 use sql_print::print_statement;
@@ -25,8 +25,8 @@ fn checked(alloc: Global, next: Next) -> Result<Answer, AllocError>
     requires { IsKept next }
     ensures { IfOk result (λ answer. (db : Db) → Tells db (committing Took true (fault next) Done) next answer) }
 {
-    match first_fault(alloc, &next) {
-        Ok(cause) => Ok(settled(next, cause, Reply::Done)),
+    match judged(alloc, &next) {
+        Ok(judged) => Ok(settled(next, judged, None, Reply::Done)),
         Err(refused) => {
             drop(next);
             Err(refused)

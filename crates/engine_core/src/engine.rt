@@ -7,6 +7,7 @@ ghost use Rattle.history_model.specs.Built.{built};
 ghost use Rattle.history_model.specs.History.{flat};
 ghost use Rattle.history_model.specs.MayBeUnmade.{MayBeUnmade};
 ghost use Rattle.history_model.specs.Serial.{Serial};
+ghost use Rattle.state_model.specs.Weight.{weight};
 ghost use Rattle.transcript_model.specs.PlainAnswer.{plain_answer, plain_left};
 ghost use Rattle.transcript_model.specs.PlainHistory.{IsPlain};
 ghost use Rattle.engine_core.specs.Answered.{left};
@@ -17,6 +18,7 @@ ghost use Rattle.engine_core.specs.Seen.{Makes, Steps, entry};
 use crate::answer::Answer;
 use crate::closed::Closed;
 use crate::open::OpenFault;
+use crate::prepared::Prepared;
 use crate::statements::answer;
 use crate::step::{NoLook, Step};
 use own_base::{List, Place, SessionNo};
@@ -24,13 +26,14 @@ use own_model::{Entry, Reply, Request, Verdict};
 use std::alloc::{AllocError, Global};
 use std::marker::Model;
 use std::mem::drop;
-use store_version::{Next, Version, publish};
+use store_version::{Version, publish};
 
 /// An opened store: its state, the history that made it, and its disk. Contracts see the history, for how many entries more
 /// there is room, and the disk.
 pub struct Engine<D> {
     alloc: Global,
     version: Version,
+    weighs: u64,
     history: Vec<Entry>,
     disk: D,
 }
@@ -48,7 +51,10 @@ impl<D> Model for Engine<D> {
 
     ghost view = { λ engine. record { history = engine.history.items; spare = vec_capacity engine.history - vec_len engine.history; disk = engine.disk } };
 
-    ghost invariant = { λ engine. StandsFor engine.version engine.history.items };
+    ghost use Rattle.std.specs.Prelude.{◌≡◌};
+    ghost use Rattle.state_model.specs.Weight.{weight};
+
+    ghost invariant = { λ engine. StandsFor engine.version engine.history.items × (weight engine.version ≡ engine.weighs) };
 }
 
 impl<D> Engine<D> {
@@ -63,6 +69,7 @@ impl<D> Engine<D> {
             Ok((version, history)) => Ok(Engine {
                 alloc,
                 version,
+                weighs: 0,
                 history,
                 disk,
             }),
@@ -112,7 +119,7 @@ impl<D> Engine<D> {
         ensures spared { OnErr result (0 < self.old.spare → MayBeUnmade request.now) }
     {
         self.history.reserve(1)?;
-        answer(self.alloc, &self.version, request)
+        answer(self.alloc, &self.version, self.weighs, request)
     }
 
     /// Makes a call that is answered so: its entry comes, and the state that it leaves. Takes no memory.
@@ -127,7 +134,7 @@ impl<D> Engine<D> {
         let Answer { reply, next } = answer;
         let place = Place(self.history.len() as u64);
         self.history.push_reserved(entry);
-        put(&mut self.version, next);
+        put(&mut self.version, &mut self.weighs, next);
         (place, reply)
     }
 
@@ -157,6 +164,7 @@ impl<D> Engine<D> {
         let Engine {
             alloc: _,
             version,
+            weighs: _,
             history,
             disk,
         } = self;
@@ -168,12 +176,15 @@ impl<D> Engine<D> {
     }
 }
 
-/// Puts the next version, where there is one, in the place of the one that stands. Takes no memory.
-fn put(version: &mut Version, next: Option<Next>)
-    ensures { version.new ≡ left version.old next }
+/// Puts the next version, where there is one, in the place of the one that stands, with what it weighs. Takes no memory.
+fn put(version: &mut Version, weighs: &mut u64, next: Option<Prepared>)
+    requires { weight version.old ≡ weighs.old }
+    ensures version { version.new ≡ left version.old next }
+    ensures weighs { weight version.new ≡ weighs.new }
 {
-    if let Some(next) = next {
-        publish(version, next);
+    if let Some(prepared) = next {
+        *weighs = prepared.weighs;
+        publish(version, prepared.next);
     }
 }
 

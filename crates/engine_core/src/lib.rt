@@ -7,9 +7,11 @@ mod commit;
 mod creating;
 mod engine;
 mod open;
+mod prepared;
 mod reading;
 mod statements;
 mod step;
+mod subjects;
 mod writing;
 
 pub use closed::Closed;

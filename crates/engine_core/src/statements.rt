@@ -2,6 +2,7 @@ ghost use Rattle.std.specs.Prelude.{◌≡◌, true, IfOk, OnErr};
 ghost use Rattle.own_model.specs.declared.limit.TheConstants.{STATEMENT_BYTES};
 ghost use Rattle.grammar_model.specs.Readable.{IsReadable, IsWritten};
 ghost use Rattle.state_model.specs.Sound.{IsKept, Sound};
+ghost use Rattle.state_model.specs.Weight.{weight};
 ghost use Rattle.run_model.specs.Run.{run, run_bound};
 ghost use Rattle.history_model.specs.Built.{is_built};
 ghost use Rattle.history_model.specs.MayBeUnmade.{MayBeUnmade};
@@ -12,6 +13,7 @@ ghost use Rattle.engine_core.specs.Asked.{IsBound, IsBuiltRequest, IsMeant};
 use crate::answer::Answer;
 use crate::creating::{create_table, create_view};
 use crate::reading::select_reply;
+use crate::subjects::{forget, get_reply};
 use crate::writing::write;
 use own_model::{Bound, Refusal, Reply, Request, Statement};
 use plan_bind::bind;
@@ -21,8 +23,14 @@ use store_version::Version;
 
 /// The answer to a bound statement.
 #[tactic(auto, unfolding(run_model::specs::Run::run_bound))]
-fn run_meant(alloc: Global, version: &Version, bound: &Bound) -> Result<Answer, AllocError>
+fn run_meant(
+    alloc: Global,
+    version: &Version,
+    weighs: u64,
+    bound: &Bound,
+) -> Result<Answer, AllocError>
     requires sound { Sound version.now }
+    requires weighs { weight version.now ≡ weighs }
     requires meant { IsMeant version.now.schema bound.now }
     requires kept { IsKept (run_bound version.now bound.now).db }
     ensures { IfOk result (Tells version.now (bound_reply version.now bound.now) (run_bound version.now bound.now).db) }
@@ -30,9 +38,11 @@ fn run_meant(alloc: Global, version: &Version, bound: &Bound) -> Result<Answer, 
     match bound {
         Bound::Select(query) => Ok(Answer::told(select_reply(alloc, version, query)?)),
         Bound::Insert { .. } | Bound::Update { .. } | Bound::Delete { .. } => {
-            write(alloc, version, bound)
+            write(alloc, version, weighs, bound)
         }
-        Bound::Get(_) | Bound::Forget(_) | Bound::Explain => unreachable!(),
+        Bound::Get(subject) => Ok(Answer::told(get_reply(alloc, version, subject)?)),
+        Bound::Forget(subject) => forget(alloc, version, subject),
+        Bound::Explain => unreachable!(),
     }
 }
 
@@ -40,16 +50,18 @@ fn run_meant(alloc: Global, version: &Version, bound: &Bound) -> Result<Answer, 
 fn run_by_meaning(
     alloc: Global,
     version: &Version,
+    weighs: u64,
     statement: &Statement,
 ) -> Result<Answer, AllocError>
     requires sound { Sound version.now }
+    requires weighs { weight version.now ≡ weighs }
     requires written { IsWritten STATEMENT_BYTES statement.now }
     requires bound { IsBound statement.now }
     ensures { IfOk result (Tells version.now (plain_reply version.now statement.now) (run version.now statement.now).db) }
 {
     match bind(alloc, version.catalog().schema(), statement) {
         Ok(bound) => {
-            let answer = run_meant(alloc, version, &bound);
+            let answer = run_meant(alloc, version, weighs, &bound);
             drop(bound);
             answer
         }
@@ -62,9 +74,11 @@ fn run_by_meaning(
 fn run_statement(
     alloc: Global,
     version: &Version,
+    weighs: u64,
     statement: &Statement,
 ) -> Result<Answer, AllocError>
     requires sound { Sound version.now }
+    requires weighs { weight version.now ≡ weighs }
     requires written { IsWritten STATEMENT_BYTES statement.now }
     requires built { is_built statement.now ≡ true }
     ensures { IfOk result (Tells version.now (plain_reply version.now statement.now) (run version.now statement.now).db) }
@@ -73,7 +87,7 @@ fn run_statement(
         Statement::CreateTable(create) => create_table(alloc, version, create, statement),
         Statement::CreateView(create) => create_view(alloc, version, create, statement),
         Statement::Explain => Ok(Answer::told(version.catalog().explain(alloc)?)),
-        _ => run_by_meaning(alloc, version, statement),
+        _ => run_by_meaning(alloc, version, weighs, statement),
     }
 }
 
@@ -82,9 +96,11 @@ fn run_statement(
 pub(crate) fn answer(
     alloc: Global,
     version: &Version,
+    weighs: u64,
     request: &Request,
 ) -> Result<Answer, AllocError>
     requires sound { Sound version.now }
+    requires weighs { weight version.now ≡ weighs }
     requires readable { IsReadable request.now }
     requires built { IsBuiltRequest request.now }
     ensures told { IfOk result (λ answer. answer.reply ≡ plain_answer version.now request.now) }
@@ -92,7 +108,7 @@ pub(crate) fn answer(
     ensures spared { OnErr result (MayBeUnmade request.now) }
 {
     match request {
-        Request::Run(statement) => run_statement(alloc, version, statement),
+        Request::Run(statement) => run_statement(alloc, version, weighs, statement),
         Request::Syntax(byte) => Ok(Answer::told(Reply::Refused(Refusal::Syntax(*byte)))),
         Request::Limit(limit) => Ok(Answer::told(Reply::Refused(Refusal::Limit(*limit)))),
         Request::End => Ok(Answer::told(Reply::Ended)),

@@ -3,6 +3,7 @@ ghost use Rattle.own_model.specs.declared.history.Verdict.TheVariants.{Took};
 ghost use Rattle.own_model.specs.declared.refusal.Refusal.TheVariants.{Memory};
 ghost use Rattle.own_model.specs.declared.reply.Reply.TheVariants.{Refused};
 ghost use Rattle.state_model.specs.Sound.{IsKept, Sound};
+ghost use Rattle.state_model.specs.Weight.{weight};
 ghost use Rattle.run_model.specs.Run.{run_bound};
 ghost use Rattle.history_model.specs.Reply.{write_reply};
 ghost use Rattle.write_eval.specs.Write.{IsWrite};
@@ -35,15 +36,21 @@ fn written(
 }
 
 /// The answer to a bound INSERT, UPDATE or DELETE, which commits by itself.
-pub(crate) fn write(alloc: Global, version: &Version, bound: &Bound) -> Result<Answer, AllocError>
+pub(crate) fn write(
+    alloc: Global,
+    version: &Version,
+    weighs: u64,
+    bound: &Bound,
+) -> Result<Answer, AllocError>
     requires write { IsWrite version.now.schema bound.now }
     requires sound { Sound version.now }
+    requires weighs { weight version.now ≡ weighs }
     requires kept { IsKept (run_bound version.now bound.now).db }
     ensures { IfOk result (Tells version.now (write_reply Took version.now (run_bound version.now bound.now)) (run_bound version.now bound.now).db) }
 {
     match written(alloc, version, bound) {
         Ok((reply, changes)) => {
-            let answer = commit(alloc, version, changes.items(), reply);
+            let answer = commit(alloc, version, weighs, changes.items(), reply);
             drop(changes);
             answer
         }

@@ -3,16 +3,14 @@ use Rattle.std.specs.Prelude.{ℕ, Bool, true, false, ◌&&◌, ◌==◌, if◌t
 use Rattle.own_model.specs.declared.request.Request.{Request}
 use Rattle.own_model.specs.declared.request.Request.TheVariants.{Run, Syntax, Limit, End}
 use Rattle.own_model.specs.declared.statement.Statement.{Statement}
-use Rattle.own_model.specs.declared.statement.Statement.TheVariants.{Begin, Checkpoint, Commit, GdprForget, GdprGet, Rollback}
+use Rattle.own_model.specs.declared.statement.Statement.TheVariants.{Begin, Checkpoint, Commit, Rollback}
 
--- every statement but those of transactions, GDPR calls and CHECKPOINT
+-- every statement but those of transactions and CHECKPOINT
 abbrev pub is_built : Statement → Bool
 is_built Begin = false
 is_built Commit = false
 is_built Rollback = false
 is_built Checkpoint = false
-is_built (GdprGet table key) = false
-is_built (GdprForget table key) = false
 is_built statement = true
 
 -- A session's request as it comes into the history. A statement that isn't built yet, or is of another session than the

@@ -75,8 +75,8 @@ fn shown_rows<V: StoreView>(
     Ok(shown)
 }
 
-/// That there is no such subject.
-fn no_subject(alloc: Global, schema: &Schema, subject: &Subject) -> Result<Refusal, AllocError>
+/// That there is no such subject, by the name of its table.
+pub fn no_subject(alloc: Global, schema: &Schema, subject: &Subject) -> Result<Refusal, AllocError>
     requires { subject.now.0.table.0 < length schema.now.tables }
     ensures { IfOk result (λ refusal. refusal ≡ Refusal.NoSubject (table_name schema.now subject.now.0.table.0) subject.now.0.key) }
 {

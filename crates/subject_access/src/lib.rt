@@ -5,4 +5,4 @@ mod cells;
 mod collect;
 mod got_row;
 
-pub use collect::collect_flat;
+pub use collect::{collect_flat, no_subject};

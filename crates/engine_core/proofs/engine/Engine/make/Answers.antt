@@ -17,8 +17,8 @@ invariant_of-self g c =
     let same : history_of c.args.self.now ≡ history = sym (ap history_of c.self.view_is) in
     let plain = subst (λ (h : History). IsPlain (h ++ entry ∷ [])) same c.requires.plain in
     let goes = subst (λ (h : History). left (flat empty h) next ≡ plain_left (flat empty h) entry.request) same c.requires.left in
-    let leaves = c.put.ensures ∙ (ap (λ (db : Db). left db next) c.self.invariant.flat ∙ goes) in
-    rw c.push_reserved.ensures.items (stands-more _ history entry plain leaves)
+    let leaves = c.put.ensures.version ∙ (ap (λ (db : Db). left db next) c.self.invariant.0.flat ∙ goes) in
+    (rw c.push_reserved.ensures.items (stands-more _ history entry plain leaves), c.put.ensures.weighs)
 
 pub returns-clause-makes : goal.returns-clause-makes
 returns-clause-makes g c =

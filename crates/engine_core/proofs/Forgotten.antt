@@ -1,0 +1,122 @@
+-- What a GDPR FORGET is answered.
+use Rattle.std.proofs.Common.{◌≡◌, ◌∙◌, ℕ, zero, suc, ◌+◌, ◌<◌, ◌≤◌, ◌^◌, List, [], ◌∷◌, ◌++◌, Bool, true, false, not, ap, arith, filter, length, map, refl, subst, sym}
+use Rattle.std.specs.Prelude.{None, Some, ◌&&◌, IsTrue, count_by, is_some, nat_lt, slice_get, sum_by, if◌then◌else◌}
+use Rattle.std.specs.Option.{option_map_or}
+use Rattle.std.proofs.lemmas.Bool.{ltb-false}
+use Rattle.std.proofs.lemmas.List.{length-append, length-map}
+use Rattle.std.proofs.lemmas.List.Filters.{length-filter_both}
+use Rattle.std.proofs.lemmas.List.Sums.{count_by-le-length, length-filter, sum_by-cons}
+use Rattle.own_base.specs.declared.change.Change.{Change}
+use Rattle.own_base.specs.declared.row_name.RowName.{RowName}
+use Rattle.own_model.specs.declared.limit.TheConstants.{STORE_ROWS}
+use Rattle.own_model.specs.declared.refusal.Refusal.{Refusal}
+use Rattle.own_model.specs.declared.reply.Reply.{Reply}
+use Rattle.own_model.specs.declared.reply.Reply.TheVariants.{Forgot, Got, Refused}
+use Rattle.own_model.specs.declared.history.Verdict.TheVariants.{Took}
+use Rattle.own_model.specs.declared.schema.Schema.{Schema}
+use Rattle.own_model.specs.declared.schema.TableDef.{TableDef}
+use Rattle.schema_model.specs.Tables.{is_subject}
+use Rattle.own_model.specs.Db.{Db, Row}
+use Rattle.readable_model.proofs.NoFaults.{none-first, none-if}
+use Rattle.state_model.specs.Fault.{fault}
+use Rattle.state_model.specs.Weight.{row_count}
+use Rattle.state_model.proofs.Faultless.{faultless-from}
+use Rattle.subject_model.specs.Forget.{changed, forget, is_changed, removed}
+use Rattle.subject_model.specs.Named.{NamedRow, is_there, name_of, named_rows, rows_from, rows_in}
+use Rattle.subject_model.specs.Stays.{stays}
+use Rattle.subject_erase.specs.Plan.{IsPlan, leaves_row, plan_of}
+use Rattle.own_base.specs.declared.row_name.Subject.{Subject}
+use Rattle.own_model.specs.declared.bound.Bound.TheVariants.{Get}
+use Rattle.subject_model.specs.Get.{get}
+use Rattle.run_model.specs.Run.{answered, forget_subject, run_bound, show_subject}
+use Rattle.history_model.specs.Reply.{forget_reply, is_refusal}
+use Rattle.engine_core.specs.declared.answer.Answer.{Answer}
+use Rattle.engine_core.specs.Answered.{Tells, bound_reply}
+use Rattle.engine_core.proofs.BoundStatements.{tells-refused}
+
+-- no more rows have a name than there are
+named-few : (number : ℕ) (tables : List TableDef) (rows : List (List Row)) → length (rows_from number tables rows) ≤ sum_by length rows
+unfolding rows_from
+named-few number [] rows = omega arith
+named-few number (table ∷ tables) [] = omega arith
+named-few number (table ∷ tables) (one ∷ rest) =
+    let here : length (rows_in number table one) ≡ length one = length-map one (λ row. record { name = name_of number table row; row = row }) in
+    let both : length (rows_from number (table ∷ tables) (one ∷ rest)) ≡ length (rows_in number table one) + length (rows_from (number + 1) tables rest) =
+    length-append (rows_in number table one) (rows_from (number + 1) tables rest) in
+    let more = named-few (number + 1) tables rest in
+    let sum = sum_by-cons length one rest in
+    omega arith
+
+few_rows : (db : Db) → fault db ≡ None → row_count db ≤ STORE_ROWS
+few_rows db none =
+    let limit = (faultless-from db none).limit in
+    ltb-false STORE_ROWS (row_count db) (none-if _ _ (none-first _ _ limit))
+
+-- so an erasure makes few changes
+pub few-erased : (db : Db) (subject : RowName) (changes : List Change) → fault db ≡ None → IsPlan db subject (plan_of changes) → length changes < 2 ^ 32
+unfolding removed changed
+few-erased db subject changes none plan =
+    let rows = few_rows db none in
+    let named = named-few 0 db.schema.tables db.rows in
+    let all = named_rows db in
+    let goes : NamedRow → Bool = λ named. not (stays db subject named.name) in
+    let loses : NamedRow → Bool = λ named. stays db subject named.name && is_changed db subject named in
+    let gone : length (filter (λ change. not (leaves_row change)) changes) ≤ length all =
+    (let is : length (map (λ (change : Change). change.name) (filter (λ change. not (leaves_row change)) changes)) ≡ length (map (λ (named : NamedRow). named.name) (filter goes all)) = ap length plan.removed in
+    let left = length-map (filter (λ change. not (leaves_row change)) changes) (λ (change : Change). change.name) in
+    let right = length-map (filter goes all) (λ (named : NamedRow). named.name) in
+    let counted = length-filter goes all in
+    let most = count_by-le-length goes all in
+    omega arith) in
+    let lost : length (filter leaves_row changes) ≤ length all =
+    (let is : length (map (λ (change : Change). change.name) (filter leaves_row changes)) ≡ length (map (λ (named : NamedRow). named.name) (filter loses all)) = ap length plan.changed in
+    let left = length-map (filter leaves_row changes) (λ (change : Change). change.name) in
+    let right = length-map (filter loses all) (λ (named : NamedRow). named.name) in
+    let counted = length-filter loses all in
+    let most = count_by-le-length loses all in
+    omega arith) in
+    let both = length-filter_both leaves_row (λ change. not (leaves_row change)) (λ change. refl) changes in
+    omega arith
+
+-- there is no such subject
+pub forget-absent : (db : Db) (subject : RowName) (why : Refusal) (answer : Answer) → is_there db subject ≡ false → (forget_subject db subject).reply ≡ Refused why
+    → answer.reply ≡ Refused why → answer.next ≡ None → Tells db (forget_reply Took (forget_subject db subject)) (forget_subject db subject).db answer
+forget-absent db subject why answer absent is told stays = rw is (tells-refused db (forget_subject db subject).db why answer told stays)
+
+-- the table of a subject is there
+there_step : (tables : List TableDef) (number : ℕ) → IsTrue (option_map_or (λ (definition : TableDef). definition.subject) (slice_get tables number) false) → number < length tables
+there_step [] number is = let never : false ≡ true = is in absurd (cc)
+there_step (table ∷ tables) zero is = omega arith
+there_step (table ∷ tables) (suc number) is = let rest = there_step tables number is in omega arith
+
+pub subject-within : (schema : Schema) (number : ℕ) → IsTrue (is_subject schema number) → number < length schema.tables
+subject-within schema number is = there_step schema.tables number is
+
+-- how many rows the changes of an erasure remove, and how many they leave without some values
+pub counts-planned : (changes : List Change)
+    → Forgot (count_by (λ change. not (leaves_row change)) changes) (count_by leaves_row changes) ≡ Forgot (length (plan_of changes).removed) (length (plan_of changes).changed)
+counts-planned changes =
+    let goes = filter (λ change. not (leaves_row change)) changes in
+    let removed : count_by (λ change. not (leaves_row change)) changes ≡ length (plan_of changes).removed =
+    sym (length-filter (λ change. not (leaves_row change)) changes) ∙ sym (length-map goes (λ (change : Change). change.name)) in
+    let changed : count_by leaves_row changes ≡ length (plan_of changes).changed = sym (length-filter leaves_row changes) in
+    λ i. Forgot (removed i) (changed i)
+
+-- GET leaves the database
+shown_step : (b : Bool) (db : Db) (reply why : Reply) → (if b then answered db reply else answered db why).db ≡ db
+shown_step true db reply why = refl
+shown_step false db reply why = refl
+
+shown-left : (db : Db) (subject : RowName) → (show_subject db subject).db ≡ db
+unfolding show_subject
+shown-left db subject = shown_step (is_there db subject) db (Got (get db subject)) _
+
+either : (b : Bool) (db other : Db) → other ≡ db → db ≡ (if b then db else other)
+either true db other same = refl
+either false db other same = sym same
+
+pub tells-shown : (db : Db) (subject : Subject) (answer : Answer) → answer.reply ≡ (show_subject db subject.0).reply → answer.next ≡ None
+    → Tells db (bound_reply db (Get subject)) (run_bound db (Get subject)).db answer
+unfolding run_bound
+tells-shown db subject answer told stays =
+    record { told = told; leaves = rw stays (either (is_refusal (show_subject db subject.0).reply) db (show_subject db subject.0).db (shown-left db subject.0)) }

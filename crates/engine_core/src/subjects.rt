@@ -1,0 +1,78 @@
+ghost use Rattle.std.specs.Prelude.{◌≡◌, ◌<◌, ◌^◌, IsTrue, count_by, length, not, IfOk};
+ghost use Rattle.own_model.specs.declared.history.Verdict.TheVariants.{Took};
+ghost use Rattle.own_model.specs.declared.reply.Reply.TheVariants.{Forgot};
+ghost use Rattle.schema_model.specs.Tables.{is_subject};
+ghost use Rattle.state_model.specs.Sound.{IsKept, Sound};
+ghost use Rattle.run_model.specs.Run.{forget_subject, show_subject};
+ghost use Rattle.subject_erase.specs.Plan.{leaves_row};
+ghost use Rattle.history_model.specs.Reply.{forget_reply};
+ghost use Rattle.engine_core.specs.Answered.{Tells};
+
+use crate::answer::Answer;
+use crate::commit::{judged, settled};
+use own_base::{Change, Subject};
+use own_model::{Reply, StoreView};
+use std::alloc::{AllocError, Global};
+use std::mem::drop;
+use store_version::{Version, prepare};
+use subject_access::{collect_flat, no_subject};
+use subject_erase::erase_changes;
+
+/// The reply to a bound GDPR GET.
+pub(crate) fn get_reply(
+    alloc: Global,
+    version: &Version,
+    subject: &Subject,
+) -> Result<Reply, AllocError>
+    requires kept { IsKept version.now }
+    requires subject { IsTrue (is_subject version.now.schema subject.now.0.table.0) }
+    ensures { IfOk result (λ reply. reply ≡ (show_subject version.now subject.now.0).reply) }
+{
+    collect_flat(alloc, version, subject)
+}
+
+/// The reply to a GDPR FORGET that makes these changes: how many rows they remove, and how many they change.
+fn forgotten(changes: &[Change]) -> Reply
+    requires { length changes.now < 2 ^ 32 }
+    ensures { result ≡ Forgot (count_by (λ change. not (leaves_row change)) changes.now) (count_by leaves_row changes.now) }
+{
+    let removed = changes
+        .iter()
+        .filter(|change| !change.after.is_some())
+        .count();
+    let changed = changes
+        .iter()
+        .filter(|change| change.after.is_some())
+        .count();
+    Reply::Forgot {
+        removed: removed as u32,
+        changed: changed as u32,
+    }
+}
+
+/// The answer to a bound GDPR FORGET, which commits by itself: no constraint, limit or length refuses it.
+#[tactic(auto, unfolding(run_model::specs::Run::forget_subject))]
+pub(crate) fn forget(
+    alloc: Global,
+    version: &Version,
+    subject: &Subject,
+) -> Result<Answer, AllocError>
+    requires sound { Sound version.now }
+    requires subject { IsTrue (is_subject version.now.schema subject.now.0.table.0) }
+    ensures { IfOk result (Tells version.now (forget_reply Took (forget_subject version.now subject.now.0)) (forget_subject version.now subject.now.0).db) }
+{
+    if version.row(&subject.0).is_none() {
+        let why = no_subject(alloc, version.schema(), subject)?;
+        return Ok(Answer::told(Reply::Refused(why)));
+    }
+    let changes = erase_changes(alloc, version, subject)?;
+    let next = prepare(alloc, version, changes.items())?;
+    let reply = forgotten(changes.items());
+    match judged(alloc, &next) {
+        Ok(judged) => Ok(settled(next, judged, None, reply)),
+        Err(refused) => {
+            drop(next);
+            Err(refused)
+        }
+    }
+}
