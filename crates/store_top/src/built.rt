@@ -11,12 +11,7 @@ fn is_built(statement: &Statement) -> bool
 {
     !matches!(
         statement,
-        Statement::Begin
-            | Statement::Commit
-            | Statement::Rollback
-            | Statement::Checkpoint
-            | Statement::GdprGet { .. }
-            | Statement::GdprForget { .. }
+        Statement::Begin | Statement::Commit | Statement::Rollback | Statement::Checkpoint
     )
 }
 

@@ -1,4 +1,4 @@
-ghost use Rattle.std.specs.Prelude.{◌≡◌, ◌≢◌, ◌+◌, ◌≤◌, ◌↔◌, ◌⊎◌, [], map, Some, None, false, string_bytes, vec_len};
+ghost use Rattle.std.specs.Prelude.{◌≡◌, ◌≢◌, ◌+◌, ◌≤◌, ◌⊎◌, [], map, Some, None, string_bytes, vec_len};
 ghost use Rattle.outer_world.specs.FaultCount.{CountRose};
 ghost use Rattle.own_model.specs.declared.script.InputFault.{InputFault as InputFaultSeen};
 ghost use Rattle.own_model.specs.Db.{empty};
