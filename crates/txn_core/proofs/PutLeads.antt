@@ -34,7 +34,7 @@ use Rattle.write_eval.specs.Leads.{IsChangeOf, LeadTo, key_changed}
 use Rattle.write_eval.proofs.Kept.{each_passing}
 
 -- two words for one test
-equal_is : (o : Ordering) → is_eq o ≡ is_equal o
+pub equal_is : (o : Ordering) → is_eq o ≡ is_equal o
 equal_is Less = refl
 equal_is Equal = refl
 equal_is Greater = refl

@@ -1,1 +1,4 @@
+pub mod Runs
 pub mod Single
+pub mod Standing
+pub mod Views
