@@ -1,10 +1,12 @@
 mod BoundSelects
 pub mod Elsewhere
+mod Lowest
 mod NetNames
 mod NetTo
 pub mod OpenBlocks
 pub mod OrderedWrites
 pub mod PutLeads
+mod Quiet
 pub mod Runs
 pub mod SoundBases
 pub mod Standing

@@ -1,19 +1,28 @@
 -- A net names no row that is the same before and after.
 use Rattle.std.proofs.Common.{◌≡◌, ◌∙◌, ℕ, zero, suc, ◌+◌, List, [], ◌∷◌, ◌++◌, Bool, true, false, ap, refl, subst, sym, arith}
 use Rattle.std.specs.Prelude.{Option, None, Some, IfSome, bytes_eq, cond, filter_map, find, slice_get}
-use Rattle.std.specs.List.{AllByRecursion as Each, cons_option}
+use Rattle.std.specs.List.{AllByRecursion as Each, IsDistinct, cons_option}
 use Rattle.std.proofs.lemmas.Bool.{eq-eqb}
 use Rattle.std.proofs.lemmas.Cmp.{int_cmp_total, tied_itself}
 use Rattle.own_base.specs.declared.change.Change.{Change}
 use Rattle.own_base.specs.declared.value.Key.{Key}
 use Rattle.own_base.specs.declared.value.Value.{Value}
 use Rattle.own_base.specs.declared.value.Value.TheVariants.{Null, Int, Text, Sum}
+use Rattle.own_model.specs.declared.schema.Schema.{Schema}
 use Rattle.own_model.specs.declared.schema.TableDef.{TableDef}
-use Rattle.own_model.specs.Db.{Db, Row}
+use Rattle.own_model.specs.Db.{AreRising, Db, Row}
 use Rattle.own_model.specs.Stored.{has_key, row_named, rows_at}
+use Rattle.page_model.specs.Changed.{with_changes}
 use Rattle.state_model.specs.Net.{change_at, keys_in, net, net_from, net_in}
 use Rattle.state_model.specs.Same.{is_same_row, is_same_state, is_same_value}
+use Rattle.txn_space.specs.declared.entry.Entry.{Entry}
+use Rattle.txn_space.specs.Changed.{changed_rows}
+use Rattle.txn_space.specs.EntryNet.{database}
+use Rattle.txn_space.specs.Put.{put_from}
+use Rattle.txn_space.specs.Sound.{IsBase}
 use Rattle.txn_space.proofs.OverLemmas.{next, same}
+use Rattle.txn_core.specs.Single.{IsNetTo}
+use Rattle.txn_core.proofs.NetTo.{changed_none}
 
 -- a row that is there or not is the same as itself
 same_bytes : (bytes : List ℕ) → bytes_eq bytes bytes ≡ true
@@ -101,3 +110,41 @@ net_others before after schema =
     let second = named_at after place table key at in
     let own : IsOfOther before after (changed place key was is) = rw (first, second) others in
     subst (λ n. IsOfOther before after (changed n key was is)) (sym here) own)
+
+-- Nothing is made of rows by no change, and their net is none.
+none_given : {X Y : Type 0} (give : X → Option Y) → ((x : X) → give x ≡ None) → (xs : List X) → filter_map give xs ≡ []
+none_given give none [] = refl
+none_given give none (x ∷ xs) = rw (none x) (none_given give none xs)
+
+net_in-same : (number : ℕ) (table : TableDef) (rows : List Row) → net_in number table rows rows ≡ []
+net_in-same number table rows = none_given (change_at number table rows rows) (λ key. rw (same_state (find (has_key table key) rows)) refl) (keys_in table (rows ++ rows))
+
+net_from-same : (number : ℕ) (tables : List TableDef) (rows : List (List Row)) → net_from number tables rows rows ≡ []
+unfolding net_from
+net_from-same number [] rows = refl
+net_from-same number (table ∷ tables) [] = refl
+net_from-same number (table ∷ tables) (one ∷ rows) = rw (net_in-same number table one) (net_from-same (number + 1) tables rows)
+
+put_none : (number : ℕ) (tables : List TableDef) (rows : List (List Row)) → AreRising tables rows → put_from number tables [] rows ≡ rows
+unfolding put_from with_changes
+put_none number [] [] rising = refl
+put_none number [] (one ∷ rows) rising = absurd rising
+put_none number (table ∷ tables) [] rising = absurd rising
+put_none number (table ∷ tables) (one ∷ rows) rising = ap (λ rest. one ∷ rest) (put_none (number + 1) tables rows rising.1)
+
+pub no_net : (schema : Schema) (rows : List (List Row)) → AreRising schema.tables rows → IsNetTo (database schema rows) (database schema rows) []
+unfolding net IsDistinct
+no_net schema rows rising = record {
+  is_net = sym (net_from-same 0 schema.tables rows);
+  made = put_none 0 schema.tables rows rising;
+  theirs = tt;
+  once = λ number. tt;
+}
+
+-- so it is where nothing was changed
+pub net_unchanged : (schema : Schema) (rows : List (List Row)) (space : List (List Entry)) (changes : List Change) → IsBase schema.tables rows → space ≡ [] → changes ≡ []
+    → IsNetTo (database schema rows) (database schema (changed_rows schema.tables rows space)) changes
+net_unchanged schema rows space changes base none empty =
+    let same : changed_rows schema.tables rows space ≡ rows = ap (changed_rows schema.tables rows) none ∙ changed_none 0 schema.tables rows base.rising in
+    subst (λ changes. IsNetTo (database schema rows) (database schema (changed_rows schema.tables rows space)) changes) (sym empty)
+    (subst (λ after. IsNetTo (database schema rows) (database schema after) []) (sym same) (no_net schema rows base.rising))
