@@ -77,7 +77,7 @@ net_in-each P number table before after all =
 
 net_from-each : (P : Change → Type 0) (number : ℕ) (tables : List TableDef) (befores afters : List (List Row))
     → ((place : ℕ) (table : TableDef) (key : Key) → slice_get tables place ≡ Some table → differ table key (rows_at befores place) (rows_at afters place)
-        → (was is : Option Row) → P (changed (number + place) key was is))
+    → (was is : Option Row) → P (changed (number + place) key was is))
     → Each P (net_from number tables befores afters)
 unfolding net_from
 net_from-each P number [] befores afters all = tt
