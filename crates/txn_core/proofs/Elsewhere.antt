@@ -1,7 +1,7 @@
 -- What an open transaction has changed stands for its block on each database that is the same on the rows of its items.
-use Rattle.std.proofs.Common.{◌≡◌, ◌∙◌, ◌<◌, ℕ, zero, suc, List, [], ◌∷◌, ◌++◌, Bool, true, false, Option, None, Some, ap, arith, inl, inr, length, refl, subst, sym}
-use Rattle.std.specs.Prelude.{◌⊎◌, ◌||◌, Ok, Err, find, is_some, slice_get}
-use Rattle.std.specs.List.{AllByRecursion as Each, list_any}
+use Rattle.std.proofs.Common.{◌≡◌, ◌∙◌, ◌<◌, ℕ, suc, List, [], ◌∷◌, Bool, true, false, Option, None, Some, ap, inl, inr, length, refl, subst, sym}
+use Rattle.std.specs.Prelude.{◌⊎◌, find, is_some, slice_get}
+use Rattle.std.specs.List.{AllByRecursion as Each}
 use Rattle.std.specs.Option.{option_and_then, option_map_or}
 use Rattle.std.proofs.lemmas.Bool.{and_parts, eqb-true, or_cases}
 use Rattle.std.proofs.lemmas.Option.{slice_get_within}
@@ -9,25 +9,17 @@ use Rattle.own_base.specs.Key.{key_cmp}
 use Rattle.own_base.specs.declared.number.TableNo.{TableNo}
 use Rattle.own_base.specs.declared.row_name.RowName.{RowName}
 use Rattle.own_base.specs.declared.value.Key.{Key}
-use Rattle.own_model.specs.declared.bound.Bound.{Bound}
 use Rattle.own_model.specs.declared.footprint.FootItem.{FootItem}
-use Rattle.own_model.specs.declared.refusal.Refusal.{Refusal}
-use Rattle.own_model.specs.declared.reply.Reply.{Reply}
-use Rattle.own_model.specs.declared.schema.CreateText.{CreateText}
 use Rattle.own_model.specs.declared.schema.Schema.{Schema}
 use Rattle.own_model.specs.declared.schema.TableDef.{TableDef}
-use Rattle.own_model.specs.declared.statement.Statement.{Statement}
-use Rattle.own_model.specs.declared.statement.Statement.TheVariants.{Delete, Insert, Select, Update}
 use Rattle.own_model.specs.Db.{AreRising, Db, Row, key_of}
 use Rattle.own_model.specs.Stored.{has_key, row_named, rows_at}
 use Rattle.own_model.proofs.KeyOrder.{key_order}
 use Rattle.owner_model.specs.Joins.{row_of}
 use Rattle.page_model.specs.Found.{found}
-use Rattle.query_model.specs.BoundStatement.{bound_statement}
-use Rattle.query_model.specs.Footprints.{footprint_of, item}
+use Rattle.query_model.specs.Footprints.{item}
 use Rattle.run_model.specs.Agree.{Agree, AgreeOn, overlaps}
-use Rattle.run_model.specs.Items.{TakesRows, items_of, items_of_all}
-use Rattle.run_model.specs.Run.{Outcome, answered, run, run_bound}
+use Rattle.run_model.specs.Items.{items_of_all}
 use Rattle.state_model.specs.Sound.{IsKept}
 use Rattle.subject_model.proofs.NamedLemmas.{one_key}
 use Rattle.table_part.proofs.SameFound.{same_found}
@@ -36,13 +28,10 @@ use Rattle.txn_space.specs.Changed.{changed_rows}
 use Rattle.txn_space.specs.Entries.{entries_at, entry_key, entry_row}
 use Rattle.txn_space.specs.Sound.{IsBase, IsSpaceOf}
 use Rattle.txn_space.proofs.OverLemmas.{changed_rise, named_entry, named_in, named_unchanged, rising_at}
-use Rattle.txn_space.proofs.SoundLemmas.{none_sound}
-use Rattle.write_eval.specs.Writes.{db_of}
-use Rattle.history_model.specs.World.{Block, Stated, after_all, after_block, statements_of}
-use Rattle.history_model.proofs.BlockLemmas.{AreOfBlock, after-push, carries-block, items-push, kept-block, schema-block, still-block}
-use Rattle.txn_core.specs.Runs.{HasRun, is_entered, is_written, shown}
+use Rattle.history_model.specs.World.{Block, after_block, statements_of}
+use Rattle.history_model.proofs.BlockLemmas.{AreOfBlock, carries-block, kept-block, schema-block, still-block}
+use Rattle.txn_core.specs.Runs.{is_entered, is_written}
 use Rattle.txn_core.specs.Standing.{StandsFor}
-use Rattle.txn_core.proofs.NetTo.{changed_none}
 
 -- databases that agree on an item agree on the row of each name on it
 module _ (db other : Db) (schema : db.schema ≡ other.schema) (name : RowName) where

@@ -1,5 +1,5 @@
 -- A net names no row that is the same before and after.
-use Rattle.std.proofs.Common.{◌≡◌, ◌∙◌, ℕ, zero, suc, ◌+◌, List, [], ◌∷◌, ◌++◌, Bool, true, false, ap, refl, subst, sym, arith}
+use Rattle.std.proofs.Common.{◌≡◌, ◌∙◌, ℕ, suc, ◌+◌, List, [], ◌∷◌, ◌++◌, Bool, true, false, ap, refl, subst, sym, arith}
 use Rattle.std.specs.Prelude.{Option, None, Some, IfSome, bytes_eq, cond, filter_map, find, slice_get}
 use Rattle.std.specs.List.{AllByRecursion as Each, IsDistinct, cons_option}
 use Rattle.std.proofs.lemmas.Bool.{eq-eqb}

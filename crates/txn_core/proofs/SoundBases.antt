@@ -1,6 +1,6 @@
 -- Transactions may stand on a sound database.
-use Rattle.std.proofs.Common.{◌<◌, ◌≤◌, ℕ, zero, suc, List, [], ◌∷◌, length, arith, ◌≡◌}
-use Rattle.std.specs.Prelude.{◌^◌, None, nat_lt, sum_by, if◌then◌else◌}
+use Rattle.std.proofs.Common.{◌≤◌, ℕ, zero, suc, List, [], ◌∷◌, length, arith, ◌≡◌}
+use Rattle.std.specs.Prelude.{None, nat_lt, sum_by, if◌then◌else◌}
 use Rattle.std.proofs.lemmas.Bool.{ltb-false}
 use Rattle.std.proofs.lemmas.List.Sums.{sum_by-cons}
 use Rattle.own_model.specs.declared.limit.LimitName.TheVariants as limit

@@ -1,45 +1,30 @@
 -- What an open transaction has changed stands for its block, and for it with one statement more.
-use Rattle.std.proofs.Common.{◌≡◌, ◌∙◌, ◌<◌, ℕ, zero, suc, List, [], ◌∷◌, ◌++◌, Bool, true, false, Option, None, Some, ap, arith, inl, inr, length, refl, subst, sym}
-use Rattle.std.specs.Prelude.{◌⊎◌, ◌||◌, Ok, Err, find, is_some, slice_get}
-use Rattle.std.specs.List.{AllByRecursion as Each, list_any}
-use Rattle.std.specs.Option.{option_and_then, option_map_or}
-use Rattle.std.proofs.lemmas.Bool.{and_parts, eqb-true, or_cases}
-use Rattle.std.proofs.lemmas.Option.{slice_get_within}
-use Rattle.own_base.specs.Key.{key_cmp}
-use Rattle.own_base.specs.declared.number.TableNo.{TableNo}
+use Rattle.std.proofs.Common.{◌≡◌, ◌∙◌, ℕ, List, [], ◌∷◌, ◌++◌, Bool, true, false, Some, ap, inl, inr, refl, sym}
+use Rattle.std.specs.Prelude.{◌||◌, Ok, Err}
+use Rattle.std.specs.List.{list_any}
+use Rattle.std.proofs.lemmas.Bool.{or_cases}
 use Rattle.own_base.specs.declared.row_name.RowName.{RowName}
-use Rattle.own_base.specs.declared.value.Key.{Key}
 use Rattle.own_model.specs.declared.bound.Bound.{Bound}
 use Rattle.own_model.specs.declared.footprint.FootItem.{FootItem}
 use Rattle.own_model.specs.declared.refusal.Refusal.{Refusal}
 use Rattle.own_model.specs.declared.reply.Reply.{Reply}
 use Rattle.own_model.specs.declared.schema.CreateText.{CreateText}
 use Rattle.own_model.specs.declared.schema.Schema.{Schema}
-use Rattle.own_model.specs.declared.schema.TableDef.{TableDef}
 use Rattle.own_model.specs.declared.statement.Statement.{Statement}
 use Rattle.own_model.specs.declared.statement.Statement.TheVariants.{Delete, Insert, Select, Update}
-use Rattle.own_model.specs.Db.{AreRising, Db, Row, key_of}
-use Rattle.own_model.specs.Stored.{has_key, row_named, rows_at}
-use Rattle.own_model.proofs.KeyOrder.{key_order}
-use Rattle.owner_model.specs.Joins.{row_of}
+use Rattle.own_model.specs.Db.{Db}
 use Rattle.page_model.specs.Found.{found}
 use Rattle.query_model.specs.BoundStatement.{bound_statement}
 use Rattle.query_model.specs.Footprints.{footprint_of, item}
-use Rattle.run_model.specs.Agree.{Agree, AgreeOn, overlaps}
+use Rattle.run_model.specs.Agree.{overlaps}
 use Rattle.run_model.specs.Items.{TakesRows, items_of, items_of_all}
-use Rattle.run_model.specs.Run.{Outcome, answered, run, run_bound}
+use Rattle.run_model.specs.Run.{Outcome, run, run_bound}
 use Rattle.state_model.specs.Sound.{IsKept}
-use Rattle.subject_model.proofs.NamedLemmas.{one_key}
-use Rattle.table_part.proofs.SameFound.{same_found}
 use Rattle.txn_space.specs.declared.entry.Entry.{Entry}
-use Rattle.txn_space.specs.Changed.{changed_rows}
-use Rattle.txn_space.specs.Entries.{entries_at, entry_key, entry_row}
-use Rattle.txn_space.specs.Sound.{IsBase, IsSpaceOf}
-use Rattle.txn_space.proofs.OverLemmas.{changed_rise, named_in, rising_at}
 use Rattle.txn_space.proofs.SoundLemmas.{none_sound}
 use Rattle.write_eval.specs.Writes.{db_of}
 use Rattle.history_model.specs.World.{Block, Stated, after_all, after_block, statements_of}
-use Rattle.history_model.proofs.BlockLemmas.{AreOfBlock, after-push, carries-block, items-push, kept-block, schema-block, still-block}
+use Rattle.history_model.proofs.BlockLemmas.{AreOfBlock, after-push, items-push, schema-block}
 use Rattle.txn_core.specs.Runs.{HasRun, is_entered, is_written, shown}
 use Rattle.txn_core.specs.Standing.{StandsFor}
 use Rattle.txn_core.proofs.NetTo.{changed_none}

@@ -4,7 +4,7 @@ use Rattle.std.specs.List.{list_any}
 use Rattle.own_base.specs.Key.{key_cmp}
 use Rattle.own_base.specs.declared.row_name.RowName.{RowName}
 use Rattle.own_model.specs.declared.bound.Bound.{Bound}
-use Rattle.own_model.specs.declared.bound.Bound.TheVariants.{Delete, Explain, Forget, Get, Insert, Select, Update}
+use Rattle.own_model.specs.declared.bound.Bound.TheVariants.{Select}
 use Rattle.own_model.specs.declared.footprint.FootItem.{FootItem}
 use Rattle.own_model.specs.declared.reply.Reply.{Reply}
 use Rattle.own_model.specs.declared.schema.Schema.{Schema}
