@@ -1,5 +1,6 @@
 mod BoundSelects
 pub mod Elsewhere
+pub mod KeptStands
 mod Lowest
 mod NetNames
 mod NetTo
