@@ -1,6 +1,6 @@
 -- From what a write comes to, to the net of it.
-use Rattle.std.proofs.Common.{◌≡◌, ◌∙◌, ℕ, ◌+◌, ◌<◌, List, [], ◌∷◌, Result, Ok, Err, ap, length, refl, subst, sym}
-use Rattle.std.specs.Prelude.{IfOk, Some, filter, slice_get}
+use Rattle.std.proofs.Common.{◌≡◌, ◌∙◌, ℕ, ◌+◌, List, [], ◌∷◌, Result, Ok, Err, ap, refl, subst}
+use Rattle.std.specs.Prelude.{IfOk, filter}
 use Rattle.std.specs.List.{AllByRecursion as Each}
 use Rattle.own_base.specs.declared.change.Change.{Change}
 use Rattle.own_model.specs.declared.bound.Bound.{Bound}
@@ -15,11 +15,9 @@ use Rattle.run_model.specs.Run.{run_bound}
 use Rattle.run_model.proofs.SameSchema.{same_schema-bound}
 use Rattle.state_model.specs.Net.{net}
 use Rattle.table_part.specs.Changes.{KeysDiffer}
-use Rattle.txn_space.specs.Changed.{changed_from, changed_rows}
+use Rattle.txn_space.specs.Changed.{changed_from}
 use Rattle.txn_space.specs.EntryNet.{database}
-use Rattle.txn_space.specs.Entries.{entries_at}
 use Rattle.txn_space.specs.Put.{IsChangeOf, is_of_table, put_rows}
-use Rattle.txn_space.specs.Sound.{IsBase}
 use Rattle.txn_space.proofs.OverLemmas.{table_there}
 use Rattle.write_eval.specs.declared.written.Written.{Written}
 use Rattle.write_eval.specs.Write.{IsThere, IsWrite, table_of}

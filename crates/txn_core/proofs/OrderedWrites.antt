@@ -19,7 +19,7 @@ use Rattle.run_model.proofs.RisingKeys.{AreKeyless}
 use Rattle.write_eval.specs.Write.{IsWrite, SpareKey}
 
 -- sets that spare the key of a table that is there
-keyless_sets : (schema : Schema) (number : TableNo) (table : TableDef) (sets : Sets) → slice_get schema.tables number.0 ≡ Some table → SpareKey schema number sets → AreKeyless table sets
+pub keyless_sets : (schema : Schema) (number : TableNo) (table : TableDef) (sets : Sets) → slice_get schema.tables number.0 ≡ Some table → SpareKey schema number sets → AreKeyless table sets
 keyless_sets schema number table sets is spare =
     let same : key_column schema number ≡ table.key.0 = ap (λ found. option_map_or (λ (table : TableDef). table.key.0) found 0) is in
     subst (λ key. Each (λ (set : ColNo × BoundExpr). (set.0.0 == key) ≡ false) sets) same spare

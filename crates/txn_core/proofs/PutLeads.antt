@@ -1,9 +1,8 @@
 -- Changes that lead from rows to others give the others where they are made.
 use Rattle.std.proofs.lemmas.Bool.{and_from}
-use Rattle.std.proofs.Common.{◌≡◌, ◌∙◌, ℕ, zero, suc, ◌+◌, List, [], ◌∷◌, Bool, true, false, cond, ap, arith, filter, refl, sym, subst, eqb-true}
-use Rattle.std.specs.Prelude.{◌==◌, ◌&&◌, Option, None, Some, IfSome, find, map, slice_get}
+use Rattle.std.proofs.Common.{◌≡◌, ◌∙◌, ℕ, suc, ◌+◌, List, [], ◌∷◌, Bool, true, false, cond, ap, filter, refl, sym, subst, eqb-true}
+use Rattle.std.specs.Prelude.{◌==◌, Option, None, Some, IfSome, find, map, slice_get}
 use Rattle.std.specs.List.{AllByRecursion as Each, list_any}
-use Rattle.std.specs.List.Sorted.{IsStrictlySortedBy}
 use Rattle.std.specs.Option.{option_map_or}
 use Rattle.std.specs.Ordering.{is_eq}
 use Rattle.std.specs.declared.cmp.Ordering.{Ordering}
@@ -30,11 +29,11 @@ use Rattle.table_part.proofs.InOrder.{is_of, rising_differ}
 use Rattle.table_part.proofs.SameFound.{same_found}
 use Rattle.txn_space.specs.Put.{IsChangeOf as IsChangeOfTables, is_of_table, put_from, rows_put}
 use Rattle.txn_space.proofs.OverLemmas.{from_none, named_in, next, rising_at, same}
-use Rattle.write_eval.specs.Leads.{IsChangeOf, LeadTo, key_changed}
+use Rattle.write_eval.specs.Leads.{IsChangeOf, LeadTo}
 use Rattle.write_eval.proofs.Kept.{each_passing}
 
 -- two words for one test
-equal_is : (o : Ordering) → is_eq o ≡ is_equal o
+pub equal_is : (o : Ordering) → is_eq o ≡ is_equal o
 equal_is Less = refl
 equal_is Equal = refl
 equal_is Greater = refl

@@ -1,1 +1,5 @@
+pub mod Kept
+pub mod Runs
 pub mod Single
+pub mod Standing
+pub mod Views

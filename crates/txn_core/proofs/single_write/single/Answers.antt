@@ -1,5 +1,5 @@
 use Rattle.std.proofs.Common.{[], List}
-use Rattle.std.proofs.Common.{ap, subst, sym}
+use Rattle.std.proofs.Common.{subst, sym}
 use Rattle.own_base.specs.declared.change.Change.{Change}
 use Rattle.std.specs.List.{AllByRecursion}
 use Rattle.txn_space.specs.Put.{IsChangeOf, put_rows}

@@ -1,0 +1,197 @@
+-- What a statement in a transaction comes to.
+use Rattle.std.proofs.Common.{◌≡◌, ◌∙◌, ◌<◌, ◌==◌, ℕ, List, [], ◌∷◌, Bool, true, false, Option, None, Some, ap, arith, filter, inl, inr, length, refl, subst, sym}
+use Rattle.std.specs.Prelude.{◌^◌, ◌⊎◌, find, is_some, slice_get}
+use Rattle.std.specs.List.{AllByRecursion as Each, list_any}
+use Rattle.std.specs.Option.{option_map_or}
+use Rattle.std.proofs.lemmas.Bool.{and_from}
+use Rattle.own_base.specs.Key.{key_cmp}
+use Rattle.own_base.specs.declared.change.Change.{Change}
+use Rattle.own_base.specs.declared.row_name.RowName.{RowName}
+use Rattle.own_model.specs.declared.bound.Bound.{Bound}
+use Rattle.own_model.specs.declared.bound.Bound.TheVariants.{Delete, Explain, Forget, Get, Insert, Select, Update}
+use Rattle.own_model.specs.declared.bound.BoundSelect.{BoundSelect}
+use Rattle.own_model.specs.declared.footprint.FootItem.{FootItem}
+use Rattle.own_model.specs.declared.refusal.Refusal.{Refusal}
+use Rattle.own_model.specs.declared.reply.Reply.{Reply}
+use Rattle.own_model.specs.declared.reply.Reply.TheVariants.{Refused}
+use Rattle.own_model.specs.declared.schema.CreateText.{CreateText}
+use Rattle.own_model.specs.declared.schema.Schema.{Schema}
+use Rattle.own_model.specs.declared.schema.TableDef.{TableDef}
+use Rattle.own_model.specs.Db.{AreRising, Db, Row, key_of}
+use Rattle.own_model.specs.Stored.{is_equal, rows_at}
+use Rattle.own_model.proofs.KeyOrder.{key_order}
+use Rattle.owner_model.specs.Joins.{row_of}
+use Rattle.page_model.specs.Changed.{AreKeyed}
+use Rattle.page_model.specs.Found.{found}
+use Rattle.page_model.proofs.ChangedLemmas.{length_with_changes}
+use Rattle.query_model.specs.Footprints.{footprint_of, item}
+use Rattle.query_model.specs.Query.{query_rows, reply_of}
+use Rattle.query_eval.specs.Tables.{AreTables}
+use Rattle.run_model.specs.Agree.{AgreeOn, overlaps}
+use Rattle.run_model.specs.Run.{run_bound}
+use Rattle.run_model.proofs.BoundFootprints.{IsFootprinted, still-run_bound}
+use Rattle.run_model.proofs.FoundRows.{found_has}
+use Rattle.run_model.proofs.Refusals.{refused-bound}
+use Rattle.run_model.proofs.TableRows.{AreInPlace, no_rows}
+use Rattle.state_model.specs.Rows.{AreRowsOf}
+use Rattle.state_model.specs.Same.{is_same_state}
+use Rattle.subject_model.proofs.NamedLemmas.{one_name}
+use Rattle.table_part.specs.Changes.{KeysDiffer, changed_key}
+use Rattle.table_part.proofs.FoundChanged.{found_with_changes}
+use Rattle.table_part.proofs.InOrder.{is_of}
+use Rattle.txn_space.specs.declared.entry.Entry.{Entry}
+use Rattle.txn_space.specs.Changed.{changed_rows, rows_with}
+use Rattle.txn_space.specs.Entries.{entries_at, entry_key, entry_of, entry_row}
+use Rattle.txn_space.specs.HasPut.{entries_put}
+use Rattle.txn_space.specs.Put.{is_of_table, put_rows}
+use Rattle.txn_space.specs.Sound.{IsBase, IsSpaceOf}
+use Rattle.txn_space.proofs.OverLemmas.{changed_rise, rows_of_table}
+use Rattle.write_eval.specs.Write.{IsWrite}
+use Rattle.write_eval.specs.Writes.{db_of}
+use Rattle.write_eval.proofs.Kept.{each_passing}
+use Rattle.txn_core.specs.Runs.{HasRun, IsRowStatement, IsSelect, IsStore, is_entered, is_written}
+use Rattle.txn_core.specs.Single.{NetTo}
+use Rattle.txn_core.proofs.NetNames.{IsOfOther, net_others, same_state}
+use Rattle.txn_core.proofs.OrderedWrites.{keyless_sets}
+use Rattle.txn_core.proofs.PutLeads.{equal_is}
+use Rattle.txn_core.proofs.StoredRows.{all_stored}
+
+-- rows that transactions may stand on, as one of them changed them
+module _ (schema : Schema) (rows : List (List Row)) (space : List (List Entry)) (store : IsStore schema rows) (sound : IsSpaceOf schema.tables space) where
+  pub small : IsBase schema.tables rows
+  small = record { rising = store.rising; few = λ number. let few = store.few number in omega arith }
+
+  pub changed_rising : AreRising schema.tables (changed_rows schema.tables rows space)
+  changed_rising = changed_rise schema.tables rows space small sound
+
+  few_in : (number : ℕ) (table : Option TableDef) → slice_get schema.tables number ≡ table → length (rows_at (changed_rows schema.tables rows space) number) < 2 ^ 63
+  few_in number None is =
+      let none : rows_at (changed_rows schema.tables rows space) number ≡ [] = no_rows schema.tables (changed_rows schema.tables rows space) number changed_rising is in
+      let long : length (rows_at (changed_rows schema.tables rows space) number) ≡ 0 = ap length none in
+      omega arith
+  few_in number (Some table) is =
+      let all = rows_of_table schema.tables rows space number table store.rising is in
+      let long : length (rows_at (changed_rows schema.tables rows space) number) ≡ length (rows_with table (entries_at space number) (rows_at rows number)) = ap length all in
+      let most = length_with_changes (key_of table) key_order entry_key entry_row (entries_at space number) (rows_at rows number) in
+      let few = store.few number in
+      let entries = sound.few number in
+      omega arith
+
+  -- may be one for a transaction in its turn
+  pub changed_base : IsBase schema.tables (changed_rows schema.tables rows space)
+  changed_base = record { rising = changed_rising; few = λ number. few_in number (slice_get schema.tables number) refl }
+
+  -- and a select may read them
+  pub changed_tables : AreRowsOf schema.tables (changed_rows schema.tables rows space) → AreTables schema (changed_rows schema.tables rows space)
+  changed_tables are = record { rising = changed_rising; stored = all_stored schema.tables (changed_rows schema.tables rows space) are }
+
+-- a statement of rows has a footprint
+pub row_footprinted : (schema : Schema) (bound : Bound) → IsRowStatement schema bound → IsFootprinted schema bound
+row_footprinted schema (Select query) is = tt
+row_footprinted schema (Insert table tuples) is = tt
+row_footprinted schema (Update table sets cond) is = λ definition at. keyless_sets schema table definition sets at is.1
+row_footprinted schema (Delete table cond) is = tt
+row_footprinted schema (Get subject) is = absurd is
+row_footprinted schema (Forget subject) is = absurd is
+row_footprinted schema Explain is = absurd is
+
+-- changes of rows that differ, put into the entries of a transaction
+module _ (seen left : Db) (items : List FootItem) (before after : List (List Entry)) (changes : List Change)
+    (still : (other : FootItem) → list_any (λ own. overlaps own other) items ≡ false → AgreeOn seen left other) (others : Each (IsOfOther seen left) changes)
+    (once : (number : ℕ) → KeysDiffer (filter (is_of_table number) changes)) (puts : (number : ℕ) → entries_at after number ≡ entries_put number changes (entries_at before number))
+    (name : RowName) where
+  abbrev own : List Change
+  own = filter (is_of_table name.table.0) changes
+
+  keyed : (some : List Change) → AreKeyed entry_key changed_key (λ change. Some (entry_of change)) some
+  keyed [] = tt
+  keyed (change ∷ some) = (refl, keyed some)
+
+  -- an entry of the name is that of its change, or was there
+  looked : found entry_key key_cmp name.key (entries_at after name.table.0)
+      ≡ option_map_or (λ change. Some (entry_of change)) (find (is_of key_cmp changed_key name.key) own) (found entry_key key_cmp name.key (entries_at before name.table.0))
+  looked =
+      ap (found entry_key key_cmp name.key) (puts name.table.0)
+      ∙ found_with_changes entry_key key_order changed_key (λ change. Some (entry_of change)) name.key own (entries_at before name.table.0) (keyed own) (once name.table.0)
+
+  -- a change of a row that differs is of a row that is written
+  written : (change : Change) → find (is_of key_cmp changed_key name.key) own ≡ Some change → (b : Bool) → is_written items name ≡ b → is_written items name ≡ true
+  written change is true meets = meets
+  written change is false none =
+      let each_own = each_passing (IsOfOther seen left) (is_of_table name.table.0) changes others in
+      let has = found_has (is_of key_cmp changed_key name.key) (λ change. IsOfOther seen left change × (is_of_table name.table.0 change ≡ true)) own each_own change is in
+      let tied : is_equal (key_cmp change.name.key name.key) ≡ true = sym (equal_is (key_cmp change.name.key name.key)) ∙ has.0 in
+      let one : change.name ≡ name = one_name change.name name (and_from (change.name.table.0 == name.table.0) (is_equal (key_cmp change.name.key name.key)) has.1.1 tied) in
+      let agree : row_of seen name ≡ row_of left name = still (item name.table (Some name.key) false) none in
+      let differ : is_same_state (row_of seen name) (row_of left name) ≡ false = subst (λ name. is_same_state (row_of seen name) (row_of left name) ≡ false) one has.1.0 in
+      let never : true ≡ false = sym (same_state (row_of left name)) ∙ (ap (λ row. is_same_state row (row_of left name)) (sym agree) ∙ differ) in
+      absurd (cc)
+
+  by : (change : Option Change) → find (is_of key_cmp changed_key name.key) own ≡ change
+      → is_some (option_map_or (λ change. Some (entry_of change)) change (found entry_key key_cmp name.key (entries_at before name.table.0))) ≡ true
+      → (is_entered before name ≡ true) ⊎ (is_written items name ≡ true)
+  by None none entered = inl entered
+  by (Some change) is entered = inr (written change is (is_written items name) refl)
+
+  -- so no further row is entered but one that is written
+  pub within_put : is_entered after name ≡ true → (is_entered before name ≡ true) ⊎ (is_written items name ≡ true)
+  within_put entered = by (find (is_of key_cmp changed_key name.key) own) refl (ap is_some (sym looked) ∙ entered)
+
+-- A statement in a transaction
+module _ (creates : List CreateText) (schema : Schema) (rows : List (List Row)) (space : List (List Entry)) (store : IsStore schema rows) (sound : IsSpaceOf schema.tables space)
+    (are : AreRowsOf schema.tables (changed_rows schema.tables rows space)) where
+  abbrev db : Db
+  db = db_of creates schema rows
+
+  abbrev seen : Db
+  seen = db_of creates schema (changed_rows schema.tables rows space)
+
+  place : AreInPlace seen
+  place = record { ordered = record { rising = changed_rising schema rows space store sound }; rows = are }
+
+  -- that shows rows
+  pub has_read : (query : BoundSelect) (reply : Reply) → reply ≡ reply_of (query_rows schema (changed_rows schema.tables rows space) query) → HasRun db (Select query) space reply space
+  unfolding run_bound
+  has_read query reply is = record { told = sym is; rows = refl; sound = sound; within = λ name entered. inl entered; reads = λ select. refl }
+
+  -- that is refused as it runs
+  pub has_refused : (bound : Bound) (why : Refusal) → IsWrite schema bound → (run_bound seen bound).reply ≡ Refused why → HasRun db bound space (Refused why) space
+  has_refused bound why write told = record {
+    told = told;
+    rows = ap (λ (db : Db). db.rows) (sym (refused-bound seen bound why told));
+    sound = sound;
+    within = λ name entered. inl entered;
+    reads = λ select. refl;
+  }
+
+  no_select : (bound : Bound) → IsWrite schema bound → IsSelect bound → ⊥
+  no_select (Select query) write select = write
+  no_select bound write select = select
+
+  row_write : (bound : Bound) → IsWrite schema bound → IsRowStatement schema bound
+  row_write (Select query) write = absurd write
+  row_write (Insert table tuples) write = write
+  row_write (Update table sets cond) write = write
+  row_write (Delete table cond) write = write
+  row_write (Get subject) write = absurd write
+  row_write (Forget subject) write = absurd write
+  row_write Explain write = absurd write
+
+  -- that writes
+  pub has_written : (bound : Bound) (reply : Reply) (changes : List Change) (after : List (List Entry)) → IsWrite schema bound → NetTo seen (run_bound seen bound) reply changes
+      → IsSpaceOf schema.tables after
+      → ((rows : List (List Row)) → IsBase schema.tables rows → changed_rows schema.tables rows after ≡ put_rows schema.tables changes (changed_rows schema.tables rows space))
+      → ((number : ℕ) → entries_at after number ≡ entries_put number changes (entries_at space number))
+      → HasRun db bound space reply after
+  has_written bound reply changes after write net sound_after put puts =
+      let others : Each (IsOfOther seen (run_bound seen bound).db) changes =
+      subst (Each (IsOfOther seen (run_bound seen bound).db)) (sym net.leads.is_net) (net_others seen (run_bound seen bound).db net.schema) in
+      record {
+        told = net.told;
+        rows = put rows (small schema rows space store sound) ∙ net.leads.made;
+        sound = sound_after;
+        within = λ name.
+            within_put seen (run_bound seen bound).db (footprint_of schema bound) space after changes
+            (still-run_bound seen place bound (row_footprinted schema bound (row_write bound write))) others net.leads.once puts name;
+        reads = λ select. absurd (no_select bound write select);
+      }

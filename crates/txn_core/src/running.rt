@@ -1,0 +1,119 @@
+ghost use Rattle.std.specs.Prelude.{◌≡◌, ◌≢◌, List as Seq, IfErr, IfOk, OnErr};
+ghost use Rattle.own_model.specs.declared.refusal.Refusal.TheVariants.{Memory};
+ghost use Rattle.own_model.specs.declared.reply.Reply.TheVariants.{Refused};
+ghost use Rattle.own_model.specs.declared.schema.CreateText.{CreateText};
+ghost use Rattle.query_model.specs.Query.{query_rows, reply_of};
+ghost use Rattle.readable_model.specs.Sources.{IsThere};
+ghost use Rattle.state_model.specs.Rows.{AreRowsOf};
+ghost use Rattle.run_model.specs.Run.{run_bound};
+ghost use Rattle.txn_space.specs.Changed.{changed_rows};
+ghost use Rattle.txn_space.specs.Sound.{IsSpaceOf};
+ghost use Rattle.write_eval.specs.Write.{IsWrite};
+ghost use Rattle.write_eval.specs.Writes.{db_of};
+ghost use Rattle.txn_core.specs.Runs.{HasRun, IsRowStatement, IsStore};
+ghost use Rattle.txn_core.specs.Single.{NetTo};
+
+use crate::reading::select_reply;
+use crate::single_write::single;
+use own_base::{Change, List};
+use own_model::{Bound, BoundSelect, Refusal, Reply, StoreView};
+use std::alloc::{AllocError, Global};
+use std::mem::drop;
+use txn_space::Space;
+
+/// The reply to a bound SELECT over the rows as a transaction changed them.
+fn read_in<V: StoreView>(
+    alloc: Global,
+    space: &Space,
+    version: &V,
+    query: &BoundSelect,
+) -> Result<Reply, AllocError>
+    requires store { IsStore (V.schema_of version.now) (V.rows version.now) }
+    requires space { IsSpaceOf (V.schema_of version.now).tables space.now }
+    requires rows { AreRowsOf (V.schema_of version.now).tables (changed_rows (V.schema_of version.now).tables (V.rows version.now) space.now) }
+    requires there { IsThere (V.schema_of version.now) query.now }
+    ensures { IfOk result (λ reply. reply ≡ reply_of (query_rows (V.schema_of version.now) (changed_rows (V.schema_of version.now).tables (V.rows version.now) space.now) query.now)) }
+{
+    let over = space.over(version);
+    select_reply(alloc, &over, query)
+}
+
+/// The reply to a bound write over the rows as a transaction changed them, and the net of it; or why it is refused as it runs.
+fn net_over<V: StoreView>(
+    alloc: Global,
+    space: &Space,
+    version: &V,
+    bound: &Bound,
+) -> Result<(Reply, List<Change>), Refusal>
+    requires store { IsStore (V.schema_of version.now) (V.rows version.now) }
+    requires space { IsSpaceOf (V.schema_of version.now).tables space.now }
+    requires rows { AreRowsOf (V.schema_of version.now).tables (changed_rows (V.schema_of version.now).tables (V.rows version.now) space.now) }
+    requires write { IsWrite (V.schema_of version.now) bound.now }
+    ensures ok { IfOk result (λ written. (creates : Seq CreateText)
+        → NetTo (db_of creates (V.schema_of version.now) (changed_rows (V.schema_of version.now).tables (V.rows version.now) space.now)) (run_bound (db_of creates (V.schema_of version.now) (changed_rows (V.schema_of version.now).tables (V.rows version.now) space.now)) bound.now) written.0 written.1) }
+    ensures err { IfErr result (λ why. why ≢ Memory → (creates : Seq CreateText)
+        → (run_bound (db_of creates (V.schema_of version.now) (changed_rows (V.schema_of version.now).tables (V.rows version.now) space.now)) bound.now).reply ≡ Refused why) }
+{
+    let over = space.over(version);
+    single(alloc, &over, bound)
+}
+
+/// The reply to a write that is refused, unless that is for want of memory.
+fn refused(why: Refusal) -> Result<Reply, AllocError>
+    ensures { IfOk result (λ reply. (reply ≡ Refused why) × (why ≢ Memory)) }
+{
+    match why {
+        Refusal::Memory => Err(AllocError),
+        why => Ok(Reply::Refused(why)),
+    }
+}
+
+/// Runs a bound write over the rows as a transaction changed them. What it changes goes into the transaction's changes: all of
+/// it, or nothing where it is refused.
+fn write_in<V: StoreView>(
+    alloc: Global,
+    space: &mut Space,
+    version: &V,
+    bound: &Bound,
+) -> Result<Reply, AllocError>
+    requires store { IsStore (V.schema_of version.now) (V.rows version.now) }
+    requires space { IsSpaceOf (V.schema_of version.now).tables space.old }
+    requires rows { AreRowsOf (V.schema_of version.now).tables (changed_rows (V.schema_of version.now).tables (V.rows version.now) space.old) }
+    requires write { IsWrite (V.schema_of version.now) bound.now }
+    ensures ran { IfOk result (λ reply. (creates : Seq CreateText) → HasRun (db_of creates (V.schema_of version.now) (V.rows version.now)) bound.now space.old reply space.new) }
+    ensures unchanged { OnErr result (space.new ≡ space.old) }
+{
+    match net_over(alloc, space, version, bound) {
+        Ok((reply, changes)) => {
+            let put = space.put(alloc, version, changes.items());
+            drop(changes);
+            put?;
+            Ok(reply)
+        }
+        Err(why) => refused(why),
+    }
+}
+
+/// Runs a bound SELECT, INSERT, UPDATE or DELETE in a transaction: over the rows of a version with what the transaction
+/// changed, to which a write adds. The version is only read.
+pub fn run_in<V: StoreView>(
+    alloc: Global,
+    space: &mut Space,
+    version: &V,
+    bound: &Bound,
+) -> Result<Reply, AllocError>
+    requires store { IsStore (V.schema_of version.now) (V.rows version.now) }
+    requires space { IsSpaceOf (V.schema_of version.now).tables space.old }
+    requires rows { AreRowsOf (V.schema_of version.now).tables (changed_rows (V.schema_of version.now).tables (V.rows version.now) space.old) }
+    requires bound { IsRowStatement (V.schema_of version.now) bound.now }
+    ensures ran { IfOk result (λ reply. (creates : Seq CreateText) → HasRun (db_of creates (V.schema_of version.now) (V.rows version.now)) bound.now space.old reply space.new) }
+    ensures unchanged { OnErr result (space.new ≡ space.old) }
+{
+    match bound {
+        Bound::Select(query) => read_in(alloc, space, version, query),
+        Bound::Insert { .. } | Bound::Update { .. } | Bound::Delete { .. } => {
+            write_in(alloc, space, version, bound)
+        }
+        Bound::Get(_) | Bound::Forget(_) | Bound::Explain => unreachable!(),
+    }
+}

@@ -1,0 +1,83 @@
+ghost use Rattle.std.specs.Prelude.{◌≡◌, List as Seq, [], false, true, IfOk, OnErr};
+ghost use Rattle.own_model.specs.declared.schema.CreateText.{CreateText};
+ghost use Rattle.state_model.specs.Rows.{AreRowsOf};
+ghost use Rattle.txn_space.specs.Changed.{changed_rows};
+ghost use Rattle.txn_space.specs.Sound.{IsBase, IsSpaceOf};
+ghost use Rattle.state_model.specs.Net.{net};
+ghost use Rattle.txn_space.specs.EntryNet.{database};
+ghost use Rattle.write_eval.specs.Writes.{db_of};
+ghost use Rattle.txn_core.specs.Kept.{IsQuiet, is_select};
+ghost use Rattle.txn_core.specs.Runs.{HasRun, IsRowStatement, IsStore};
+ghost use Rattle.txn_core.specs.Single.{IsNetTo};
+
+use crate::running::run_in;
+use own_base::{Change, List};
+use own_model::{Bound, Reply, StoreView};
+use std::alloc::{AllocError, Global};
+use txn_space::Space;
+
+/// Whether a bound statement is a SELECT. Takes no memory.
+fn is_select(bound: &Bound) -> bool
+    ensures { result ≡ is_select bound.now }
+{
+    matches!(bound, Bound::Select(_))
+}
+
+/// An open transaction: what it changed, and whether it has run a write.
+#[derive(Drop)]
+pub struct Txn {
+    pub space: Space,
+    pub wrote: bool,
+}
+
+impl Txn {
+    /// One that has run no statement. Takes no memory.
+    pub fn new(alloc: Global) -> Txn
+        ensures nothing { result.space ≡ [] }
+        ensures quiet { result.wrote ≡ false }
+    {
+        Txn {
+            space: Space::new(alloc),
+            wrote: false,
+        }
+    }
+
+    /// Runs a bound SELECT, INSERT, UPDATE or DELETE over a version with what the transaction changed.
+    pub fn run<V: StoreView>(
+        &mut self,
+        alloc: Global,
+        version: &V,
+        bound: &Bound,
+    ) -> Result<Reply, AllocError>
+        requires store { IsStore (V.schema_of version.now) (V.rows version.now) }
+        requires space { IsSpaceOf (V.schema_of version.now).tables self.old.space }
+        requires rows { AreRowsOf (V.schema_of version.now).tables (changed_rows (V.schema_of version.now).tables (V.rows version.now) self.old.space) }
+        requires bound { IsRowStatement (V.schema_of version.now) bound.now }
+        requires quiet { IsQuiet self.old }
+        ensures ran { IfOk result (λ reply. (creates : Seq CreateText) → HasRun (db_of creates (V.schema_of version.now) (V.rows version.now)) bound.now self.old.space reply self.new.space) }
+        ensures quiet { IsQuiet self.new }
+        ensures unchanged { OnErr result (self.new.space ≡ self.old.space) }
+    {
+        self.wrote = self.wrote | !is_select(bound);
+        run_in(alloc, &mut self.space, version, bound)
+    }
+
+    /// What the transaction changes in a version: the net. Where it has run no write that takes no memory.
+    pub fn changes<V: StoreView>(
+        &self,
+        alloc: Global,
+        version: &V,
+    ) -> Result<List<Change>, AllocError>
+        requires base { IsBase (V.schema_of version.now).tables (V.rows version.now) }
+        requires space { IsSpaceOf (V.schema_of version.now).tables self.now.space }
+        requires quiet { IsQuiet self.now }
+        ensures net { IfOk result (IsNetTo (database (V.schema_of version.now) (V.rows version.now)) (database (V.schema_of version.now) (changed_rows (V.schema_of version.now).tables (V.rows version.now) self.now.space))) }
+        ensures spared { self.now.wrote ≡ false → IfOk result (λ changes. changes ≡ []) }
+        ensures given { OnErr result (self.now.wrote ≡ true) }
+    {
+        if !self.wrote {
+            return Ok(List::new(alloc));
+        }
+        self.space.changes(alloc, version)
+    }
+}
