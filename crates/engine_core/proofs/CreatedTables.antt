@@ -1,5 +1,5 @@
 -- What a CREATE that is admitted does to a database.
-use Rattle.std.proofs.Common.{◌≡◌, ℕ, ◌+◌, ◌<◌, List, [], ◌∷◌, ◌++◌, length, Bool, false, refl, arith}
+use Rattle.std.proofs.Common.{◌≡◌, ℕ, ◌+◌, ◌<◌, List, [], ◌∷◌, ◌++◌, length, Bool, true, false, refl, subst, sym, ◌∙◌, arith}
 use Rattle.std.specs.Prelude.{Ok, Err, None, Some, Option, nat_lt, if◌then◌else◌}
 use Rattle.std.proofs.lemmas.Bool.{ltb-false}
 use Rattle.annot_schema.specs.declared.admitted.Admitted.{Admitted}
@@ -11,6 +11,7 @@ use Rattle.own_model.specs.declared.limit.TheConstants.{VIEWS}
 use Rattle.own_model.specs.declared.refusal.Refusal.{Refusal}
 use Rattle.own_model.specs.declared.reply.Reply.{Reply}
 use Rattle.own_model.specs.declared.reply.Reply.TheVariants.{Done, Refused}
+use Rattle.own_model.specs.declared.request.Request.TheVariants.{Run}
 use Rattle.own_model.specs.declared.schema.Schema.{Schema}
 use Rattle.own_model.specs.declared.schema.ViewDef.{ViewDef}
 use Rattle.own_model.specs.declared.statement.Statement.TheVariants.{CreateTable, CreateView}
@@ -23,9 +24,13 @@ use Rattle.schema_model.specs.Refusal.{refusal_of}
 use Rattle.schema_model.specs.WithTable.{with_table}
 use Rattle.store_version.specs.Added.{db_viewed, db_with}
 use Rattle.text_model.specs.Canonical.{canonical}
+use Rattle.grammar_model.specs.Readable.{IsReadable}
 use Rattle.state_model.specs.Create.{create, create_view, with_view}
-use Rattle.run_model.specs.Run.{Outcome, add_view, answered, create_table}
-use Rattle.history_model.specs.Reply.{create_reply}
+use Rattle.state_model.specs.Fault.{fault}
+use Rattle.state_model.specs.Sound.{IsKept}
+use Rattle.run_model.specs.Run.{Outcome, add_view, answered, create_table, run}
+use Rattle.run_model.proofs.KeptRuns.{kept-run}
+use Rattle.history_model.specs.Reply.{committing, create_reply}
 use Rattle.engine_core.specs.Answered.{Tells}
 use Rattle.engine_core.specs.declared.answer.Answer.{Answer}
 
@@ -86,3 +91,24 @@ view-room schema view definition is =
     let past = many _ (nat_lt VIEWS (length schema.views + 1)) _ none in
     let most = ltb-false VIEWS (length schema.views + 1) past in
     omega arith
+
+-- what a CREATE leads to, where nothing refuses it
+pub next-table : (db next : Db) (table : TableCreate) (admitted : Admitted) (text : List ℕ) → IsAdmitted db.schema (holds_rows db.rows) table admitted
+    → text ≡ canonical (CreateTable table) → next ≡ db_with db admitted text → create_table db table ≡ record { db = next; reply = Done }
+next-table db next table admitted text is text_is next_is = create-admitted db table admitted text is text_is ∙ outcome _ _ _ _ (sym next_is) refl
+
+pub next-view : (db next : Db) (view : ViewCreate) (definition : ViewDef) (text : List ℕ) → bound_view db.schema view ≡ Ok definition
+    → text ≡ canonical (CreateView view) → next ≡ db_viewed db definition text → add_view db view ≡ record { db = next; reply = Done }
+next-view db next view definition text is text_is next_is = view-bound db view definition text is text_is ∙ outcome _ _ _ _ (sym next_is) refl
+
+pub kept-table : (db next : Db) (table : TableCreate) → IsKept db → IsReadable (Run (CreateTable table)) → create_table db table ≡ record { db = next; reply = Done } → IsKept next
+unfolding run
+kept-table db next table kept readable is = subst (λ (o : Outcome). IsKept o.db) is (kept-run db kept (CreateTable table) readable)
+
+pub kept-view : (db next : Db) (view : ViewCreate) → IsKept db → IsReadable (Run (CreateView view)) → add_view db view ≡ record { db = next; reply = Done } → IsKept next
+unfolding run
+kept-view db next view kept readable is = subst (λ (o : Outcome). IsKept o.db) is (kept-run db kept (CreateView view) readable)
+
+pub tells-created : (db next : Db) (made : Outcome) (answer : Answer) → made ≡ record { db = next; reply = Done }
+    → ((any : Db) → Tells any (committing Took true (fault next) Done) next answer) → Tells db (create_reply Took made) made.db answer
+tells-created db next made answer is told = rw is (told db)

@@ -1,7 +1,7 @@
 -- What a GDPR FORGET is answered.
-use Rattle.std.proofs.Common.{◌≡◌, ◌∙◌, ℕ, zero, suc, ◌+◌, ◌<◌, ◌≤◌, ◌^◌, List, [], ◌∷◌, ◌++◌, Bool, true, false, not, ap, arith, filter, length, map, refl, subst, sym}
-use Rattle.std.specs.Prelude.{None, Some, ◌&&◌, IsTrue, count_by, is_some, nat_lt, slice_get, sum_by, if◌then◌else◌}
-use Rattle.std.specs.Option.{option_map_or}
+use Rattle.std.proofs.Common.{Bor, ◌≡◌, ◌∙◌, ℕ, zero, suc, ◌+◌, ◌<◌, ◌≤◌, ◌^◌, List, [], ◌∷◌, ◌++◌, Bool, true, false, not, ap, arith, filter, length, map, refl, subst, sym}
+use Rattle.std.specs.Prelude.{Option, None, Some, ◌&&◌, IsTrue, count_by, is_some, nat_lt, slice_get, sum_by, if◌then◌else◌}
+use Rattle.std.specs.Option.{option_copied, option_map_or}
 use Rattle.std.proofs.lemmas.Bool.{ltb-false}
 use Rattle.std.proofs.lemmas.List.{length-append, length-map}
 use Rattle.std.proofs.lemmas.List.Filters.{length-filter_both}
@@ -19,17 +19,22 @@ use Rattle.schema_model.specs.Tables.{is_subject}
 use Rattle.own_model.specs.Db.{Db, Row}
 use Rattle.readable_model.proofs.NoFaults.{none-first, none-if}
 use Rattle.state_model.specs.Fault.{fault}
+use Rattle.state_model.specs.Settle.{settled}
+use Rattle.state_model.specs.Sound.{Sound}
 use Rattle.state_model.specs.Weight.{row_count}
+use Rattle.state_model.proofs.ForgetSound.{sound-forget}
 use Rattle.state_model.proofs.Faultless.{faultless-from}
 use Rattle.subject_model.specs.Forget.{changed, forget, is_changed, removed}
 use Rattle.subject_model.specs.Named.{NamedRow, is_there, name_of, named_rows, rows_from, rows_in}
 use Rattle.subject_model.specs.Stays.{stays}
 use Rattle.subject_erase.specs.Plan.{IsPlan, leaves_row, plan_of}
 use Rattle.own_base.specs.declared.row_name.Subject.{Subject}
+use Rattle.owner_model.specs.Joins.{row_of}
+use Rattle.txn_space.specs.Put.{put_rows}
 use Rattle.own_model.specs.declared.bound.Bound.TheVariants.{Get}
 use Rattle.subject_model.specs.Get.{get}
 use Rattle.run_model.specs.Run.{answered, forget_subject, run_bound, show_subject}
-use Rattle.history_model.specs.Reply.{forget_reply, is_refusal}
+use Rattle.history_model.specs.Reply.{committing, forget_reply, is_refusal}
 use Rattle.engine_core.specs.declared.answer.Answer.{Answer}
 use Rattle.engine_core.specs.Answered.{Tells, bound_reply}
 use Rattle.engine_core.proofs.BoundStatements.{tells-refused}
@@ -120,3 +125,36 @@ pub tells-shown : (db : Db) (subject : Subject) (answer : Answer) → answer.rep
 unfolding run_bound
 tells-shown db subject answer told stays =
     record { told = told; leaves = rw stays (either (is_refusal (show_subject db subject.0).reply) db (show_subject db subject.0).db (shown-left db subject.0)) }
+
+-- what an erasure leaves is the next database, with which nothing is wrong
+pub erased-next : (db next : Db) (subject : RowName) → next ≡ record db { rows = (forget db subject).rows } → next ≡ forget db subject
+unfolding forget
+erased-next db next subject is = is
+
+pub erased-sound : (db next : Db) (subject : RowName) → IsTrue (is_subject db.schema subject.table.0) → Sound db → next ≡ forget db subject → Sound next
+erased-sound db next subject of sound is = subst Sound (sym is) (sound-forget db subject of sound)
+
+-- it is told with its counts, and nothing refuses it
+pub tells-forgotten : (db next : Db) (subject : RowName) (changes : List Change) (reply : Reply) (answer : Answer) → is_there db subject ≡ true → next ≡ forget db subject
+    → fault next ≡ None → IsPlan db subject (plan_of changes)
+    → reply ≡ Forgot (count_by (λ change. not (leaves_row change)) changes) (count_by leaves_row changes)
+    → Tells db (committing Took true (settled (fault next) None) reply) next answer
+    → Tells db (forget_reply Took (forget_subject db subject)) (forget_subject db subject).db answer
+unfolding forget_subject
+tells-forgotten db next subject changes reply answer there is none plan counted told =
+    let counts : reply ≡ Forgot (length (removed db subject)) (length (changed db subject)) =
+    counted ∙ (counts-planned changes ∙ (λ i. Forgot (length (plan.removed i)) ((sym (length-map (plan_of changes).changed (λ (change : Change). change.name)) ∙ ap length plan.changed) i))) in
+    let forgot = Forgot (length (removed db subject)) (length (changed db subject)) in
+    let as-counted = subst (λ (reply : Reply). Tells db (committing Took true (settled (fault next) None) reply) next answer) counts told in
+    rw there (rw (← is) (subst (λ (cause : Option Refusal). Tells db (committing Took true cause forgot) next answer) (ap (λ (first : Option Refusal). settled first None) none) as-counted))
+
+-- a row that is lent is there
+pub lent-there : (db : Db) (name : RowName) (row : Option (Bor Row)) → option_copied row ≡ row_of db name → is_some row ≡ true → is_there db name ≡ true
+lent-there db name None lent some = let never : false ≡ true = some in absurd (cc)
+lent-there db name (Some row) lent some = sym (ap is_some lent)
+
+-- the rows that the changes of an erasure make are those that it leaves
+pub planned-next : (db next : Db) (subject : RowName) (given changes : List Change) → next ≡ record db { rows = put_rows db.schema.tables given db.rows } → given ≡ changes
+    → put_rows db.schema.tables changes db.rows ≡ (forget db subject).rows → next ≡ forget db subject
+planned-next db next subject given changes is lent applied =
+    erased-next db next subject (is ∙ ap (λ rows. record db { rows = rows }) (ap (λ changes. put_rows db.schema.tables changes db.rows) lent ∙ applied))

@@ -14,6 +14,7 @@ use Rattle.state_model.specs.Net.{net}
 use Rattle.state_model.specs.Payload.{payload_bytes}
 use Rattle.state_model.specs.Settle.{settle, settled, too_big}
 use Rattle.state_model.specs.Weight.{weight}
+use Rattle.subject_model.specs.Named.{rows_from}
 use Rattle.engine_core.specs.Changed.{changed}
 
 -- rows that rise do whatever the creates
@@ -43,5 +44,5 @@ settled-none (Some why) = refl
 
 -- nothing weighs nothing
 pub weight-empty : weight empty ≡ 0
-unfolding weight
+unfolding weight rows_from
 weight-empty = refl

@@ -1,4 +1,11 @@
-use Rattle.std.proofs.Common.{◌≡◌, [], length, sym}
+use Rattle.std.proofs.Common.{◌≡◌, [], length, subst, sym}
+use Rattle.std.specs.Prelude.{Option}
+use Rattle.own_model.specs.declared.history.Verdict.TheVariants.{Took}
+use Rattle.own_model.specs.declared.refusal.Refusal.{Refusal}
+use Rattle.own_model.specs.Db.{Db}
+use Rattle.state_model.specs.Settle.{settle}
+use Rattle.history_model.specs.Reply.{changes, committing}
+use Rattle.engine_core.specs.Answered.{Tells}
 use Rattle.engine_core.specs.Changed.{changed}
 use Rattle.engine_core.proofs.Commits.{tells-refusal}
 use Rattle.engine_core.proofs.Nets.{none-of, tells-none}
@@ -12,3 +19,12 @@ pub returns-then-is_empty : goal.returns-then-is_empty
 returns-then-is_empty c =
     tells-none c.args.version.now c.requires.sound c.args.changes.now c.requires.net (none-of c.args.changes.now (sym c.if-is_empty.ensures)) c.args.reply c.told-then-is_empty.result
     c.told-then-is_empty.ensures.reply c.told-then-is_empty.ensures.stays
+
+-- what refuses the next version refuses the changes that lead to it
+pub returns-in-Ok : goal.returns-in-Ok
+returns-in-Ok c =
+    let db = c.args.version.now in
+    let next = c.in_ok-next.next in
+    let told = c.settled.ensures db (changes db next) in
+    let settled = subst (λ (cause : Option Refusal). Tells db (committing Took (changes db next) cause c.args.reply) next c.settled.result) c.cause_of-cause.ensures told in
+    subst (λ (next : Db). Tells db (committing Took (changes db next) (settle db next) c.args.reply) next c.settled.result) c.in_ok-next.ensures settled

@@ -1,4 +1,4 @@
-use Rattle.std.proofs.Common.{◌≡◌, ◌∙◌, ap, subst, sym}
+use Rattle.std.proofs.Common.{◌∙◌, ap, refl, sym}
 use Rattle.own_model.specs.declared.schema.Schema.{Schema}
 use Rattle.own_model.specs.Db.{Db}
 use Rattle.commit_check.specs.Judged.{IsJudged}
@@ -18,7 +18,7 @@ pub judge_unlinked-requires-clause-owner : goal.judge_unlinked-requires-clause-o
 judge_unlinked-requires-clause-owner c = owner_schema-created c.args.version.now c.requires.sound.kept.created
 
 pub judge_unlinked-requires-clause-ordered : goal.judge_unlinked-requires-clause-ordered
-judge_unlinked-requires-clause-ordered c = bare-ordered c.args.version.now c.args.version.now.schema _ c.requires.sound.kept.ordered.rising
+judge_unlinked-requires-clause-ordered c = bare-ordered c.args.version.now c.args.version.now.schema refl c.requires.sound.kept.ordered.rising
 
 pub judge_unlinked-requires-clause-ordered_after : goal.judge_unlinked-requires-clause-ordered_after
 judge_unlinked-requires-clause-ordered_after c =
@@ -38,3 +38,6 @@ judge_unlinked-requires-clause-applied c = sym (ap (λ (db : Db). db.rows) c.req
 
 pub judge_unlinked-requires-clause-once : goal.judge_unlinked-requires-clause-once
 judge_unlinked-requires-clause-once c = c.requires.net.once
+
+pub returns-then-are_unlinked : goal.returns-then-are_unlinked
+returns-then-are_unlinked c = judged-same c.args.next.now c.judge_unlinked.result c.judge_unlinked.ensures

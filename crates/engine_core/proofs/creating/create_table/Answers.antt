@@ -1,6 +1,7 @@
 use Rattle.std.proofs.Common.{◌≡◌, ap, subst, ◌∙◌}
 use Rattle.std.specs.Prelude.{Some}
 use Rattle.std.proofs.lemmas.Result.{IfOk-weaker}
+use Rattle.annot_schema.specs.Created.{IsAdmitted}
 use Rattle.annot_schema.specs.Fault.{refusal_seen}
 use Rattle.grammar_model.specs.Readable.{IsWritten}
 use Rattle.own_model.specs.declared.limit.TheConstants.{STATEMENT_BYTES}
@@ -8,7 +9,9 @@ use Rattle.own_model.specs.declared.reply.Reply.TheVariants.{Refused}
 use Rattle.own_model.specs.declared.schema.Schema.{Schema}
 use Rattle.own_model.specs.Stored.{holds_rows}
 use Rattle.schema_model.specs.Refusal.{refusal_of}
-use Rattle.engine_core.proofs.CreatedTables.{tells-uncreated}
+use Rattle.text_model.specs.Canonical.{canonical}
+use Rattle.run_model.specs.Run.{create_table}
+use Rattle.engine_core.proofs.CreatedTables.{kept-table, next-table, tells-created, tells-uncreated}
 use Rattle.engine_core.proofs.FewColumns.{columns-few}
 use Rattle.engine_core.proofs.creating.create_table.Goals as goal
 
@@ -24,3 +27,24 @@ returns-in-Err c =
     let is = subst (λ (schema : Schema). refusal_of schema (holds_rows db.rows) create ≡ Some (refusal_seen c.in-Err.fault)) c.catalog.ensures.schema cause in
     tells-uncreated db create (refusal_seen c.in-Err.fault) answer is (told.0 ∙ ap (λ why. Refused why) c.into_refusal.ensures) told.1.0)
     c.refused.ensures
+
+-- the table that is admitted is what the next version has more
+pub checked-requires : goal.checked-requires
+checked-requires c =
+    let db = c.args.version.now in
+    let create = c.args.create.now in
+    let text = c.in-Ok-print_statement.ensures ∙ ap canonical c.requires.of in
+    let admitted = subst (λ (schema : Schema). IsAdmitted schema (holds_rows db.rows) create c.in-Ok.admitted) c.catalog.ensures.schema c.in-Ok.ensures.admitted in
+    let next = c.in_ok-prepare_table-in-Ok-print_statement.field-0 in
+    let made = next-table db next create c.in-Ok.admitted c.in-Ok-print_statement.text admitted text c.in_ok-prepare_table-in-Ok-print_statement.ensures in
+    kept-table db next create c.requires.kept (subst (IsWritten STATEMENT_BYTES) c.requires.of c.requires.written) made
+
+pub returns-in_ok-prepare_table-in-Ok-print_statement : goal.returns-in_ok-prepare_table-in-Ok-print_statement
+returns-in_ok-prepare_table-in-Ok-print_statement c =
+    let db = c.args.version.now in
+    let create = c.args.create.now in
+    let text = c.in-Ok-print_statement.ensures ∙ ap canonical c.requires.of in
+    let admitted = subst (λ (schema : Schema). IsAdmitted schema (holds_rows db.rows) create c.in-Ok.admitted) c.catalog.ensures.schema c.in-Ok.ensures.admitted in
+    let next = c.in_ok-prepare_table-in-Ok-print_statement.field-0 in
+    let made = next-table db next create c.in-Ok.admitted c.in-Ok-print_statement.text admitted text c.in_ok-prepare_table-in-Ok-print_statement.ensures in
+    IfOk-weaker c.checked.result _ _ (λ answer told. tells-created db next (create_table db create) answer made told) c.checked.ensures

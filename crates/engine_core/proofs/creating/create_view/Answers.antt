@@ -1,10 +1,12 @@
-use Rattle.std.proofs.Common.{subst}
+use Rattle.std.proofs.Common.{ap, subst, ◌∙◌}
 use Rattle.std.proofs.lemmas.Result.{IfOk-weaker}
 use Rattle.grammar_model.specs.Readable.{IsWritten}
 use Rattle.own_model.specs.declared.limit.TheConstants.{STATEMENT_BYTES}
 use Rattle.readable_model.proofs.Within.{view_within}
+use Rattle.text_model.specs.Canonical.{canonical}
+use Rattle.run_model.specs.Run.{add_view}
 use Rattle.state_model.proofs.CreatedSchema.{views_within-created}
-use Rattle.engine_core.proofs.CreatedTables.{tells-unviewed, view-room}
+use Rattle.engine_core.proofs.CreatedTables.{kept-view, next-view, tells-created, tells-unviewed, view-room}
 use Rattle.engine_core.proofs.creating.create_view.Goals as goal
 
 pub bind_view-requires-clause-views : goal.bind_view-requires-clause-views
@@ -21,3 +23,24 @@ returns-in-Err c =
     IfOk-weaker c.refused.result _ _ (λ answer is.
     tells-unviewed c.args.version.now c.args.create.now c.in-Err.why answer (rw (c.schema.ensures.same, c.catalog.ensures.schema) at (c.in-Err.ensures.err is.1.1)) is.0 is.1.0)
     c.refused.ensures
+
+-- the view that is bound is what the next version has more
+pub checked-requires : goal.checked-requires
+checked-requires c =
+    let db = c.args.version.now in
+    let create = c.args.create.now in
+    let text = c.in-Ok-print_statement.ensures ∙ ap canonical c.requires.of in
+    let is = rw (c.schema.ensures.same, c.catalog.ensures.schema) at c.in-Ok.ensures.ok in
+    let next = c.in_ok-prepare_view-in-Ok-print_statement.field-0 in
+    let made = next-view db next create c.in-Ok.definition c.in-Ok-print_statement.text is text c.in_ok-prepare_view-in-Ok-print_statement.ensures in
+    kept-view db next create c.requires.kept (subst (IsWritten STATEMENT_BYTES) c.requires.of c.requires.written) made
+
+pub returns-in_ok-prepare_view-in-Ok-print_statement : goal.returns-in_ok-prepare_view-in-Ok-print_statement
+returns-in_ok-prepare_view-in-Ok-print_statement c =
+    let db = c.args.version.now in
+    let create = c.args.create.now in
+    let text = c.in-Ok-print_statement.ensures ∙ ap canonical c.requires.of in
+    let is = rw (c.schema.ensures.same, c.catalog.ensures.schema) at c.in-Ok.ensures.ok in
+    let next = c.in_ok-prepare_view-in-Ok-print_statement.field-0 in
+    let made = next-view db next create c.in-Ok.definition c.in-Ok-print_statement.text is text c.in_ok-prepare_view-in-Ok-print_statement.ensures in
+    IfOk-weaker c.checked.result _ _ (λ answer told. tells-created db next (add_view db create) answer made told) c.checked.ensures

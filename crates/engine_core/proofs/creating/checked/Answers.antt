@@ -1,0 +1,14 @@
+use Rattle.std.proofs.Common.{Option, subst, true}
+use Rattle.own_model.specs.declared.history.Verdict.TheVariants.{Took}
+use Rattle.own_model.specs.declared.refusal.Refusal.{Refusal}
+use Rattle.own_model.specs.declared.reply.Reply.TheVariants.{Done}
+use Rattle.state_model.specs.Fault.{fault}
+use Rattle.history_model.specs.Reply.{committing}
+use Rattle.engine_core.specs.Answered.{Tells}
+use Rattle.engine_core.proofs.Judged.{settled-none}
+use Rattle.engine_core.proofs.creating.checked.Goals as goal
+
+-- nothing else refuses a CREATE
+pub returns-in-Ok : goal.returns-in-Ok
+returns-in-Ok c = λ db.
+    subst (λ (cause : Option Refusal). Tells db (committing Took true cause Done) c.args.next c.settled.result) (settled-none (fault c.args.next)) (c.settled.ensures db true)
