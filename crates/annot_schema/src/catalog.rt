@@ -155,12 +155,7 @@ impl Catalog {
         })
     }
     /// This catalog with a view at the end, and with the text of its create. There is room for one view more.
-    pub fn with_view(
-        &self,
-        alloc: Global,
-        view: ViewDef,
-        text: Text,
-    ) -> Result<Catalog, AllocError>
+    pub fn with_view(&self, alloc: Global, view: ViewDef, text: Text) -> Result<Catalog, AllocError>
         requires { length self.now.schema.views < VIEWS }
         ensures { IfOk result (λ catalog. catalog ≡ created_viewed self.now view text) }
     {

@@ -64,12 +64,7 @@ fn is_refusal(reply: &Reply) -> bool
 
 /// The answer to a call that leads to a next version: refused where that has a fault, and else where there is another cause;
 /// otherwise the next version is left.
-pub(crate) fn settled(
-    next: Next,
-    judged: Judged,
-    cause: Option<Refusal>,
-    reply: Reply,
-) -> Answer
+pub(crate) fn settled(next: Next, judged: Judged, cause: Option<Refusal>, reply: Reply) -> Answer
     requires judged { IsJudged next judged }
     requires accepted { spec_of.is_refusal reply ≡ false }
     ensures { (db : Db) (needed : Bool) → Tells db (committing Took needed (spec.settled (fault next) cause) reply) next result }

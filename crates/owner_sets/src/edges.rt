@@ -71,11 +71,7 @@ fn add_link(found: &mut Vec<Link>, link: Option<Link>) -> Result<(), AllocError>
 }
 
 /// All that an edge joins. Each row that holds its column is looked at once, and the row that it names is looked up.
-pub fn links<V: StoreView>(
-    alloc: Global,
-    view: &V,
-    edge: &Edge,
-) -> Result<Vec<Link>, AllocError>
+pub fn links<V: StoreView>(alloc: Global, view: &V, edge: &Edge) -> Result<Vec<Link>, AllocError>
     requires holder { edge.now.holder.0 < length (V.schema_of view.now).tables }
     requires named { (named_table edge.now).0 < length (V.schema_of view.now).tables }
     requires ordered { IsOrdered (db_of (V.schema_of view.now) (V.rows view.now)) }

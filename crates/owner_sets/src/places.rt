@@ -84,11 +84,7 @@ fn place_of<V: StoreView>(view: &V, table: TableNo, key: &Value) -> Option<u64>
 }
 
 /// The place of the row of a table that a value names, where it is a key and there is one. Takes no memory.
-pub fn place_named<V: StoreView>(
-    view: &V,
-    table: TableNo,
-    value: Option<&Value>,
-) -> Option<u64>
+pub fn place_named<V: StoreView>(view: &V, table: TableNo, value: Option<&Value>) -> Option<u64>
     requires there { table.0 < length (V.schema_of view.now).tables }
     requires ordered { IsOrdered (db_of (V.schema_of view.now) (V.rows view.now)) }
     ensures { result ≡ place_named (V.schema_of view.now) (V.rows view.now) table.0 (option_copied value.entry) }
