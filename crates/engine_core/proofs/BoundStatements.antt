@@ -1,6 +1,6 @@
 -- A statement as binding answers it.
-use Rattle.std.proofs.Common.{◌≡◌, ℕ, suc, ◌+◌, List, [], ◌∷◌, cond, Bool, true, false, refl, ap, arith, subst, sym, ◌∙◌}
-use Rattle.std.specs.Prelude.{Option, None, Some, Ok, Err, IsTrue, bytes_eq, find, slice_get, if◌then◌else◌}
+use Rattle.std.proofs.Common.{◌≡◌, ℕ, suc, ◌+◌, List, [], ◌∷◌, cond, Bool, true, false, not, refl, ap, arith, subst, sym, ◌∙◌}
+use Rattle.std.specs.Prelude.{◌&&◌, Option, None, Some, Ok, Err, IsTrue, bytes_eq, find, slice_get, if◌then◌else◌}
 use Rattle.std.specs.List.{enumerate_from}
 use Rattle.std.specs.Option.{option_map_or}
 use Rattle.own_model.specs.declared.bound.Bound.{Bound}
@@ -15,7 +15,11 @@ use Rattle.query_model.specs.SelectFaults.{no_table}
 use Rattle.query_model.specs.SelectMeaning.{table_number}
 use Rattle.query_model.specs.WriteFaults.{faults_in, gdpr_faults, subject_faults}
 use Rattle.readable_model.proofs.NoFaults.{none-first, none-if, none-last, none-lowest}
+use Rattle.own_model.specs.declared.footprint.FootItem.{FootItem}
+use Rattle.own_model.specs.declared.reply.Reply.{Reply}
 use Rattle.own_model.specs.declared.reply.Reply.TheVariants.{Refused}
+use Rattle.own_model.specs.declared.request.Request.{Request}
+use Rattle.own_model.specs.declared.request.Request.TheVariants.{Run}
 use Rattle.own_model.specs.declared.schema.Schema.{Schema}
 use Rattle.own_model.specs.declared.statement.Statement.{Statement}
 use Rattle.own_model.specs.declared.statement.Statement.TheVariants as statement
@@ -24,10 +28,13 @@ use Rattle.query_model.specs.BoundStatement.{bound_statement, bound_unless, faul
 use Rattle.query_model.specs.Refused.{lowest}
 use Rattle.readable_model.proofs.Sources.{source_is_there}
 use Rattle.run_model.specs.Run.{Outcome, answered, run, run_bound}
-use Rattle.history_model.specs.Reply.{forget_reply, write_reply}
-use Rattle.transcript_model.specs.PlainAnswer.{plain_reply}
+use Rattle.history_model.specs.History.{forgotten, lie_on}
+use Rattle.history_model.specs.Reply.{forget_reply, is_refusal, reply_outside}
+use Rattle.history_model.specs.World.{World}
+use Rattle.run_model.specs.Items.{TakesRows}
+use Rattle.txn_core.specs.Runs.{IsRowStatement}
 use Rattle.write_eval.proofs.BoundWrites.{bound_write}
-use Rattle.engine_core.specs.Answered.{Tells, bound_reply, left}
+use Rattle.engine_core.specs.Answered.{Erases, ErasesBound, Tells, bound_reply, erases, erases_bound}
 use Rattle.engine_core.specs.Asked.{IsBound, IsMeant}
 use Rattle.engine_core.specs.declared.answer.Answer.{Answer}
 
@@ -104,22 +111,20 @@ run-bound db found got bound is =
     let by = meant_by db.schema found got is in
     run-meant db found bound (is ∙ ap (λ meant. Ok meant) (sym by.1)) ∙ ap (run_bound db) by.1
 
-reply-meant : (db : Db) (found : Statement) → IsBound found → run db found ≡ run_bound db (meaning db.schema found)
-    → plain_reply db found ≡ bound_reply db (meaning db.schema found)
-unfolding plain_reply meaning
-reply-meant db (statement.Select select) bound runs = ap (λ outcome. outcome.reply) runs
-reply-meant db (statement.Insert name names tuples) bound runs = rw runs refl
-reply-meant db (statement.Update name sets cond) bound runs = rw runs refl
-reply-meant db (statement.Delete name cond) bound runs = rw runs refl
-reply-meant db (statement.GdprGet name key) bound runs = ap (λ outcome. outcome.reply) runs
-reply-meant db (statement.GdprForget name key) bound runs = rw runs refl
-reply-meant db _ bound runs = absurd bound
+-- one that takes rows is a select whose source is there, or a write
+row_there : (schema : Schema) (found : Statement) → TakesRows found → bound_statement schema found ≡ Ok (meaning schema found) → lowest (faults schema found) ≡ None
+    → IsRowStatement schema (meaning schema found)
+unfolding meaning faults
+row_there schema (statement.Select select) takes is told = source_is_there schema select told
+row_there schema (statement.Insert name names tuples) takes is told = bound_write schema (statement.Insert name names tuples) _ is tt
+row_there schema (statement.Update name sets cond) takes is told = bound_write schema (statement.Update name sets cond) _ is tt
+row_there schema (statement.Delete name cond) takes is told = bound_write schema (statement.Delete name cond) _ is tt
+row_there schema _ takes is told = absurd takes
 
--- and is answered as that
-pub reply-bound : (db : Db) (found : Statement) (got : Bound) → IsBound found → bound_statement db.schema found ≡ Ok got → plain_reply db found ≡ bound_reply db got
-reply-bound db found got bound is =
-    let by = meant_by db.schema found got is in
-    reply-meant db found bound (run-bound db found (meaning db.schema found) bound (is ∙ ap (λ meant. Ok meant) (sym by.1))) ∙ ap (bound_reply db) by.1
+pub row-bound : (schema : Schema) (found : Statement) (got : Bound) → TakesRows found → bound_statement schema found ≡ Ok got → IsRowStatement schema got
+row-bound schema found got takes is =
+    let by = meant_by schema found got is in
+    subst (IsRowStatement schema) by.1 (row_there schema found takes (is ∙ ap (λ meant. Ok meant) (sym by.1)) by.0)
 
 run-refused : (db : Db) (found : Statement) (why : Refusal) → IsBound found → bound_statement db.schema found ≡ Err why → run db found ≡ answered db (Refused why)
 unfolding run
@@ -131,20 +136,75 @@ run-refused db (statement.GdprGet name key) why bound is = rw is refl
 run-refused db (statement.GdprForget name key) why bound is = rw is refl
 run-refused db _ why bound is = absurd bound
 
-reply-step : (db : Db) (found : Statement) (why : Refusal) → IsBound found → run db found ≡ answered db (Refused why) → plain_reply db found ≡ Refused why
-unfolding plain_reply
-reply-step db (statement.Select select) why bound runs = ap (λ outcome. outcome.reply) runs
-reply-step db (statement.Insert name names tuples) why bound runs = ap (λ (outcome : Outcome). write_reply Took db outcome) runs
-reply-step db (statement.Update name sets cond) why bound runs = ap (λ (outcome : Outcome). write_reply Took db outcome) runs
-reply-step db (statement.Delete name cond) why bound runs = ap (λ (outcome : Outcome). write_reply Took db outcome) runs
-reply-step db (statement.GdprGet name key) why bound runs = ap (λ outcome. outcome.reply) runs
-reply-step db (statement.GdprForget name key) why bound runs = ap (λ (outcome : Outcome). forget_reply Took outcome) runs
-reply-step db _ why bound runs = absurd bound
+-- Outside a transaction it is answered as what it means.
+module _ (world : World) (session : ℕ) where
+  reply-meant : (found : Statement) → IsBound found → bound_statement world.flat.schema found ≡ Ok (meaning world.flat.schema found)
+      → run world.flat found ≡ run_bound world.flat (meaning world.flat.schema found)
+      → reply_outside world session Took found ≡ bound_reply world world.flat session (meaning world.flat.schema found)
+  unfolding meaning
+  reply-meant (statement.Select select) bound is runs = ap (λ outcome. outcome.reply) runs
+  reply-meant (statement.Insert name names tuples) bound is runs = rw (is, runs) refl
+  reply-meant (statement.Update name sets cond) bound is runs = rw (is, runs) refl
+  reply-meant (statement.Delete name cond) bound is runs = rw (is, runs) refl
+  reply-meant (statement.GdprGet name key) bound is runs = ap (λ outcome. outcome.reply) runs
+  reply-meant (statement.GdprForget name key) bound is runs = rw runs refl
+  reply-meant _ bound is runs = absurd bound
 
--- a statement that binding refuses is told why
-pub reply-refused : (db : Db) (found : Statement) (why : Refusal) → IsBound found → bound_statement db.schema found ≡ Err why → plain_reply db found ≡ Refused why
-reply-refused db found why bound is = reply-step db found why bound (run-refused db found why bound is)
+  pub reply-bound : (found : Statement) (got : Bound) → IsBound found → bound_statement world.flat.schema found ≡ Ok got
+      → reply_outside world session Took found ≡ bound_reply world world.flat session got
+  reply-bound found got bound is =
+      let by = meant_by world.flat.schema found got is in
+      let meant = is ∙ ap (λ meant. Ok meant) (sym by.1) in
+      reply-meant found bound meant (run-bound world.flat found (meaning world.flat.schema found) bound meant) ∙ ap (bound_reply world world.flat session) by.1
+
+  reply-step : (found : Statement) (why : Refusal) → IsBound found → bound_statement world.flat.schema found ≡ Err why → run world.flat found ≡ answered world.flat (Refused why)
+      → reply_outside world session Took found ≡ Refused why
+  reply-step (statement.Select select) why bound is runs = ap (λ outcome. outcome.reply) runs
+  reply-step (statement.Insert name names tuples) why bound is runs = rw is refl
+  reply-step (statement.Update name sets cond) why bound is runs = rw is refl
+  reply-step (statement.Delete name cond) why bound is runs = rw is refl
+  reply-step (statement.GdprGet name key) why bound is runs = ap (λ outcome. outcome.reply) runs
+  reply-step (statement.GdprForget name key) why bound is runs = ap (λ (outcome : Outcome). forget_reply Took outcome) runs
+  reply-step _ why bound is runs = absurd bound
+
+  -- one that binding refuses is told why
+  pub reply-refused : (found : Statement) (why : Refusal) → IsBound found → bound_statement world.flat.schema found ≡ Err why → reply_outside world session Took found ≡ Refused why
+  reply-refused found why bound is = reply-step found why bound is (run-refused world.flat found why bound is)
 
 -- which leaves the database
 pub tells-refused : (db behind : Db) (why : Refusal) (answer : Answer) → answer.reply ≡ Refused why → answer.next ≡ None → Tells db (Refused why) behind answer
 tells-refused db behind why answer told stays = record { told = told; leaves = rw stays refl }
+
+-- What it erases is what its meaning does.
+and_false : (b : Bool) → (b && false) ≡ false
+and_false true = refl
+and_false false = refl
+
+erases-meant : (db : Db) (found : Statement) (reply : Reply) (items : List FootItem) → IsBound found
+    → erases db (Run found) reply items ≡ erases_bound db (meaning db.schema found) reply items
+unfolding meaning
+erases-meant db (statement.Select select) reply items bound = and_false (not (is_refusal reply))
+erases-meant db (statement.Insert name names tuples) reply items bound = and_false (not (is_refusal reply))
+erases-meant db (statement.Update name sets cond) reply items bound = and_false (not (is_refusal reply))
+erases-meant db (statement.Delete name cond) reply items bound = and_false (not (is_refusal reply))
+erases-meant db (statement.GdprGet name key) reply items bound = and_false (not (is_refusal reply))
+erases-meant db (statement.GdprForget name key) reply items bound = refl
+erases-meant db _ reply items bound = absurd bound
+
+pub erases-as_bound : (db : Db) (found : Statement) (got : Bound) (answer : Answer) → IsBound found → bound_statement db.schema found ≡ Ok got → ErasesBound db got answer
+    → Erases db (Run found) answer
+erases-as_bound db found got answer bound is erased =
+    let by = meant_by db.schema found got is in
+    λ items. erased items ∙ sym (erases-meant db found answer.reply items bound ∙ ap (λ meant. erases_bound db meant answer.reply items) by.1)
+
+-- a refusal erases nothing
+refused_step : (db : Db) (request : Request) (reply : Reply) (items : List FootItem) → is_refusal reply ≡ true → erases db request reply items ≡ false
+refused_step db request reply items refused = rw refused refl
+
+pub erases-refused : (db : Db) (request : Request) (why : Refusal) (answer : Answer) → answer.reply ≡ Refused why → answer.erased ≡ [] → Erases db request answer
+erases-refused db request why answer told none =
+    λ items. ap (λ names. lie_on names items) none ∙ sym (refused_step db request answer.reply items (ap is_refusal told))
+
+-- nor does a request that forgets nobody
+pub erases-nobody : (db : Db) (request : Request) (answer : Answer) → forgotten db.schema request ≡ None → answer.erased ≡ [] → Erases db request answer
+erases-nobody db request answer nobody none = λ items. ap (λ names. lie_on names items) none ∙ sym (rw nobody (and_false (not (is_refusal answer.reply))))

@@ -1,6 +1,6 @@
 -- What a commit is answered, and what it leaves.
-use Rattle.std.proofs.Common.{◌≡◌, ℕ, List, Bool, true, false, refl, ap, sym, subst, ◌∙◌}
-use Rattle.std.specs.Prelude.{Option, None, Some, if◌then◌else◌}
+use Rattle.std.proofs.Common.{◌≡◌, List, Bool, true, false, refl, sym, subst}
+use Rattle.std.specs.Prelude.{Option, None, Some}
 use Rattle.std.specs.Option.{is_some}
 use Rattle.own_base.specs.declared.change.Change.{Change}
 use Rattle.own_model.specs.declared.history.Verdict.TheVariants.{Took}
@@ -13,11 +13,11 @@ use Rattle.state_model.specs.Fault.{fault}
 use Rattle.state_model.specs.Net.{net}
 use Rattle.state_model.specs.Payload.{payload_bytes}
 use Rattle.state_model.specs.Rows.{AreRowsOf}
-use Rattle.state_model.specs.Settle.{settle, settled, too_big}
+use Rattle.state_model.specs.Settle.{settle, too_big}
 use Rattle.state_model.specs.Sound.{IsKept, Sound}
 use Rattle.state_model.proofs.CreatedSchema.{within-created}
 use Rattle.history_model.specs.Reply.{committing, is_refusal, on_disk}
-use Rattle.engine_core.specs.Answered.{Tells, left}
+use Rattle.engine_core.specs.Answered.{Tells}
 use Rattle.engine_core.specs.declared.answer.Answer.{Answer}
 
 taken : (needed : Bool) (reply : Reply) → on_disk Took needed reply ≡ reply

@@ -1,6 +1,6 @@
 -- What a GDPR FORGET is answered.
-use Rattle.std.proofs.Common.{Bor, ◌≡◌, ◌∙◌, ℕ, zero, suc, ◌+◌, ◌<◌, ◌≤◌, ◌^◌, List, [], ◌∷◌, ◌++◌, Bool, true, false, not, ap, arith, filter, length, map, refl, subst, sym}
-use Rattle.std.specs.Prelude.{Option, None, Some, ◌&&◌, IsTrue, count_by, is_some, nat_lt, slice_get, sum_by, if◌then◌else◌}
+use Rattle.std.proofs.Common.{Bor, ◌≡◌, ◌∙◌, ℕ, zero, suc, ◌+◌, ◌<◌, ◌≤◌, ◌^◌, List, [], ◌∷◌, Bool, true, false, not, ap, arith, filter, length, map, refl, subst, sym}
+use Rattle.std.specs.Prelude.{Option, None, Some, ◌&&◌, IsTrue, count_by, is_some, slice_get, sum_by, if◌then◌else◌}
 use Rattle.std.specs.Option.{option_copied, option_map_or}
 use Rattle.std.proofs.lemmas.Bool.{ltb-false}
 use Rattle.std.proofs.lemmas.List.{length-append, length-map}
@@ -35,6 +35,7 @@ use Rattle.own_model.specs.declared.bound.Bound.TheVariants.{Get}
 use Rattle.subject_model.specs.Get.{get}
 use Rattle.run_model.specs.Run.{answered, forget_subject, run_bound, show_subject}
 use Rattle.history_model.specs.Reply.{committing, forget_reply, is_refusal}
+use Rattle.history_model.specs.World.{World}
 use Rattle.engine_core.specs.declared.answer.Answer.{Answer}
 use Rattle.engine_core.specs.Answered.{Tells, bound_reply}
 use Rattle.engine_core.proofs.BoundStatements.{tells-refused}
@@ -120,10 +121,10 @@ either : (b : Bool) (db other : Db) → other ≡ db → db ≡ (if b then db el
 either true db other same = refl
 either false db other same = sym same
 
-pub tells-shown : (db : Db) (subject : Subject) (answer : Answer) → answer.reply ≡ (show_subject db subject.0).reply → answer.next ≡ None
-    → Tells db (bound_reply db (Get subject)) (run_bound db (Get subject)).db answer
+pub tells-shown : (world : World) (db : Db) (session : ℕ) (subject : Subject) (answer : Answer) → answer.reply ≡ (show_subject db subject.0).reply → answer.next ≡ None
+    → Tells db (bound_reply world db session (Get subject)) (run_bound db (Get subject)).db answer
 unfolding run_bound
-tells-shown db subject answer told stays =
+tells-shown world db session subject answer told stays =
     record { told = told; leaves = rw stays (either (is_refusal (show_subject db subject.0).reply) db (show_subject db subject.0).db (shown-left db subject.0)) }
 
 -- what an erasure leaves is the next database, with which nothing is wrong

@@ -1,9 +1,6 @@
 -- What is judged of a next version.
-use Rattle.std.proofs.Common.{◌≡◌, ◌∙◌, List, Bool, ap, false, refl, subst, sym}
+use Rattle.std.proofs.Common.{◌≡◌, ◌∙◌, List, ap, refl, subst, sym}
 use Rattle.std.specs.Prelude.{Option, None, Some}
-use Rattle.commit_check.specs.declared.judged.Judged.{Judged}
-use Rattle.commit_check.specs.declared.judged.Judged.TheVariants.{Fault, Weighs}
-use Rattle.commit_check.specs.Judged.{IsJudged}
 use Rattle.own_base.specs.declared.change.Change.{Change}
 use Rattle.own_model.specs.declared.refusal.Refusal.{Refusal}
 use Rattle.own_model.specs.declared.schema.Schema.{Schema}

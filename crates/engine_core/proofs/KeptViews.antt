@@ -1,31 +1,22 @@
 -- The views of a schema that creates give read tables that are there.
-use Rattle.std.proofs.Common.{◌≡◌, ℕ, ◌<◌, ◌≤◌, ◌+◌, List, [], ◌∷◌, ◌++◌, length, ap, sym, ◌∙◌, arith}
-use Rattle.std.specs.Prelude.{Some, slice_index_or}
+use Rattle.std.proofs.Common.{◌≤◌, List, [], ◌∷◌, length, arith}
 use Rattle.std.specs.List.{AllByRecursion}
 use Rattle.std.proofs.lemmas.List.{length-append}
-use Rattle.std.proofs.lemmas.Option.{slice_get-get_or}
 use Rattle.own_model.specs.declared.bound.Source1.{Source1}
 use Rattle.own_model.specs.declared.bound.Source1.TheVariants.{Pair, Table, View}
-use Rattle.own_model.specs.declared.create.CreateTable.{CreateTable}
-use Rattle.own_model.specs.declared.create.CreateView.{CreateView}
 use Rattle.own_model.specs.declared.schema.Schema.{Schema}
-use Rattle.own_model.specs.declared.schema.TableDef.{TableDef}
 use Rattle.own_model.specs.declared.schema.ViewDef.{ViewDef}
-use Rattle.own_model.specs.declared.select.Select.{Select}
 use Rattle.own_model.specs.Db.{Db}
 use Rattle.schema_model.specs.NewTable.{new_table}
 use Rattle.schema_model.specs.WithTable.{with_table}
-use Rattle.schema_model.proofs.Places.{all-append, all-at, all-weaker}
+use Rattle.schema_model.proofs.Places.{all-append, all-weaker}
 use Rattle.query_model.specs.BoundView.{new_view, view_faults}
-use Rattle.query_model.specs.Refused.{lowest}
-use Rattle.query_model.specs.SelectFaults.{no_table, select_faults}
-use Rattle.query_model.specs.SelectMeaning.{bound_select}
 use Rattle.query_eval.specs.Sources.{IsBaseOf}
-use Rattle.readable_model.proofs.NoFaults.{none-first, none-last, none-lowest}
+use Rattle.readable_model.proofs.NoFaults.{none-lowest}
 use Rattle.state_model.specs.Create.{with_view}
 use Rattle.state_model.specs.Created.{Create, IsAdmitted, IsCreated, IsReadableCreate, OfTable, OfView, with_create}
 use Rattle.state_model.proofs.CreatedLemmas.{kept-created}
-use Rattle.engine_core.specs.Views.{AreViewsThere, ReadsTables}
+use Rattle.txn_core.specs.Views.{AreViewsThere, ReadsTables}
 use Rattle.engine_core.proofs.TableSources.{base-by_tables}
 
 -- what was there is there among more tables
@@ -50,10 +41,3 @@ there-kept schema (OfView view) there readable admitted =
 
 pub views_there-created : (db : Db) → IsCreated db → AreViewsThere db.schema
 views_there-created = kept-created AreViewsThere there-kept tt
-
--- so the query of a view does
-pub view_there : (db : Db) (number : ℕ) (view : ViewDef) → IsCreated db → number < length db.schema.views → view ≡ slice_index_or db.schema.views number view
-    → IsBaseOf db.schema view.query.source
-view_there db number view created within is =
-    all-at (ReadsTables db.schema) db.schema.views (views_there-created db created) number view
-    (slice_get-get_or db.schema.views number view within ∙ ap (λ (view : ViewDef). Some view) (sym is))

@@ -8,12 +8,11 @@ use Rattle.own_model.specs.declared.reply.Reply.{Reply}
 use Rattle.own_model.specs.declared.schema.TableDef.{TableDef}
 use Rattle.own_model.specs.Db.{AreRising, Db, Row}
 use Rattle.page_model.specs.Changed.{with_changes}
-use Rattle.state_model.specs.Fault.{fault}
 use Rattle.state_model.specs.Net.{net}
 use Rattle.state_model.specs.Payload.{payload_bytes}
-use Rattle.state_model.specs.Settle.{settle, settled, too_big}
+use Rattle.state_model.specs.Settle.{settle}
 use Rattle.state_model.specs.Sound.{Sound}
-use Rattle.txn_space.specs.Put.{put_from, put_rows}
+use Rattle.txn_space.specs.Put.{put_from}
 use Rattle.history_model.specs.Reply.{changes, committing, is_refusal}
 use Rattle.engine_core.specs.Answered.{Tells, left}
 use Rattle.engine_core.specs.Changed.{IsNet, changed}

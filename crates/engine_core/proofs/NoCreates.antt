@@ -1,14 +1,13 @@
 -- How its tables were created has no part in what is wrong with a database.
-use Rattle.std.proofs.Common.{◌≡◌, ℕ, ◌+◌, ◌*◌, zero, suc, List, [], ◌∷◌, ◌++◌, length, map, not, refl, sym, ◌∙◌}
+use Rattle.std.proofs.Common.{◌≡◌, ℕ, ◌+◌, ◌*◌, zero, suc, [], ◌∷◌, ◌++◌, length, map, not, refl, sym, ◌∙◌}
 use Rattle.std.specs.Prelude.{◌&&◌, filter, flat_map, nat_lt, sum_by, if◌then◌else◌}
 use Rattle.std.specs.List.{list_any}
 use Rattle.own_base.specs.Row.{row_size}
 use Rattle.own_base.specs.declared.row_name.RowName.{RowName}
 use Rattle.own_model.specs.declared.limit.LimitName.TheVariants as limit
 use Rattle.own_model.specs.declared.limit.TheConstants.{STORE_ROWS, STORE_WEIGHT}
-use Rattle.own_model.specs.declared.refusal.Refusal.{Refusal}
 use Rattle.own_model.specs.declared.refusal.Refusal.TheVariants.{Limit, Owner}
-use Rattle.own_model.specs.Db.{Db, Row, key_of}
+use Rattle.own_model.specs.Db.{Db, key_of}
 use Rattle.commit_check.specs.declared.judged.Judged.{Judged}
 use Rattle.commit_check.specs.declared.judged.Judged.TheVariants.{Fault, Weighs}
 use Rattle.commit_check.specs.Judged.{IsJudged}
@@ -16,7 +15,7 @@ use Rattle.owner_sets.specs.Sets.{db_of}
 use Rattle.schema_model.specs.Tables.{is_private}
 use Rattle.subject_model.specs.Named.{name_of, named_rows}
 use Rattle.subject_model.specs.Owners.{is_owner_path, leads_to, owners, owns, reaches, subjects}
-use Rattle.subject_model.specs.Paths.{Path, climbs, is_subject_row, joins, paths, steps_of}
+use Rattle.subject_model.specs.Paths.{climbs, is_subject_row, joins, paths, steps_of}
 use Rattle.state_model.specs.Fault.{fault, first_of, over_rows, owner_faults, reference_faults, unique_faults}
 use Rattle.state_model.specs.Weight.{at_least_one, row_count, view_weight, weight}
 

@@ -1,63 +1,100 @@
--- The state of a history in which no session is ever in a transaction.
-use Rattle.std.proofs.Common.{◌≡◌, ℕ, ◌+◌, ◌≤◌, List, [], ◌∷◌, ◌++◌, length, take, refl, ap, subst, sym, ◌∙◌, arith}
-use Rattle.std.specs.Prelude.{Some}
-use Rattle.std.proofs.Math.Seq.{take-length}
+-- The state that an engine keeps, before any entry and with one more.
+use Rattle.std.proofs.Common.{◌≡◌, ◌∙◌, ◌+◌, ◌<◌, ◌≤◌, ℕ, [], ◌∷◌, ◌++◌, length, ap, refl, subst, sym}
+use Rattle.std.specs.Prelude.{Some, Result, Ok, Err, IfOk, OnErr}
+use Rattle.own_base.specs.declared.number.Place.{Place}
 use Rattle.own_model.specs.declared.history.Entry.{Entry}
-use Rattle.own_model.specs.declared.limit.TheConstants.{SESSIONS}
 use Rattle.own_model.specs.declared.reply.Reply.{Reply}
 use Rattle.own_model.specs.declared.request.Request.{Request}
 use Rattle.own_model.specs.declared.request.Request.TheVariants.{Run, Syntax, Limit, End}
-use Rattle.own_model.specs.Db.{Db, empty}
-use Rattle.grammar_model.specs.Readable.{IsReadable}
-use Rattle.state_model.specs.Sound.{Sound}
+use Rattle.own_model.specs.Db.{empty}
+use Rattle.schema_model.proofs.Places.{all-append}
+use Rattle.state_model.specs.Weight.{weight}
 use Rattle.history_model.specs.Built.{built}
-use Rattle.history_model.specs.History.{History, flat, reply, world}
-use Rattle.transcript_model.specs.PlainAnswer.{plain_answer, plain_left}
-use Rattle.transcript_model.specs.PlainHistory.{IsPlain}
-use Rattle.transcript_model.proofs.BuiltStatements.{is_built-of}
-use Rattle.transcript_model.proofs.PlainHistories.{plain-none, serial-plain}
-use Rattle.transcript_model.proofs.PlainWorlds.{plain-append}
+use Rattle.history_model.specs.Held.{held}
+use Rattle.history_model.specs.History.{History, flat, happens, reply, standing, world}
+use Rattle.history_model.specs.MayBeUnmade.{MayBeUnmadeFrom}
+use Rattle.history_model.specs.Reply.{answer}
+use Rattle.history_model.specs.Serial.{IsEntry, IsHistory}
+use Rattle.history_model.specs.World.{Outside}
+use Rattle.history_model.proofs.BuiltRequests.{is_built-of}
+use Rattle.history_model.proofs.HistoryLemmas.{reply-last, world-append, world-empty}
+use Rattle.row_locks.specs.Kept.{kept_by as held_by}
+use Rattle.row_locks.specs.Stands.{StandFor}
+use Rattle.row_locks.proofs.Holders.{stand-same}
+use Rattle.txn_core.specs.declared.kept.Kept.TheVariants as kept
+use Rattle.txn_core.specs.Kept.{StandsAs, kept_by}
 use Rattle.engine_core.specs.Asked.{IsBuiltRequest}
-use Rattle.engine_core.specs.Seen.{Makes, Seen, StandsFor}
+use Rattle.engine_core.specs.Made.{IsMade}
+use Rattle.engine_core.specs.Seen.{LeavesUnmade, Makes, Seen}
+use Rattle.engine_core.specs.Standing.{StandsIn}
+use Rattle.engine_core.specs.declared.state.State.{State}
 
 -- before any entry
-flat-none : flat empty [] ≡ empty
-unfolding flat world
-flat-none = refl
+pub stands-none : (state : State) → state.version ≡ empty → weight state.version ≡ state.weighs → ((session : ℕ) → kept_by state.txns.kept session ≡ kept.Nothing)
+    → ((session : ℕ) → held_by state.txns.held session ≡ []) → StandsIn state (world empty [])
+unfolding held
+stands-none state version weighs nothing free =
+    subst (StandsIn state) (sym (world-empty empty)) (record {
+      flat = version;
+      weighs = weighs;
+      up = refl;
+      kept = λ session. subst (λ one. StandsAs empty one Outside) (sym (nothing session)) tt;
+      held = λ session. subst (λ items. StandFor items []) (sym (free session)) (stand-same []);
+    })
 
-pub stands-none : StandsFor empty []
-stands-none = record { plain = plain-none; flat = sym flat-none }
-
--- with an entry more, and what it leaves
-pub stands-more : (left : Db) (history : History) (entry : Entry) → IsPlain (history ++ entry ∷ []) → left ≡ plain_left (flat empty history) entry.request
-    → StandsFor left (history ++ entry ∷ [])
-stands-more left history entry plain is = record { plain = plain; flat = is ∙ sym (plain-append empty history entry plain).1 }
-
--- the reply to it
-pub reply-more : (history : History) (entry : Entry) → IsPlain (history ++ entry ∷ [])
-    → reply empty (history ++ entry ∷ []) (length history) ≡ Some (plain_answer (flat empty history) entry.request)
-reply-more history entry plain = (plain-append empty history entry plain).0
-
--- nothing is wrong with the state
-pub sound-stands : (db : Db) (history : History) → StandsFor db history → Sound db
-sound-stands db history stands =
-    subst Sound (ap (flat empty) (take-length history) ∙ sym stands.flat) ((serial-plain history stands.plain).sound (length history) (omega arith))
+-- entries that may come, with one more
+pub history-more : (history : History) (entry : Entry) → IsHistory history → IsEntry entry → IsHistory (history ++ entry ∷ [])
+history-more history entry entered is = all-append IsEntry history (entry ∷ []) entered (is, tt)
 
 -- a request that comes in as it is runs nothing but what is built
-pub built-request : (session : ℕ) (request : Request) → built session request ≡ request → IsBuiltRequest request
-built-request session (Run statement) same = is_built-of session statement same
-built-request session (Syntax byte) same = tt
-built-request session (Limit passed) same = tt
-built-request session End same = tt
+pub built-request : (request : Request) → built request ≡ request → IsBuiltRequest request
+built-request (Run statement) same = is_built-of statement same
+built-request (Syntax byte) same = tt
+built-request (Limit passed) same = tt
+built-request End same = tt
 
--- so a call is made
-pub makes-of : {D : Type 0} (before after : Seen D) (made : Entry) (place : ℕ) (told : Reply) → IsPlain (before.history ++ made ∷ [])
-    → told ≡ plain_answer (flat empty before.history) made.request → after.history ≡ before.history ++ made ∷ [] → place ≡ length before.history
-    → before.spare ≤ after.spare + 1 → after.disk ≡ before.disk → Makes before after made place told
-makes-of before after made place told plain is grown stands room disk = record {
+-- an entry that was served comes into the history
+pub made-of : (before lent after : History) (state : State) (entry : Entry) (place : ℕ) (told : Reply) → lent ≡ before → after ≡ lent ++ entry ∷ [] → place ≡ length lent
+    → (answer (world empty lent) entry ≡ told) × StandsIn state (happens (world empty lent) entry) → IsMade before after state entry place told
+made-of before lent after state entry place told same grown at served = subst (λ before. IsMade before after state entry place told) same (record {
   history = grown;
-  stands = stands;
-  answered = ap (λ h. reply empty h place) grown ∙ (ap (reply empty (before.history ++ made ∷ [])) stands ∙ (reply-more before.history made plain ∙ ap (λ r. Some r) (sym is)));
+  at = at;
+  answered = served.0;
+  stands = subst (StandsIn state) (sym (ap (world empty) grown ∙ world-append empty lent entry)) served.1;
+})
+
+-- what is so of the history and of the state after a call, whether it was made or not
+pub history-after : {E : Type 0} (before after : History) (state : State) (entry : Entry) (result : Result (Place × Reply) E) → IsHistory before → IsEntry entry
+    → IfOk result (λ made. IsMade before after state entry made.0.0 made.1) → OnErr result ((after ≡ before) × StandsIn state (world empty before))
+    → IsHistory after × StandsIn state (world empty after)
+history-after before after state entry (Ok made) entered is ok err = (subst IsHistory (sym ok.history) (history-more before entry entered is), ok.stands)
+history-after before after state entry (Err e) entered is ok err = (subst IsHistory (sym err.0) entered, subst (λ history. StandsIn state (world empty history)) (sym err.0) err.1)
+
+-- a call is made
+pub makes-of : {D : Type 0} (before after : Seen D) (state : State) (made : Entry) (place : ℕ) (told : Reply) → IsMade before.history after.history state made place told
+    → before.spare ≤ after.spare + 1 → after.disk ≡ before.disk → Makes before after made place told
+makes-of before after state made place told is room disk = record {
+  history = is.history;
+  stands = is.at;
+  answered =
+      ap (λ h. reply empty h place) is.history
+      ∙ (ap (reply empty (before.history ++ made ∷ [])) is.at ∙ (reply-last empty before.history made ∙ ap (λ r. Some r) is.answered));
   spare = room;
   disk = disk;
+}
+
+-- or memory kept it from being made
+may_of : (history : History) (entry : Entry) → MayBeUnmadeFrom (world empty history).flat.schema ((world empty history).standing entry.session.0) entry.request
+    → MayBeUnmadeFrom (flat empty history).schema (standing empty history entry.session.0) entry.request
+unfolding flat standing
+may_of history entry may = may
+
+pub leaves-of : {D : Type 0} (before after : Seen D) (unmade : Entry) → after.history ≡ before.history → before.spare ≤ after.spare → after.disk ≡ before.disk
+    → (0 < before.spare → MayBeUnmadeFrom (world empty before.history).flat.schema ((world empty before.history).standing unmade.session.0) unmade.request)
+    → LeavesUnmade before after unmade
+leaves-of before after unmade same room disk may = record {
+  history = same;
+  spare = room;
+  disk = disk;
+  spared = λ some. may_of before.history unmade (may some);
 }

@@ -1,9 +1,8 @@
 -- The select of a view without faults reads a table, or two.
-use Rattle.std.proofs.Common.{◌≡◌, ℕ, List, [], ◌∷◌, ◌++◌, Bool, true, false, refl, ap, ◌∙◌}
+use Rattle.std.proofs.Common.{◌≡◌, ℕ, [], ◌++◌, Bool, false, ap}
 use Rattle.std.specs.Prelude.{Option, None, Some, is_none}
 use Rattle.std.specs.Option.{option_map_or}
-use Rattle.own_model.specs.declared.bound.Source1.{Source1}
-use Rattle.own_model.specs.declared.bound.Source1.TheVariants.{Pair, Table, View}
+use Rattle.own_model.specs.declared.bound.Source1.TheVariants.{Table, View}
 use Rattle.own_model.specs.declared.condition.Cond.{Cond}
 use Rattle.own_model.specs.declared.create.CreateView.{CreateView}
 use Rattle.own_model.specs.declared.refusal.Refusal.TheVariants.{NoTable}

@@ -1,28 +1,29 @@
--- What a write changes in a database without faults.
-use Rattle.std.proofs.Common.{◌≡◌, ℕ, ◌<◌, ◌≤◌, ◌^◌, zero, suc, List, [], ◌∷◌, ◌++◌, length, refl, ap, sym, ◌∙◌, arith}
-use Rattle.std.specs.Prelude.{None, nat_lt, sum_by, if◌then◌else◌}
-use Rattle.std.proofs.lemmas.Bool.{ltb-false}
-use Rattle.std.proofs.lemmas.List.Sums.{sum_by-cons}
+-- What a write changes in a database, and who stands in its way.
+use Rattle.std.proofs.Common.{◌≡◌, ◌∙◌, ℕ, List, ap, refl, sym, subst}
+use Rattle.std.specs.Prelude.{Option, None, Some}
 use Rattle.own_base.specs.declared.change.Change.{Change}
 use Rattle.own_model.specs.declared.bound.Bound.{Bound}
-use Rattle.own_model.specs.declared.limit.LimitName.TheVariants as limit
-use Rattle.own_model.specs.declared.limit.TheConstants.{STORE_ROWS, STORE_WEIGHT}
-use Rattle.own_model.specs.declared.refusal.Refusal.TheVariants.{Limit}
+use Rattle.own_model.specs.declared.footprint.FootItem.{FootItem}
+use Rattle.own_model.specs.declared.history.Verdict.TheVariants.{Took}
+use Rattle.own_model.specs.declared.refusal.Refusal.{Refusal}
 use Rattle.own_model.specs.declared.reply.Reply.{Reply}
-use Rattle.own_model.specs.Db.{Db, Row}
-use Rattle.own_model.specs.Stored.{rows_at}
-use Rattle.readable_model.proofs.NoFaults.{none-if}
+use Rattle.own_model.specs.declared.reply.Reply.TheVariants.{Refused}
+use Rattle.own_model.specs.Db.{Db}
+use Rattle.query_model.specs.Footprints.{footprint_of}
 use Rattle.run_model.specs.Run.{run_bound}
 use Rattle.run_model.proofs.SameSchema.{same_schema-bound}
-use Rattle.state_model.specs.Fault.{fault}
 use Rattle.state_model.specs.Net.{net}
-use Rattle.state_model.specs.Sound.{Sound}
-use Rattle.schema_model.proofs.Places.{append-none}
-use Rattle.state_model.specs.Weight.{row_count, weight}
-use Rattle.state_model.proofs.Faultless.{faultless-from}
+use Rattle.history_model.specs.Held.{Holding, held, holder}
+use Rattle.history_model.specs.Reply.{unless_held, write_reply}
+use Rattle.history_model.specs.World.{World}
+use Rattle.row_locks.specs.Kept.{kept_by as held_by}
+use Rattle.row_locks.specs.Stands.{holder_among}
+use Rattle.row_locks.proofs.Holders.{holder-alike, holder-of_world}
 use Rattle.txn_core.specs.Single.{NetTo}
-use Rattle.txn_space.specs.Sound.{IsBase}
+use Rattle.txn_core.specs.Transactions.{IsSingleRefusal, conflict_of}
 use Rattle.engine_core.specs.Changed.{IsNet, changed}
+use Rattle.engine_core.specs.Standing.{StandsIn}
+use Rattle.engine_core.specs.declared.state.State.{State}
 
 module _ (db : Db) (bound : Bound) (reply : Reply) (changes : List Change) (is : NetTo db (run_bound db bound) reply changes) where
   -- the database behind it is that with the changes
@@ -38,21 +39,26 @@ module _ (db : Db) (bound : Bound) (reply : Reply) (changes : List Change) (is :
     once = is.leads.once;
   }
 
--- a database without faults has no more rows than a store may have
-few_rows : (db : Db) → fault db ≡ None → row_count db ≤ STORE_ROWS
-few_rows db none =
-    let rows = append-none (if nat_lt STORE_ROWS (row_count db) then Limit limit.Rows ∷ [] else []) (if nat_lt STORE_WEIGHT (weight db) then Limit limit.Weight ∷ [] else []) (faultless-from db none).limit in
-    ltb-false STORE_ROWS (row_count db) (none-if (nat_lt STORE_ROWS (row_count db)) (Limit limit.Rows) rows.0)
+-- Who stands in its way
+module _ (state : State) (world : World) (stands : StandsIn state world) (session : ℕ) (bound : Bound) where
+  abbrev items : List FootItem
+  items = footprint_of state.version.schema bound
 
-few-at : (rows : List (List Row)) (number : ℕ) → length (rows_at rows number) ≤ sum_by length rows
-few-at [] zero = omega arith
-few-at [] (suc number) = omega arith
-few-at (first ∷ rest) zero = let sum = sum_by-cons (length {A = Row}) first rest in omega arith
-few-at (first ∷ rest) (suc number) = let sum = sum_by-cons (length {A = Row}) first rest in let later = few-at rest number in omega arith
+  -- is who the items that are kept tell of
+  holder-kept : holder_among (held_by state.txns.held) session items ≡ holder world session items
+  holder-kept = holder-alike state.txns.held (held world) stands.held items session ∙ holder-of_world world session items
 
--- so a transaction may stand on it
-pub base-sound : (db : Db) → Sound db → IsBase db.schema.tables db.rows
-base-sound db sound = record {
-  rising = sound.kept.ordered.rising;
-  few = λ number. let all = few_rows db sound.faultless in let one = few-at db.rows number in omega arith;
-}
+  pub free-kept : holder_among (held_by state.txns.held) session (footprint_of state.version.schema bound) ≡ None
+      → holder world session (footprint_of state.version.schema bound) ≡ None
+  free-kept none = sym holder-kept ∙ none
+
+  refused-as : (why : Refusal) (found : Option Holding) → IsSingleRefusal found state.version bound why
+      → unless_held world found (write_reply Took state.version (run_bound state.version bound)) ≡ Refused why
+  refused-as why (Some holding) is =
+      ap (λ (db : Db). Refused (conflict_of db.schema holding)) (sym stands.flat) ∙ ap (λ why. Refused why) (sym is)
+  refused-as why None is = rw is refl
+
+  -- and so is why it is refused
+  pub refused-kept : (why : Refusal) → IsSingleRefusal (holder_among (held_by state.txns.held) session (footprint_of state.version.schema bound)) state.version bound why
+      → unless_held world (holder world session (footprint_of state.version.schema bound)) (write_reply Took state.version (run_bound state.version bound)) ≡ Refused why
+  refused-kept why is = refused-as why (holder world session items) (subst (λ found. IsSingleRefusal found state.version bound why) holder-kept is)

@@ -1,12 +1,20 @@
--- What a request is answered, and what it leaves.
-use Rattle.std.specs.Prelude.{◌≡◌, Option, None, Some, if◌then◌else◌}
+-- What a statement outside a transaction is answered, and what it leaves.
+use Rattle.std.specs.Prelude.{◌≡◌, ◌++◌, ◌&&◌, ℕ, List, Bool, false, not, Option, None, Some, if◌then◌else◌}
+use Rattle.std.specs.Option.{option_map_or}
 use Rattle.own_model.specs.declared.bound.Bound.{Bound}
 use Rattle.own_model.specs.declared.bound.Bound.TheVariants.{Delete, Forget, Insert, Update}
+use Rattle.own_model.specs.declared.footprint.FootItem.{FootItem}
 use Rattle.own_model.specs.declared.history.Verdict.TheVariants.{Took}
 use Rattle.own_model.specs.declared.reply.Reply.{Reply}
+use Rattle.own_model.specs.declared.request.Request.{Request}
 use Rattle.own_model.specs.Db.{Db}
+use Rattle.query_model.specs.Footprints.{footprint_of}
+use Rattle.subject_model.specs.Forget.{changed, removed}
 use Rattle.run_model.specs.Run.{run_bound}
-use Rattle.history_model.specs.Reply.{forget_reply, is_refusal, write_reply}
+use Rattle.history_model.specs.Held.{holder}
+use Rattle.history_model.specs.History.{forgotten, lie_on}
+use Rattle.history_model.specs.Reply.{forget_reply, is_refusal, unless_held, write_reply}
+use Rattle.history_model.specs.World.{World}
 use Rattle.engine_core.specs.declared.answer.Answer.{Answer}
 
 -- the database that is left: the next one, where there is one
@@ -19,10 +27,31 @@ pub record Tells (db : Db) (given : Reply) (behind : Db) (answer : Answer) : Typ
   pub told : answer.reply ≡ given
   pub leaves : left db answer.next ≡ (if is_refusal given then db else behind)
 
--- the reply to a bound statement outside a transaction: a write and a FORGET commit by themselves
-abbrev pub bound_reply : Db → Bound → Reply
-bound_reply db (Insert table rows) = write_reply Took db (run_bound db (Insert table rows))
-bound_reply db (Update table sets cond) = write_reply Took db (run_bound db (Update table sets cond))
-bound_reply db (Delete table cond) = write_reply Took db (run_bound db (Delete table cond))
-bound_reply db (Forget subject) = forget_reply Took (run_bound db (Forget subject))
-bound_reply db bound = (run_bound db bound).reply
+-- whether one of these items lies on a row that an accepted FORGET removes or changes
+abbrev pub erases : Db → Request → Reply → List FootItem → Bool
+erases db request reply items =
+    not (is_refusal reply) && option_map_or (λ subject. lie_on (removed db subject ++ changed db subject) items) (forgotten db.schema request) false
+
+-- the rows that an answer names as erased lie on an item just where such a row does
+abbrev pub Erases : Db → Request → Answer → Type 0
+Erases db request answer = (items : List FootItem) → lie_on answer.erased items ≡ erases db request answer.reply items
+
+-- the same of a bound statement
+abbrev pub erases_bound : Db → Bound → Reply → List FootItem → Bool
+erases_bound db (Forget subject) reply items = not (is_refusal reply) && lie_on (removed db subject.0 ++ changed db subject.0) items
+erases_bound db bound reply items = false
+
+abbrev pub ErasesBound : Db → Bound → Answer → Type 0
+ErasesBound db bound answer = (items : List FootItem) → lie_on answer.erased items ≡ erases_bound db bound answer.reply items
+
+-- The reply to a bound statement outside a transaction, on the world's flat database: a write and a FORGET commit by themselves,
+-- and a write is refused where another session stands in its way.
+abbrev pub bound_reply : World → Db → ℕ → Bound → Reply
+bound_reply world db session (Insert table rows) =
+    unless_held world (holder world session (footprint_of db.schema (Insert table rows))) (write_reply Took db (run_bound db (Insert table rows)))
+bound_reply world db session (Update table sets cond) =
+    unless_held world (holder world session (footprint_of db.schema (Update table sets cond))) (write_reply Took db (run_bound db (Update table sets cond)))
+bound_reply world db session (Delete table cond) =
+    unless_held world (holder world session (footprint_of db.schema (Delete table cond))) (write_reply Took db (run_bound db (Delete table cond)))
+bound_reply world db session (Forget subject) = forget_reply Took (run_bound db (Forget subject))
+bound_reply world db session bound = (run_bound db bound).reply

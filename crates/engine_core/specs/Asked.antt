@@ -1,12 +1,12 @@
 -- Requests as the engine runs them.
-use Rattle.std.specs.Prelude.{◌≡◌, true, IsTrue}
+use Rattle.std.specs.Prelude.{◌≡◌, Bool, true, false, IsTrue}
 use Rattle.own_model.specs.declared.bound.Bound.{Bound}
 use Rattle.own_model.specs.declared.bound.Bound.TheVariants as bound
 use Rattle.own_model.specs.declared.request.Request.{Request}
 use Rattle.own_model.specs.declared.request.Request.TheVariants.{Run}
 use Rattle.own_model.specs.declared.schema.Schema.{Schema}
 use Rattle.own_model.specs.declared.statement.Statement.{Statement}
-use Rattle.own_model.specs.declared.statement.Statement.TheVariants.{Delete, GdprForget, GdprGet, Insert, Select, Update}
+use Rattle.own_model.specs.declared.statement.Statement.TheVariants.{Begin, Checkpoint, Commit, CreateTable, CreateView, Delete, GdprForget, GdprGet, Insert, Rollback, Select, Update}
 use Rattle.schema_model.specs.Tables.{is_subject}
 use Rattle.readable_model.specs.Sources.{IsThere}
 use Rattle.history_model.specs.Built.{is_built}
@@ -22,7 +22,31 @@ IsBound (GdprGet table key) = Unit {0}
 IsBound (GdprForget table key) = Unit {0}
 IsBound _ = ⊥
 
--- what such a statement is bound to: a SELECT whose source is there, a write, or a GDPR call on a table of data subjects
+-- a statement that makes a table or a view
+abbrev pub IsCreate : Statement → Type 0
+IsCreate (CreateTable table) = Unit {0}
+IsCreate (CreateView view) = Unit {0}
+IsCreate _ = ⊥
+
+-- a statement that runs by itself: none of those that begin or end a transaction, and no CHECKPOINT
+abbrev pub RunsByItself : Statement → Type 0
+RunsByItself Begin = ⊥
+RunsByItself Commit = ⊥
+RunsByItself Rollback = ⊥
+RunsByItself Checkpoint = ⊥
+RunsByItself _ = Unit {0}
+
+-- whether a statement has a place in a transaction
+abbrev pub has_place_inside : Statement → Bool
+has_place_inside (Select select) = true
+has_place_inside (Insert table columns rows) = true
+has_place_inside (Update table sets cond) = true
+has_place_inside (Delete table cond) = true
+has_place_inside Commit = true
+has_place_inside Rollback = true
+has_place_inside _ = false
+
+-- what a bound statement means: a SELECT whose source is there, a write, or a GDPR call on a table of data subjects
 abbrev pub IsMeant : Schema → Bound → Type 0
 IsMeant schema (bound.Select query) = IsThere schema query
 IsMeant schema (bound.Insert table rows) = IsWrite schema (bound.Insert table rows)

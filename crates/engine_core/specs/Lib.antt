@@ -1,5 +1,7 @@
 pub mod Answered
 pub mod Asked
 pub mod Changed
+pub mod Made
 pub mod Seen
-pub mod Views
+pub mod Settled
+pub mod Standing

@@ -1,16 +1,13 @@
 -- What callers see of an engine, and what a call makes of it.
-use Rattle.std.specs.Prelude.{◌≡◌, ◌+◌, ◌-◌, ◌<◌, ◌≤◌, ℕ, List, [], ◌∷◌, ◌++◌, Some, length, vec_len}
-use Rattle.std.specs.Vec.{vec_capacity}
-use Rattle.own_base.specs.declared.number.Place.{Place}
+use Rattle.std.specs.Prelude.{◌≡◌, ◌+◌, ◌<◌, ◌≤◌, ℕ, [], ◌∷◌, ◌++◌, Some, length}
 use Rattle.own_base.specs.declared.number.SessionNo.{SessionNo}
 use Rattle.own_model.specs.declared.history.Entry.{Entry}
 use Rattle.own_model.specs.declared.history.Verdict.TheVariants.{Took}
 use Rattle.own_model.specs.declared.reply.Reply.{Reply}
 use Rattle.own_model.specs.declared.request.Request.{Request}
-use Rattle.own_model.specs.Db.{Db, empty}
-use Rattle.history_model.specs.History.{History, flat, reply}
-use Rattle.history_model.specs.MayBeUnmade.{MayBeUnmade}
-use Rattle.transcript_model.specs.PlainHistory.{IsPlain}
+use Rattle.own_model.specs.Db.{empty}
+use Rattle.history_model.specs.History.{History, flat, reply, standing}
+use Rattle.history_model.specs.MayBeUnmade.{MayBeUnmadeFrom}
 use Rattle.engine_core.specs.declared.step.Step.{Step}
 use Rattle.engine_core.specs.declared.step.Step.TheVariants.{Answered, Look, NoMemory}
 
@@ -29,11 +26,6 @@ spare_of seen = seen.spare
 abbrev pub disk_of : {D : Type 0} → Seen D → D
 disk_of seen = seen.disk
 
--- The state is the flat database of the history, in which no session is ever in a transaction.
-pub record StandsFor (db : Db) (history : History) : Type 0 where
-  pub plain : IsPlain history
-  pub flat : db ≡ flat empty history
-
 -- the entry of a call that the disk took, or that didn't need it
 abbrev pub entry : SessionNo → ℕ → Request → Entry
 entry session call request = record { session = session; call = call; request = request; verdict = Took }
@@ -48,15 +40,15 @@ pub record Makes {D : Type 0} (before after : Seen D) (made : Entry) (place : �
   pub disk : after.disk ≡ before.disk
 
 -- A call wasn't made, for want of memory: nothing but the room changed, which didn't shrink. Where there was room for its
--- entry, the call is one that takes memory.
-pub record LeavesUnmade {D : Type 0} (before after : Seen D) (request : Request) : Type 0 where
+-- entry, the call is one that takes memory, as its session stands.
+pub record LeavesUnmade {D : Type 0} (before after : Seen D) (unmade : Entry) : Type 0 where
   pub history : after.history ≡ before.history
   pub spare : before.spare ≤ after.spare
   pub disk : after.disk ≡ before.disk
-  pub spared : 0 < before.spare → MayBeUnmade request
+  pub spared : 0 < before.spare → MayBeUnmadeFrom (flat empty before.history).schema (standing empty before.history unmade.session.0) unmade.request
 
 -- What a call came to: it was made, or memory kept it from being made. It never comes to a look.
 abbrev pub Steps : {D S : Type 0} → Seen D → Seen D → Entry → Step S → Type 0
 Steps before after made (Answered place told) = Makes before after made place.0 told
 Steps before after made (Look place shown bound) = ⊥
-Steps before after made NoMemory = LeavesUnmade before after made.request
+Steps before after made NoMemory = LeavesUnmade before after made

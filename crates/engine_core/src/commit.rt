@@ -1,4 +1,4 @@
-ghost use Rattle.std.specs.Prelude.{◌≡◌, Bool, false, IfOk};
+ghost use Rattle.std.specs.Prelude.{◌≡◌, ◌≢◌, [], Bool, false, IfOk, OnErr};
 ghost use Rattle.own_model.specs.declared.history.Verdict.TheVariants.{Took};
 ghost use Rattle.own_model.specs.Db.{Db};
 ghost use Rattle.state_model.specs.Fault.{fault};
@@ -17,7 +17,7 @@ ghost use Rattle.engine_core.specs.Changed.{IsNet, changed};
 use crate::answer::Answer;
 use crate::prepared::Prepared;
 use commit_check::{Judged, judge_flat};
-use own_base::Change;
+use own_base::{Change, List};
 use own_model::{PAYLOAD_BYTES, Refusal, Reply, StoreView};
 use payload_size::payload_size;
 use std::alloc::{AllocError, Global};
@@ -64,27 +64,35 @@ fn is_refusal(reply: &Reply) -> bool
 
 /// The answer to a call that leads to a next version: refused where that has a fault, and else where there is another cause;
 /// otherwise the next version is left.
-pub(crate) fn settled(next: Next, judged: Judged, cause: Option<Refusal>, reply: Reply) -> Answer
+pub(crate) fn settled(
+    alloc: Global,
+    next: Next,
+    judged: Judged,
+    cause: Option<Refusal>,
+    reply: Reply,
+) -> Answer
     requires judged { IsJudged next judged }
     requires accepted { spec_of.is_refusal reply ≡ false }
-    ensures { (db : Db) (needed : Bool) → Tells db (committing Took needed (spec.settled (fault next) cause) reply) next result }
+    ensures tells { (db : Db) (needed : Bool) → Tells db (committing Took needed (spec.settled (fault next) cause) reply) next result }
+    ensures nothing { result.erased ≡ [] }
 {
     match judged {
         Judged::Fault(why) => {
             drop(next);
             drop(cause);
             drop(reply);
-            Answer::told(Reply::Refused(why))
+            Answer::told(alloc, Reply::Refused(why))
         }
         Judged::Weighs(weighs) => match cause {
             None => Answer {
                 reply,
                 next: Some(Prepared { next, weighs }),
+                erased: List::new(alloc),
             },
             Some(why) => {
                 drop(next);
                 drop(reply);
-                Answer::told(Reply::Refused(why))
+                Answer::told(alloc, Reply::Refused(why))
             }
         },
     }
@@ -133,20 +141,22 @@ pub(crate) fn commit(
     requires weighs { weight version.now ≡ weighs }
     requires net { IsNet version.now changes.now }
     requires kept { IsKept (changed version.now changes.now) }
-    ensures { IfOk result (Tells version.now (committing Took (spec_of.changes version.now (changed version.now changes.now))
+    ensures tells { IfOk result (Tells version.now (committing Took (spec_of.changes version.now (changed version.now changes.now))
         (spec.settle version.now (changed version.now changes.now)) reply) (changed version.now changes.now)) }
+    ensures nothing { IfOk result (λ answer. answer.erased ≡ []) }
+    ensures spared { OnErr result (changes.now ≢ []) }
 {
     if is_refusal(&reply) {
-        return Ok(Answer::told(reply));
+        return Ok(Answer::told(alloc, reply));
     }
     if changes.is_empty() {
-        return Ok(Answer::told(reply));
+        return Ok(Answer::told(alloc, reply));
     }
     let next = prepare(alloc, version, changes)?;
     match judged_by(alloc, version, weighs, &next, changes) {
         Ok(judged) => {
             let cause = cause_of(version, &next, &judged, changes);
-            Ok(settled(next, judged, cause, reply))
+            Ok(settled(alloc, next, judged, cause, reply))
         }
         Err(refused) => {
             drop(next);

@@ -1,4 +1,4 @@
-ghost use Rattle.std.specs.Prelude.{◌≡◌, true, IfOk};
+ghost use Rattle.std.specs.Prelude.{◌≡◌, [], true, IfOk};
 ghost use Rattle.own_model.specs.declared.history.Verdict.TheVariants.{Took};
 ghost use Rattle.own_model.specs.declared.limit.TheConstants.{STATEMENT_BYTES};
 ghost use Rattle.own_model.specs.declared.statement.Statement.TheVariants as statement_of;
@@ -10,6 +10,7 @@ ghost use Rattle.state_model.specs.Sound.{IsKept};
 ghost use Rattle.run_model.specs.Run as run;
 ghost use Rattle.history_model.specs.Reply.{committing, create_reply};
 ghost use Rattle.engine_core.specs.Answered.{Tells};
+ghost use Rattle.engine_core.specs.Asked.{IsCreate};
 
 use crate::answer::Answer;
 use crate::commit::{judged, settled};
@@ -23,10 +24,11 @@ use store_version::{Next, Version, prepare_table, prepare_view};
 /// The answer to a CREATE that leads to a next version, if that has no fault.
 fn checked(alloc: Global, next: Next) -> Result<Answer, AllocError>
     requires { IsKept next }
-    ensures { IfOk result (λ answer. (db : Db) → Tells db (committing Took true (fault next) Done) next answer) }
+    ensures tells { IfOk result (λ answer. (db : Db) → Tells db (committing Took true (fault next) Done) next answer) }
+    ensures nothing { IfOk result (λ answer. answer.erased ≡ []) }
 {
     match judged(alloc, &next) {
-        Ok(judged) => Ok(settled(next, judged, None, Reply::Done)),
+        Ok(judged) => Ok(settled(alloc, next, judged, None, Reply::Done)),
         Err(refused) => {
             drop(next);
             Err(refused)
@@ -35,7 +37,7 @@ fn checked(alloc: Global, next: Next) -> Result<Answer, AllocError>
 }
 
 /// CREATE TABLE, which the statement is.
-pub(crate) fn create_table(
+fn create_table(
     alloc: Global,
     version: &Version,
     create: &CreateTable,
@@ -44,7 +46,8 @@ pub(crate) fn create_table(
     requires kept { IsKept version.now }
     requires of { statement.now ≡ statement_of.CreateTable create.now }
     requires written { IsWritten STATEMENT_BYTES statement.now }
-    ensures { IfOk result (Tells version.now (create_reply Took (run.create_table version.now create.now)) (run.create_table version.now create.now).db) }
+    ensures tells { IfOk result (Tells version.now (create_reply Took (run.create_table version.now create.now)) (run.create_table version.now create.now).db) }
+    ensures nothing { IfOk result (λ answer. answer.erased ≡ []) }
 {
     match version.catalog().admit(alloc, version, create) {
         Ok(admitted) => match print_statement(alloc, statement) {
@@ -54,12 +57,12 @@ pub(crate) fn create_table(
                 Err(refused)
             }
         },
-        Err(fault) => Answer::refused(fault.into_refusal()),
+        Err(fault) => Answer::refused(alloc, fault.into_refusal()),
     }
 }
 
 /// CREATE VIEW, which the statement is.
-pub(crate) fn create_view(
+fn create_view(
     alloc: Global,
     version: &Version,
     create: &CreateView,
@@ -68,7 +71,8 @@ pub(crate) fn create_view(
     requires kept { IsKept version.now }
     requires of { statement.now ≡ statement_of.CreateView create.now }
     requires written { IsWritten STATEMENT_BYTES statement.now }
-    ensures { IfOk result (Tells version.now (create_reply Took (run.add_view version.now create.now)) (run.add_view version.now create.now).db) }
+    ensures tells { IfOk result (Tells version.now (create_reply Took (run.add_view version.now create.now)) (run.add_view version.now create.now).db) }
+    ensures nothing { IfOk result (λ answer. answer.erased ≡ []) }
 {
     match bind_view(alloc, version.catalog().schema(), create) {
         Ok(definition) => match print_statement(alloc, statement) {
@@ -78,6 +82,26 @@ pub(crate) fn create_view(
                 Err(refused)
             }
         },
-        Err(why) => Answer::refused(why),
+        Err(why) => Answer::refused(alloc, why),
+    }
+}
+
+/// A CREATE, of a table or of a view.
+#[tactic(auto, unfolding(run_model::specs::Run::run))]
+pub(crate) fn create(
+    alloc: Global,
+    version: &Version,
+    statement: &Statement,
+) -> Result<Answer, AllocError>
+    requires kept { IsKept version.now }
+    requires create { IsCreate statement.now }
+    requires written { IsWritten STATEMENT_BYTES statement.now }
+    ensures tells { IfOk result (Tells version.now (create_reply Took (run.run version.now statement.now)) (run.run version.now statement.now).db) }
+    ensures nothing { IfOk result (λ answer. answer.erased ≡ []) }
+{
+    match statement {
+        Statement::CreateTable(create) => create_table(alloc, version, create, statement),
+        Statement::CreateView(create) => create_view(alloc, version, create, statement),
+        _ => unreachable!(),
     }
 }

@@ -1,39 +1,35 @@
-ghost use Rattle.std.specs.Prelude.{◌≡◌, ◌≤◌, ◌<◌, ◌^◌, ◌++◌, ◌∷◌, [], IfErr, IfOk, OnErr, OnOk};
+ghost use Rattle.std.specs.Prelude.{◌≡◌, ◌≤◌, ◌<◌, ◌^◌, [], ◌∷◌, ◌-◌, ◌+◌, vec_len, IfErr, IfOk, OnErr};
 ghost use Rattle.std.specs.Vec.{vec_capacity};
 ghost use Rattle.own_model.specs.declared.limit.TheConstants.{SESSIONS};
 ghost use Rattle.own_model.specs.Db.{empty};
 ghost use Rattle.grammar_model.specs.Readable.{IsReadable};
 ghost use Rattle.history_model.specs.Built.{built};
-ghost use Rattle.history_model.specs.History.{flat};
-ghost use Rattle.history_model.specs.MayBeUnmade.{MayBeUnmade};
+ghost use Rattle.history_model.specs.History.{world};
+ghost use Rattle.history_model.specs.MayBeUnmade.{MayBeUnmadeFrom};
 ghost use Rattle.history_model.specs.Serial.{Serial};
-ghost use Rattle.state_model.specs.Weight.{weight};
-ghost use Rattle.transcript_model.specs.PlainAnswer.{plain_answer, plain_left};
-ghost use Rattle.transcript_model.specs.PlainHistory.{IsPlain};
-ghost use Rattle.engine_core.specs.Answered.{left};
-ghost use Rattle.engine_core.specs.Asked.{IsBuiltRequest};
 ghost use Rattle.engine_core.specs.declared.open.OpenFault.TheVariants.{Memory};
-ghost use Rattle.engine_core.specs.Seen.{Makes, Steps, entry};
+ghost use Rattle.engine_core.specs.Made.{IsMade};
+ghost use Rattle.engine_core.specs.Seen.{Steps, entry};
+ghost use Rattle.engine_core.specs.Standing.{IsEvent, StandsIn};
 
-use crate::answer::Answer;
 use crate::closed::Closed;
 use crate::open::OpenFault;
-use crate::prepared::Prepared;
-use crate::statements::answer;
+use crate::serving::serve;
+use crate::state::State;
 use crate::step::{NoLook, Step};
 use own_base::{List, Place, SessionNo};
 use own_model::{Entry, Reply, Request, Verdict};
 use std::alloc::{AllocError, Global};
 use std::marker::Model;
 use std::mem::drop;
-use store_version::{Version, publish};
+use store_version::Version;
+use txn_core::Txns;
 
-/// An opened store: its state, the history that made it, and its disk. Contracts see the history, for how many entries more
-/// there is room, and the disk.
+/// An opened store: its state and the transactions of its sessions, the history that made them, and its disk. Contracts see the
+/// history, for how many entries more there is room, and the disk.
 pub struct Engine<D> {
     alloc: Global,
-    version: Version,
-    weighs: u64,
+    state: State,
     history: Vec<Entry>,
     disk: D,
 }
@@ -41,7 +37,7 @@ pub struct Engine<D> {
 impl<D> Model for Engine<D> {
     ghost use Rattle.std.specs.Prelude.{◌-◌, vec_len};
     ghost use Rattle.std.specs.Vec.{vec_capacity};
-    ghost use Rattle.engine_core.specs.Seen.{Seen, StandsFor};
+    ghost use Rattle.engine_core.specs.Seen.{Seen};
     ghost use Rattle.own_model.specs.contracts.condition.Cond as cond;
     ghost use Rattle.std.specs.Coded.{codes};
 
@@ -51,10 +47,12 @@ impl<D> Model for Engine<D> {
 
     ghost view = { λ engine. record { history = engine.history.items; spare = vec_capacity engine.history - vec_len engine.history; disk = engine.disk } };
 
-    ghost use Rattle.std.specs.Prelude.{◌≡◌};
-    ghost use Rattle.state_model.specs.Weight.{weight};
+    ghost use Rattle.own_model.specs.Db.{empty};
+    ghost use Rattle.history_model.specs.History.{world};
+    ghost use Rattle.history_model.specs.Serial.{IsHistory};
+    ghost use Rattle.engine_core.specs.Standing.{StandsIn};
 
-    ghost invariant = { λ engine. StandsFor engine.version engine.history.items × (weight engine.version ≡ engine.weighs) };
+    ghost invariant = { λ engine. IsHistory engine.history.items × StandsIn engine.state (world empty engine.history.items) };
 }
 
 impl<D> Engine<D> {
@@ -66,10 +64,9 @@ impl<D> Engine<D> {
         ensures fault { IfErr result (λ failed. (failed.0 ≡ Memory) × (failed.1 ≡ disk)) }
     {
         match opened(alloc, calls) {
-            Ok((version, history)) => Ok(Engine {
+            Ok((state, history)) => Ok(Engine {
                 alloc,
-                version,
-                weighs: 0,
+                state,
                 history,
                 disk,
             }),
@@ -78,64 +75,25 @@ impl<D> Engine<D> {
     }
 
     /// Makes a call of a session: its entry comes into the history, and the state changes by it. Where memory is refused
-    /// the call isn't made.
+    /// the call isn't made. Nobody waits: where sessions stand in each other's way, one of them is refused.
     pub fn step(&mut self, session: SessionNo, call: u32, request: Request) -> Step<NoLook>
         requires first { 1 ≤ session.0 }
         requires last { session.0 ≤ SESSIONS }
         requires readable { IsReadable request }
-        requires built { built session.0 request ≡ request }
+        requires built { built request ≡ request }
         ensures steps { Steps self.old self.new (entry session call request) result }
         ensures serial { Serial empty self.new.history }
     {
-        match self.prepared(&request) {
-            Ok(answer) => {
-                let entry = Entry {
-                    session,
-                    call,
-                    request,
-                    verdict: Verdict::Took,
-                };
-                let (place, reply) = self.make(entry, answer);
-                Step::Answered(place, reply)
-            }
-            Err(AllocError) => {
-                drop(request);
-                Step::NoMemory
-            }
+        let entry = Entry {
+            session,
+            call,
+            request,
+            verdict: Verdict::Took,
+        };
+        match make(self.alloc, &mut self.state, &mut self.history, entry) {
+            Ok((place, reply)) => Step::Answered(place, reply),
+            Err(AllocError) => Step::NoMemory,
         }
-    }
-
-    /// What a request will be answered and leave, with room for its entry. Nothing but the room changes.
-    fn prepared(&mut self, request: &Request) -> Result<Answer, AllocError>
-        requires readable { IsReadable request.now }
-        requires built { IsBuiltRequest request.now }
-        ensures history { self.new.history ≡ self.old.history }
-        ensures plain { IsPlain self.old.history }
-        ensures disk { self.new.disk ≡ self.old.disk }
-        ensures spare { self.old.spare ≤ self.new.spare }
-        ensures room { OnOk result (0 < self.new.spare) }
-        ensures told { IfOk result (λ answer. answer.reply ≡ plain_answer (flat empty self.old.history) request.now) }
-        ensures left { IfOk result (λ answer. left (flat empty self.old.history) answer.next ≡ plain_left (flat empty self.old.history) request.now) }
-        ensures spared { OnErr result (0 < self.old.spare → MayBeUnmade request.now) }
-    {
-        self.history.reserve(1)?;
-        answer(self.alloc, &self.version, self.weighs, request)
-    }
-
-    /// Makes a call that is answered so: its entry comes, and the state that it leaves. Takes no memory.
-    fn make(&mut self, entry: Entry, answer: Answer) -> (Place, Reply)
-        requires room { 0 < self.old.spare }
-        requires plain { IsPlain (self.old.history ++ entry ∷ []) }
-        requires told { answer.reply ≡ plain_answer (flat empty self.old.history) entry.request }
-        requires left { left (flat empty self.old.history) answer.next ≡ plain_left (flat empty self.old.history) entry.request }
-        ensures makes { Makes self.old self.new entry result.0.0 result.1 }
-        ensures plain { IsPlain self.new.history }
-    {
-        let Answer { reply, next } = answer;
-        let place = Place(self.history.len() as u64);
-        self.history.push_reserved(entry);
-        put(&mut self.version, &mut self.weighs, next);
-        (place, reply)
     }
 
     /// Lends the history. Takes no memory.
@@ -163,12 +121,11 @@ impl<D> Engine<D> {
     {
         let Engine {
             alloc: _,
-            version,
-            weighs: _,
+            state,
             history,
             disk,
         } = self;
-        drop(version);
+        drop(state);
         Closed {
             history: List::from_vec(history),
             disk,
@@ -176,25 +133,52 @@ impl<D> Engine<D> {
     }
 }
 
-/// Puts the next version, where there is one, in the place of the one that stands, with what it weighs. Takes no memory.
-fn put(version: &mut Version, weighs: &mut u64, next: Option<Prepared>)
-    requires { weight version.old ≡ weighs.old }
-    ensures version { version.new ≡ left version.old next }
-    ensures weighs { weight version.new ≡ weighs.new }
+/// Makes a call: its entry is served, and comes into the history. Where memory is refused nothing but the room for entries
+/// changes, which doesn't shrink. All that may fail comes before the first change.
+fn make(
+    alloc: Global,
+    state: &mut State,
+    history: &mut Vec<Entry>,
+    entry: Entry,
+) -> Result<(Place, Reply), AllocError>
+    requires event { IsEvent state.old history.old.items entry }
+    ensures made { IfOk result (λ made. IsMade history.old.items history.new.items state.new entry made.0.0 made.1) }
+    ensures unmade { OnErr result ((history.new.items ≡ history.old.items) × StandsIn state.new (world empty history.old.items)) }
+    ensures spared { OnErr result (0 < vec_capacity history.old - vec_len history.old
+        → MayBeUnmadeFrom (world empty history.old.items).flat.schema ((world empty history.old.items).standing entry.session.0) entry.request) }
+    ensures room { vec_capacity history.old - vec_len history.old ≤ vec_capacity history.new - vec_len history.new + 1 }
+    ensures room_left { OnErr result (vec_capacity history.old - vec_len history.old ≤ vec_capacity history.new - vec_len history.new) }
 {
-    if let Some(prepared) = next {
-        *weighs = prepared.weighs;
-        publish(version, prepared.next);
+    if history.reserve(1).is_err() {
+        drop(entry);
+        return Err(AllocError);
+    }
+    match serve(alloc, state, history, &entry) {
+        Ok(reply) => {
+            let place = Place(history.len() as u64);
+            history.push_reserved(entry);
+            Ok((place, reply))
+        }
+        Err(AllocError) => {
+            drop(entry);
+            Err(AllocError)
+        }
     }
 }
 
-/// No table and no history, with room for so many entries.
-fn opened(alloc: Global, calls: u32) -> Result<(Version, Vec<Entry>), AllocError>
-    ensures version { IfOk result (λ pair. pair.0 ≡ empty) }
+/// No table, no transaction and no history, with room for so many entries.
+fn opened(alloc: Global, calls: u32) -> Result<(State, Vec<Entry>), AllocError>
+    ensures stands { IfOk result (λ pair. StandsIn pair.0 (world empty [])) }
     ensures history { IfOk result (λ pair. pair.1.items ≡ []) }
     ensures room { IfOk result (λ pair. calls ≤ vec_capacity pair.1) }
 {
     let history = Vec::with_capacity(alloc, calls as usize)?;
     let version = Version::new(alloc)?;
-    Ok((version, history))
+    let txns = Txns::new(alloc)?;
+    let state = State {
+        version,
+        weighs: 0,
+        txns,
+    };
+    Ok((state, history))
 }

@@ -1,4 +1,5 @@
-ghost use Rattle.std.specs.Prelude.{◌≡◌, ◌<◌, ◌^◌, IsTrue, count_by, length, not, IfOk};
+ghost use Rattle.std.specs.Prelude.{◌≡◌, ◌<◌, ◌^◌, IsTrue, count_by, length, map, not, IfOk};
+ghost use Rattle.own_model.specs.declared.bound.Bound.TheVariants.{Forget};
 ghost use Rattle.own_model.specs.declared.history.Verdict.TheVariants.{Took};
 ghost use Rattle.own_model.specs.declared.reply.Reply.TheVariants.{Forgot};
 ghost use Rattle.schema_model.specs.Tables.{is_subject};
@@ -6,11 +7,11 @@ ghost use Rattle.state_model.specs.Sound.{IsKept, Sound};
 ghost use Rattle.run_model.specs.Run.{forget_subject, show_subject};
 ghost use Rattle.subject_erase.specs.Plan.{leaves_row};
 ghost use Rattle.history_model.specs.Reply.{forget_reply};
-ghost use Rattle.engine_core.specs.Answered.{Tells};
+ghost use Rattle.engine_core.specs.Answered.{ErasesBound, Tells};
 
 use crate::answer::Answer;
 use crate::commit::{judged, settled};
-use own_base::{Change, Subject};
+use own_base::{Change, List, MakeCopy, RowName, Subject};
 use own_model::{Reply, StoreView};
 use std::alloc::{AllocError, Global};
 use std::mem::drop;
@@ -50,7 +51,20 @@ fn forgotten(changes: &[Change]) -> Reply
     }
 }
 
-/// The answer to a bound GDPR FORGET, which commits by itself: no constraint, limit or length refuses it.
+/// The names of the rows that changes are of.
+fn names_of(alloc: Global, changes: &[Change]) -> Result<List<RowName>, AllocError>
+    ensures { IfOk result (λ names. names ≡ map (λ change. change.name) changes.now) }
+{
+    let mut names = Vec::new(alloc);
+    for change in changes {
+        let name = change.name.copy(alloc)?;
+        names.push(name)?;
+    }
+    Ok(List::from_vec(names))
+}
+
+/// The answer to a bound GDPR FORGET, which commits by itself: no constraint, limit or length refuses it. It names the rows
+/// that it removes or changes as erased.
 #[tactic(auto, unfolding(run_model::specs::Run::forget_subject))]
 pub(crate) fn forget(
     alloc: Global,
@@ -59,17 +73,19 @@ pub(crate) fn forget(
 ) -> Result<Answer, AllocError>
     requires sound { Sound version.now }
     requires subject { IsTrue (is_subject version.now.schema subject.now.0.table.0) }
-    ensures { IfOk result (Tells version.now (forget_reply Took (forget_subject version.now subject.now.0)) (forget_subject version.now subject.now.0).db) }
+    ensures tells { IfOk result (Tells version.now (forget_reply Took (forget_subject version.now subject.now.0)) (forget_subject version.now subject.now.0).db) }
+    ensures erases { IfOk result (ErasesBound version.now (Forget subject.now)) }
 {
     if version.row(&subject.0).is_none() {
         let why = no_subject(alloc, version.schema(), subject)?;
-        return Ok(Answer::told(Reply::Refused(why)));
+        return Ok(Answer::told(alloc, Reply::Refused(why)));
     }
     let changes = erase_changes(alloc, version, subject)?;
+    let names = names_of(alloc, changes.items())?;
     let next = prepare(alloc, version, changes.items())?;
     let reply = forgotten(changes.items());
     match judged(alloc, &next) {
-        Ok(judged) => Ok(settled(next, judged, None, reply)),
+        Ok(judged) => Ok(settled(alloc, next, judged, None, reply).erasing(names)),
         Err(refused) => {
             drop(next);
             Err(refused)

@@ -97,6 +97,11 @@ module _ (places : ℕ) where
   unfolding after_all
   schema-block db block are = (footprints.same_schema-block IsTaking takes keeps db (statements_of block) (taking_each block are)).schema
 
+  -- and of the same creates
+  pub creates-block : (db : Db) (block : Block) → AreOfBlock places block → (after_block db block).creates ≡ db.creates
+  unfolding after_all
+  creates-block db block are = (footprints.same_schema-block IsTaking takes keeps db (statements_of block) (taking_each block are)).creates
+
   -- an item that no item of a block overlaps keeps its rows
   pub still-block : (db : Db) (block : Block) → IsKept db → AreOfBlock places block → (item : FootItem)
       → list_any (λ own. overlaps own item) (items_of_all db.schema (statements_of block)) ≡ false → AgreeOn db (after_block db block) item

@@ -1,5 +1,5 @@
 -- A FORGET that dooms no transaction leaves the rows that it holds: it removes and changes none of them.
-use Rattle.std.proofs.Common.{◌≡◌, List, [], ◌∷◌, ◌++◌, Bool, true, false, refl, sym, subst, ◌∙◌}
+use Rattle.std.proofs.Common.{◌≡◌, ℕ, List, [], ◌∷◌, ◌++◌, Bool, true, false, not, refl, sym, subst, ◌∙◌}
 use Rattle.std.specs.Prelude.{◌&&◌, ◌==◌, Option, None, Some, find, slice_get}
 use Rattle.std.specs.List.{AllByRecursion, list_any}
 use Rattle.std.proofs.lemmas.Bool.{and_left, or_from, or_parts}
@@ -7,6 +7,8 @@ use Rattle.own_base.specs.declared.number.TableNo.{TableNo}
 use Rattle.own_base.specs.declared.row_name.RowName.{RowName}
 use Rattle.own_base.specs.declared.value.Key.{Key}
 use Rattle.own_model.specs.declared.footprint.FootItem.{FootItem}
+use Rattle.own_model.specs.declared.history.Entry.{Entry}
+use Rattle.own_model.specs.declared.reply.Reply.{Reply}
 use Rattle.own_model.specs.declared.schema.TableDef.{TableDef}
 use Rattle.own_model.specs.Db.{Db}
 use Rattle.own_model.specs.Stored.{has_key, row_named, rows_at}
@@ -20,7 +22,9 @@ use Rattle.run_model.specs.Agree.{Agree, AgreeOn, lies_on}
 use Rattle.run_model.proofs.Overlaps.{each_weaker}
 use Rattle.run_model.proofs.TableRows.{no_rows}
 use Rattle.run_model.proofs.RisingKeys.{rising-at}
-use Rattle.history_model.specs.History.{lie_on}
+use Rattle.history_model.specs.History.{dooms, forgotten, lie_on}
+use Rattle.history_model.specs.Reply.{is_refusal}
+use Rattle.history_model.specs.World.{World}
 use Rattle.history_model.proofs.AgreeLemmas.{each_of}
 use Rattle.history_model.proofs.RowsByKey.{rows_by_key}
 
@@ -99,3 +103,17 @@ module _ (db : Db) (subject : RowName) (kept : IsKept db) (kept_left : IsKept (f
     schema = schema_left;
     on = each_weaker (λ item. list_any (λ name. lies_on name item) struck ≡ false) (AgreeOn db left) (λ item. item_left item.table item.key item.write) items (none_together lies_on struck items none);
   }
+
+-- A request that forgets no one dooms no transaction,
+pub undoomed : (world : World) (entry : Entry) (reply : Reply) (session : ℕ) → forgotten world.flat.schema entry.request ≡ None → dooms world entry reply session ≡ false
+unfolding dooms
+undoomed world entry reply session none = rw none (by (not (is_refusal reply)))
+  where
+    by : (b : Bool) → (b && false) ≡ false
+    by true = refl
+    by false = refl
+
+-- nor does one that is refused.
+pub refused-dooms : (world : World) (entry : Entry) (reply : Reply) (session : ℕ) → is_refusal reply ≡ true → dooms world entry reply session ≡ false
+unfolding dooms
+refused-dooms world entry reply session refused = rw refused refl

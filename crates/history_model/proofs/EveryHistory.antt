@@ -1,19 +1,21 @@
 -- Every history on a sound database is serial.
-use Rattle.std.proofs.Common.{◌≡◌, ℕ, true, zero, suc, List, [], ◌∷◌, ◌++◌, take, refl, ap, sym, subst, ◌∙◌, append_assoc}
-use Rattle.std.specs.Prelude.{drop}
+use Rattle.std.proofs.Common.{◌≡◌, ℕ, true, false, zero, suc, List, [], ◌∷◌, ◌++◌, take, refl, ap, sym, subst, ◌∙◌, append_assoc}
+use Rattle.std.specs.Prelude.{◌==◌, drop}
 use Rattle.std.specs.List.{AllByRecursion}
+use Rattle.std.proofs.lemmas.Bool.{ne_eqb}
 use Rattle.std.proofs.lemmas.List.{append-nil, take-append-drop}
 use Rattle.own_model.specs.declared.history.Entry.{Entry}
-use Rattle.own_model.specs.Db.{Db}
+use Rattle.own_model.specs.Db.{Db, empty}
 use Rattle.state_model.specs.Sound.{Sound}
+use Rattle.state_model.proofs.KeptLemmas.{sound-empty}
 use Rattle.run_model.specs.Agree.{Agree}
 use Rattle.history_model.specs.Held.{held, is_open}
-use Rattle.history_model.specs.History.{History, flat, standing, world}
+use Rattle.history_model.specs.History.{History, dooms, flat, happens, standing, world}
 use Rattle.history_model.specs.Reply.{answer}
 use Rattle.history_model.specs.Serial.{AreGiven, IsEntry, IsHistory, Serial}
 use Rattle.history_model.specs.World.{Block, Open, World, start}
 use Rattle.history_model.proofs.BlockLemmas.{given-later}
-use Rattle.history_model.proofs.HistoryLemmas.{reply-last, world-append, world-empty}
+use Rattle.history_model.proofs.HistoryLemmas.{reply-last, standing-append, world-append, world-empty}
 use Rattle.history_model.proofs.SerialLemmas.{held-kept, serial-step}
 use Rattle.history_model.proofs.Worlds.{IsSerialWorld, open-block}
 
@@ -55,6 +57,15 @@ module _ (base : Db) where
       subst (λ (after : World). Agree (held now session) now.flat after.flat) (sym (world-append base history entry))
       (held-kept base history now (serial-world history sound entered) entry is_entry (answer now entry) (reply-last base history entry) refl session (sym next ∙ opened))
 
+  -- so they are where the entry is another session's, and doesn't doom the transaction
+  pub kept-at : (history : History) (entry : Entry) → Sound base → IsHistory history → IsEntry entry
+      → (other : ℕ) → (other ≡ entry.session.0 → ⊥) → dooms (world base history) entry (answer (world base history) entry) other ≡ false
+      → is_open ((world base history).standing other) ≡ true → Agree (held (world base history) other) (flat base history) (flat base (history ++ entry ∷ []))
+  kept-at history entry sound entered is_entry other differs undoomed opened =
+      let apart : (other == entry.session.0) ≡ false = ne_eqb other entry.session.0 differs in
+      let next : (happens (world base history) entry).standing other ≡ (world base history).standing other = rw (apart, undoomed) refl in
+      held-history history entry sound entered is_entry other (ap is_open (standing-append base history entry other ∙ next) ∙ opened)
+
   module _ (history : History) (sound : Sound base) (entered : IsHistory history) (place : ℕ) where
     abbrev front : History
     front = take place history
@@ -79,3 +90,7 @@ module _ (base : Db) where
     sound = λ place within. sound_at history sound entered place;
     whole = λ place session begun block within opened. whole_at history sound entered place session begun block opened;
   }
+
+-- and so is every history on the empty database
+pub serial-empty : (history : History) → IsHistory history → Serial empty history
+serial-empty history entered = serial-history empty history sound-empty entered

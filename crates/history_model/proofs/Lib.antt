@@ -3,6 +3,7 @@ pub mod AgreeLemmas
 pub mod ApartLemmas
 pub mod BlockLemmas
 pub mod BlockNet
+pub mod BuiltRequests
 pub mod ChangeLemmas
 pub mod DoomLemmas
 pub mod EveryHistory
@@ -16,7 +17,12 @@ pub mod OpenTransactions
 pub mod OwnLemmas
 pub mod RefusalLemmas
 pub mod RowsByKey
+pub mod RunReplies
 pub mod SerialLemmas
 pub mod SinceLemmas
+pub mod StatementRefusals
 pub mod SubjectLemmas
+pub mod UnmadeLemmas
+pub mod Within
+pub mod Working
 pub mod Worlds

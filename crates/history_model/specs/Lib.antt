@@ -1,6 +1,6 @@
-pub mod AreBuilt
 pub mod Built
 pub mod Commits
+pub mod HasWritten
 pub mod Held
 pub mod History
 pub mod Made

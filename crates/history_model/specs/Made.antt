@@ -23,7 +23,7 @@ abbrev pub entry_of : ScriptCall → Entry
 entry_of call = record {
   session = call.session;
   call = call.call;
-  request = built call.session.0 call.request;
+  request = built call.request;
   verdict = Took;
 }
 

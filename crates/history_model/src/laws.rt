@@ -1,9 +1,11 @@
 //! Laws of the definitions in `specs/`: each function does nothing, and what it ensures holds of every database, history
 //! and list of calls.
-ghost use Rattle.std.specs.Prelude.{◌≡◌, ◌↔◌, ℕ, ◌+◌, ◌<◌, List, ◌++◌, length, map, filter, take, None, Some, Contains, slice_get, [], ◌∷◌, true};
+ghost use Rattle.std.specs.Prelude.{◌≡◌, ◌↔◌, ℕ, ◌+◌, ◌<◌, List, ◌++◌, length, map, filter, take, None, Some, Contains, slice_get, [], ◌∷◌, true, false};
+ghost use Rattle.std.specs.List.{AllByRecursion};
 ghost use Rattle.own_base.specs.declared.number.Place.{Place};
 ghost use Rattle.own_model.specs.declared.footprint.FootItem.{FootItem};
 ghost use Rattle.own_model.specs.declared.history.Entry.{Entry};
+ghost use Rattle.own_model.specs.declared.history.Verdict.TheVariants.{Took};
 ghost use Rattle.own_model.specs.declared.refusal.Refusal.{Refusal};
 ghost use Rattle.own_model.specs.declared.refusal.Refusal.TheVariants.{Disk, Down};
 ghost use Rattle.own_model.specs.declared.refusal.Refusal.TheVariants as refusal;
@@ -13,7 +15,7 @@ ghost use Rattle.state_model.specs.Net.{net};
 ghost use Rattle.state_model.specs.Sound.{IsKept, Sound};
 ghost use Rattle.run_model.specs.Agree.{Agree};
 ghost use Rattle.history_model.specs.Held.{Holding, held, holder, is_open, lowest_other};
-ghost use Rattle.history_model.specs.History.{History, flat, happens, reply, standing, world};
+ghost use Rattle.history_model.specs.History.{History, flat, happens, is_failure, reply, standing, world};
 ghost use Rattle.history_model.specs.Made.{Called, made};
 ghost use Rattle.history_model.specs.Named.{called_name, entry_name, was_made};
 ghost use Rattle.history_model.specs.Reply.{answer};
@@ -105,4 +107,10 @@ pub fn doomed_session_is_not_open()
 pub fn all_is_down_after_the_disk_failed()
     ensures { (base : Db) (history : History) (place later : ℕ) → reply base history place ≡ Some (Refused Disk) → place < later
         → later < length history → reply base history later ≡ Some (Refused (Down (record { 0 = place }))) }
+{}
+
+/// Where the disk takes what each entry writes, no answer is for want of it, and it never counts as failed.
+pub fn disk_that_takes_all_never_fails()
+    ensures answered { (world : World) (entry : Entry) → entry.verdict ≡ Took → world.down ≡ None → is_failure (answer world entry) ≡ false }
+    ensures up { (base : Db) (history : History) → AllByRecursion (λ entry. entry.verdict ≡ Took) history → (world base history).down ≡ None }
 {}

@@ -10,6 +10,7 @@ use Rattle.own_model.specs.Db.{empty}
 use Rattle.text_model.specs.Lines.{reply_lines}
 use Rattle.history_model.specs.History.{reply}
 use Rattle.history_model.specs.Made.{Spared, Unmade, entry_of}
+use Rattle.history_model.proofs.UnmadeLemmas.{from-unmade}
 use Rattle.transcript_model.specs.Transcript.{text_of_call}
 use Rattle.engine_core.specs.Seen.{LeavesUnmade, Makes, Seen}
 use Rattle.store_top.specs.Steps.{MakesCall}
@@ -37,13 +38,13 @@ makes-call bytes_of call before after place told result makes printed = record {
 -- memory kept a call from being made, and that was printed
 pub leaves-call : {D T E : Type 0} (bytes_of : T → List ℕ) (call : ScriptCall) (before after : Seen D) (result : Result T E)
     → 0 < before.spare
-    → LeavesUnmade before after (entry_of call).request
+    → LeavesUnmade before after (entry_of call)
     → IfOk result (λ text. bytes_of text ≡ reply_lines None call.session.0 call.call (Refused Memory))
     → MakesCall bytes_of call before.history after.history result
 leaves-call bytes_of call before after result room leaves printed = record {
   want = Unmade;
   history_is = leaves.history ∙ sym (append-nil before.history);
-  spared = λ unmade. leaves.spared room;
+  spared = λ unmade. from-unmade _ _ (entry_of call).request (leaves.spared room);
   shown = λ unshown. cc;
   text_is = printed;
 }

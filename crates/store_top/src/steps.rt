@@ -41,7 +41,7 @@ fn lines_of_call<D>(
         call: number,
         request,
     } = call;
-    match engine.step(session, number, built(session, request)) {
+    match engine.step(session, number, built(request)) {
         Step::Answered(place, reply) => {
             let text = print_reply(alloc, Some(place), session, number, &reply);
             drop(reply);

@@ -24,10 +24,10 @@ const FIRST: &str =
     "CREATE DATA_SUBJECT TABLE users (id INT PRIMARY KEY, name TEXT); INSERT INTO users VALUES (5, 'Ann'); SELECT * FROM users;";
 
 const REFUSALS: &str =
-    "CREATE DATA_SUBJECT TABLE users (id INT PRIMARY KEY, name TEXT); INSERT INTO users VALUES (5, 'Ann'); SELECT * FROM users;INSERT INTO users VALUES (5, 'Bo'); SELECT * FROM cats; BEGIN;";
+    "CREATE DATA_SUBJECT TABLE users (id INT PRIMARY KEY, name TEXT); INSERT INTO users VALUES (5, 'Ann'); SELECT * FROM users;INSERT INTO users VALUES (5, 'Bo'); SELECT * FROM cats; COMMIT;";
 
 const SESSIONS: &str =
-    "CREATE DATA_SUBJECT TABLE users (id INT PRIMARY KEY, name TEXT);\n-- session 2\nSELECT * FROM users; SELEC\n-- session 1\nSELECT * FROM users;";
+    "CREATE DATA_SUBJECT TABLE users (id INT PRIMARY KEY, name TEXT); BEGIN; INSERT INTO users VALUES (5, 'Ann');\n-- session 2\nSELECT * FROM users; DELETE FROM users WHERE id = 5; SELEC\n-- session 1\nCOMMIT; SELECT * FROM users;";
 
 const CATALOG: &str =
     "CREATE DATA_SUBJECT TABLE users (id INT PRIMARY KEY, name TEXT); CREATE TABLE msgs (id INT PRIMARY KEY, sender INT OWNED_BY users(id)); CREATE TABLE users (id INT PRIMARY KEY); INSERT INTO msgs VALUES (1, NULL); CREATE TABLE cities (id INT PRIMARY KEY); INSERT INTO cities VALUES (2); CREATE DATA_SUBJECT TABLE people (id INT PRIMARY KEY, home INT OWNS cities(id)); EXPLAIN COMPLIANCE; SELECT * FROM cities;";
@@ -49,7 +49,7 @@ const CASES: [Case; 9] = [
         sink_fails: &[],
         status: 0,
         entries: 7,
-        output: "0 1.1 ok\n1 1.2 ok 1\n2 1.3 rows 1\n  5|'Ann'\n3 1.4 refused duplicate users 5\n4 1.5 refused table cats\n5 1.6 refused syntax 0\n6 1.7 end\n",
+        output: "0 1.1 ok\n1 1.2 ok 1\n2 1.3 rows 1\n  5|'Ann'\n3 1.4 refused duplicate users 5\n4 1.5 refused table cats\n5 1.6 refused outside\n6 1.7 end\n",
     },
     Case {
         word: "step",
@@ -75,8 +75,8 @@ const CASES: [Case; 9] = [
         source_fails: &[],
         sink_fails: &[],
         status: 0,
-        entries: 6,
-        output: "0 1.1 ok\n1 2.1 refused syntax 0\n2 2.2 refused syntax 5\n3 1.2 rows 0\n4 1.3 end\n5 2.3 end\n",
+        entries: 10,
+        output: "0 1.1 ok\n1 1.2 ok\n2 1.3 ok 1\n3 2.1 rows 0\n4 2.2 refused conflict 1 users 5\n5 2.3 refused syntax 5\n6 1.4 ok\n7 1.5 rows 1\n  5|'Ann'\n8 1.6 end\n9 2.4 end\n",
     },
     Case {
         word: "step",

@@ -1,5 +1,3 @@
-pub mod PlainAnswer
-pub mod PlainHistory
 pub mod Printed
 pub mod TellsMemory
 pub mod Transcript

@@ -1,28 +1,13 @@
 //! Laws of the definitions in `specs/`: each function does nothing, and what it ensures holds of every database,
 //! history and list of calls.
-ghost use Rattle.std.specs.Prelude.{◌≡◌, ℕ, List, [], ◌∷◌, ◌++◌, None, Some, length};
-ghost use Rattle.own_model.specs.declared.history.Entry.{Entry};
+ghost use Rattle.std.specs.Prelude.{◌≡◌, ℕ, List, ◌++◌, length};
 ghost use Rattle.own_model.specs.declared.script.ScriptCall.{ScriptCall};
 ghost use Rattle.own_model.specs.Db.{Db};
-ghost use Rattle.history_model.specs.History.{History, flat, reply, standing, world};
+ghost use Rattle.history_model.specs.History.{History};
 ghost use Rattle.history_model.specs.Made.{Called, made};
-ghost use Rattle.history_model.specs.World.{Outside};
-ghost use Rattle.transcript_model.specs.PlainAnswer.{plain_answer, plain_left};
-ghost use Rattle.transcript_model.specs.PlainHistory.{IsPlain};
 ghost use Rattle.transcript_model.specs.Printed.{printed};
 ghost use Rattle.transcript_model.specs.TellsMemory.{TellsMemory};
 ghost use Rattle.transcript_model.specs.Transcript.{IsSpared, IsTranscript, spared};
-
-/// In a history of requests that are built, of which the disk took all, each request is answered as its statement runs on
-/// the flat database and commits by itself, and leaves what that leaves; no session is ever in a transaction, and the disk
-/// never counts as failed. That holds over every database, whatever is wrong with it.
-pub fn plain_history_is_answered_plainly()
-    ensures answered { (base : Db) (history : History) (entry : Entry) → IsPlain (history ++ entry ∷ [])
-        → (reply base (history ++ entry ∷ []) (length history) ≡ Some (plain_answer (flat base history) entry.request))
-        × (flat base (history ++ entry ∷ []) ≡ plain_left (flat base history) entry.request) }
-    ensures outside { (base : Db) (history : History) (session : ℕ) → IsPlain history → standing base history session ≡ Outside }
-    ensures up { (base : Db) (history : History) → IsPlain history → (world base history).down ≡ None }
-{}
 
 /// Over one history, the text of calls is that of the first of them, and after it that of the rest.
 pub fn calls_print_one_behind_the_other()

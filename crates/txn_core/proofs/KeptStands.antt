@@ -1,5 +1,5 @@
 -- What is kept of sessions stands for how they stand.
-use Rattle.std.proofs.Common.{◌≡◌, ℕ, List, [], ◌∷◌, false, Some, ap, refl}
+use Rattle.std.proofs.Common.{◌≡◌, ℕ, List, [], ◌∷◌, false, true, Some, ap, refl}
 use Rattle.std.specs.Prelude.{cond, find, option_map}
 use Rattle.own_base.specs.declared.number.Place.{Place}
 use Rattle.own_model.specs.Db.{Db}
@@ -14,7 +14,7 @@ use Rattle.txn_core.proofs.Standing.{stands_none}
 
 -- a transaction that begins
 pub stands_begun : (flat : Db) (place : ℕ) → IsKept flat → StandsAs flat (kept.Open (record { space = []; wrote = false })) (Open place [])
-stands_begun flat place sound = (stands_none flat sound, λ quiet. refl)
+stands_begun flat place sound = (stands_none flat sound, λ quiet. refl, λ wrote. let never : false ≡ true = wrote in absurd (cc))
 
 -- whether a transaction is open
 pub stands_open : (flat : Db) (one : Kept) (standing : Standing) → StandsAs flat one standing → is_open one ≡ is_open_standing standing

@@ -1,9 +1,12 @@
 mod BoundSelects
+mod Dooming
 pub mod Elsewhere
+mod ItemsThere
 pub mod KeptStands
 mod Lowest
 mod NetNames
 mod NetTo
+mod NoMemory
 pub mod OpenBlocks
 pub mod OrderedWrites
 pub mod PutLeads
@@ -11,4 +14,5 @@ mod Quiet
 pub mod Runs
 pub mod SoundBases
 pub mod Standing
+mod Statements
 mod StoredRows

@@ -4,6 +4,7 @@ use Rattle.own_base.specs.declared.number.Place.{Place}
 use Rattle.own_model.specs.declared.bound.Bound.{Bound}
 use Rattle.own_model.specs.declared.bound.Bound.TheVariants.{Select}
 use Rattle.own_model.specs.Db.{Db}
+use Rattle.history_model.specs.HasWritten.{has_written}
 use Rattle.history_model.specs.World.{Standing, Outside, Open, Doomed}
 use Rattle.txn_core.specs.declared.kept.Kept.{Kept}
 use Rattle.txn_core.specs.declared.kept.Kept.TheVariants as kept
@@ -46,9 +47,9 @@ abbrev pub IsQuiet : Txn → Type 0
 IsQuiet txn = txn.wrote ≡ false → txn.space ≡ []
 
 -- What is kept stands for how a session stands on a flat database: nothing outside; in a transaction what it changed, which
--- stands for its block; and the place of its doom.
+-- stands for its block, and whether it has run a write; and the place of its doom.
 abbrev pub StandsAs : Db → Kept → Standing → Type 0
 StandsAs flat kept.Nothing Outside = Unit {0}
-StandsAs flat (kept.Open txn) (Open begun block) = StandsFor flat block txn.space × IsQuiet txn
+StandsAs flat (kept.Open txn) (Open begun block) = StandsFor flat block txn.space × IsQuiet txn × (txn.wrote ≡ true → has_written flat.schema block ≡ true)
 StandsAs flat (kept.Doomed place) (Doomed by) = place.0 ≡ by
 StandsAs flat _ _ = ⊥

@@ -31,7 +31,7 @@ fn select_from_view<V: StoreView>(
 
 /// The reply to a bound SELECT.
 #[tactic(auto, using(crate::proofs::BoundSelects::grouped_base))]
-pub(crate) fn select_reply<V: StoreView>(
+pub fn select_reply<V: StoreView>(
     alloc: Global,
     view: &V,
     query: &BoundSelect,

@@ -96,7 +96,7 @@ fn write_in<V: StoreView>(
 
 /// Runs a bound SELECT, INSERT, UPDATE or DELETE in a transaction: over the rows of a version with what the transaction
 /// changed, to which a write adds. The version is only read.
-pub fn run_in<V: StoreView>(
+pub(crate) fn run_in<V: StoreView>(
     alloc: Global,
     space: &mut Space,
     version: &V,

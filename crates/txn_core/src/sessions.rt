@@ -1,4 +1,4 @@
-ghost use Rattle.std.specs.Prelude.{◌≡◌, ◌≢◌, ◌≤◌, ◌+◌, ◌==◌, ◌&&◌, ℕ, [], false, length, not, IfOk, option_map};
+ghost use Rattle.std.specs.Prelude.{◌≡◌, ◌≢◌, ◌≤◌, ◌+◌, ◌==◌, ◌&&◌, ℕ, [], false, true, length, not, IfOk, option_map};
 ghost use Rattle.std.specs.List.{find};
 ghost use Rattle.own_model.specs.declared.limit.TheConstants.{SESSIONS as COUNT};
 ghost use Rattle.history_model.specs.Held.{others};
@@ -15,7 +15,7 @@ use std::mem::replace;
 
 /// What is kept of each session, which contracts see as a list by its number.
 #[derive(Drop)]
-pub struct Sessions {
+pub(crate) struct Sessions {
     kept: Vec<Kept>,
 }
 
@@ -45,7 +45,7 @@ fn nothing_kept(alloc: Global) -> Result<Vec<Kept>, AllocError>
 
 impl Sessions {
     /// Nothing is kept of any session.
-    pub fn new(alloc: Global) -> Result<Sessions, AllocError>
+    pub(crate) fn new(alloc: Global) -> Result<Sessions, AllocError>
         ensures { IfOk result (λ sessions. (session : ℕ) → kept_by sessions session ≡ Nothing) }
     {
         let kept = nothing_kept(alloc)?;
@@ -53,7 +53,7 @@ impl Sessions {
     }
 
     /// What is kept of a session. Takes no memory.
-    pub fn get(&self, session: SessionNo) -> &Kept
+    pub(crate) fn get(&self, session: SessionNo) -> &Kept
         requires { session.0 ≤ COUNT }
         ensures { result.now ≡ kept_by self.now session.0 }
     {
@@ -61,7 +61,7 @@ impl Sessions {
     }
 
     /// Puts something in place of what is kept of a session, which is given out. Takes no memory.
-    pub fn put(&mut self, session: SessionNo, kept: Kept) -> Kept
+    pub(crate) fn put(&mut self, session: SessionNo, kept: Kept) -> Kept
         requires { session.0 ≤ COUNT }
         ensures given { result ≡ kept_by self.old session.0 }
         ensures put { kept_by self.new session.0 ≡ kept }
@@ -71,11 +71,23 @@ impl Sessions {
     }
 
     /// Whether a transaction of a session is open. Takes no memory.
-    pub fn is_open(&self, session: SessionNo) -> bool
+    pub(crate) fn is_open(&self, session: SessionNo) -> bool
         requires { session.0 ≤ COUNT }
         ensures { result ≡ is_open (kept_by self.now session.0) }
     {
         matches!(self.get(session), Kept::Open(_))
+    }
+
+    /// The open transaction of a session. Takes no memory.
+    pub(crate) fn txn(&self, session: SessionNo) -> &Txn
+        requires session { session.0 ≤ COUNT }
+        requires open { is_open (kept_by self.now session.0) ≡ true }
+        ensures { kept_by self.now session.0 ≡ Open result.now }
+    {
+        match self.get(session) {
+            Kept::Open(txn) => txn,
+            Kept::Nothing | Kept::Doomed(_) => unreachable!(),
+        }
     }
 
     /// Whether a transaction of another session is open. Takes no memory.
@@ -87,7 +99,7 @@ impl Sessions {
     }
 
     /// The lowest other session with an open transaction. Takes no memory.
-    pub fn lowest_other(&self, session: SessionNo) -> Option<SessionNo>
+    pub(crate) fn lowest_other(&self, session: SessionNo) -> Option<SessionNo>
         ensures { option_map (λ other. other.0) result ≡ find (λ other. is_open (kept_by self.now other)) (others session.0) }
     {
         for number in 1..SESSIONS + 1 {
@@ -99,7 +111,7 @@ impl Sessions {
     }
 
     /// Opens a transaction of a session that is outside one. Takes no memory.
-    pub fn begin(&mut self, alloc: Global, session: SessionNo)
+    pub(crate) fn begin(&mut self, alloc: Global, session: SessionNo)
         requires session { session.0 ≤ COUNT }
         requires outside { kept_by self.old session.0 ≡ Nothing }
         ensures begun { kept_by self.new session.0 ≡ Open (record { space = []; wrote = false }) }
@@ -109,7 +121,7 @@ impl Sessions {
     }
 
     /// Ends the transaction of a session: what it changed is forgotten. Takes no memory.
-    pub fn finish(&mut self, session: SessionNo)
+    pub(crate) fn finish(&mut self, session: SessionNo)
         requires { session.0 ≤ COUNT }
         ensures outside { kept_by self.new session.0 ≡ Nothing }
         ensures others { (other : ℕ) → other ≢ session.0 → kept_by self.new other ≡ kept_by self.old other }
@@ -118,7 +130,7 @@ impl Sessions {
     }
 
     /// Gives the place of a session's doom, once. Takes no memory.
-    pub fn tell_doom(&mut self, session: SessionNo) -> Option<Place>
+    pub(crate) fn tell_doom(&mut self, session: SessionNo) -> Option<Place>
         requires { session.0 ≤ COUNT }
         ensures told { result ≡ doom_of (kept_by self.old session.0) }
         ensures once { kept_by self.new session.0 ≡ told (kept_by self.old session.0) }
@@ -135,7 +147,7 @@ impl Sessions {
     }
 
     /// Ends the transaction of a session by a FORGET at a place, where it is in one. Takes no memory.
-    pub fn strike(&mut self, session: SessionNo, place: Place)
+    pub(crate) fn strike(&mut self, session: SessionNo, place: Place)
         requires { session.0 ≤ COUNT }
         ensures struck { kept_by self.new session.0 ≡ struck place (kept_by self.old session.0) }
         ensures others { (other : ℕ) → other ≢ session.0 → kept_by self.new other ≡ kept_by self.old other }

@@ -36,7 +36,7 @@ fn net_of<V: StoreView>(
 
 /// A write outside a transaction: the reply to it, and the net of what it changes, by table, then key; or why it is refused
 /// as it runs. Where memory is refused, it is `Memory`. The view is only read.
-pub fn single<V: StoreView>(
+pub(crate) fn single<V: StoreView>(
     alloc: Global,
     view: &V,
     bound: &Bound,

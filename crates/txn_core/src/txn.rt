@@ -1,4 +1,6 @@
-ghost use Rattle.std.specs.Prelude.{◌≡◌, List as Seq, [], false, true, IfOk, OnErr};
+ghost use Rattle.std.specs.Prelude.{◌≡◌, ◌≢◌, ◌||◌, List as Seq, [], false, true, not, IfOk, OnErr};
+ghost use Rattle.own_model.specs.declared.refusal.Refusal.TheVariants.{Memory};
+ghost use Rattle.own_model.specs.declared.reply.Reply.TheVariants.{Refused};
 ghost use Rattle.own_model.specs.declared.schema.CreateText.{CreateText};
 ghost use Rattle.state_model.specs.Rows.{AreRowsOf};
 ghost use Rattle.txn_space.specs.Changed.{changed_rows};
@@ -11,7 +13,7 @@ ghost use Rattle.txn_core.specs.Runs.{HasRun, IsRowStatement, IsStore};
 ghost use Rattle.txn_core.specs.Single.{IsNetTo};
 
 use crate::running::run_in;
-use own_base::{Change, List};
+use own_base::{Change, List, MakeCopy};
 use own_model::{Bound, Reply, StoreView};
 use std::alloc::{AllocError, Global};
 use txn_space::Space;
@@ -28,6 +30,16 @@ fn is_select(bound: &Bound) -> bool
 pub struct Txn {
     pub space: Space,
     pub wrote: bool,
+}
+
+impl MakeCopy for Txn {
+    fn copy(&self, alloc: Global) -> Result<Txn, AllocError> {
+        let space = self.space.copy(alloc)?;
+        Ok(Txn {
+            space,
+            wrote: self.wrote,
+        })
+    }
 }
 
 impl Txn {
@@ -56,10 +68,33 @@ impl Txn {
         requires quiet { IsQuiet self.old }
         ensures ran { IfOk result (λ reply. (creates : Seq CreateText) → HasRun (db_of creates (V.schema_of version.now) (V.rows version.now)) bound.now self.old.space reply self.new.space) }
         ensures quiet { IsQuiet self.new }
+        ensures wrote { self.new.wrote ≡ (self.old.wrote || not (is_select bound.now)) }
         ensures unchanged { OnErr result (self.new.space ≡ self.old.space) }
     {
         self.wrote = self.wrote | !is_select(bound);
         run_in(alloc, &mut self.space, version, bound)
+    }
+
+    /// What such a statement replies, and what the transaction is after it; the transaction itself stays as it is.
+    pub(crate) fn run_in_copy<V: StoreView>(
+        &self,
+        alloc: Global,
+        version: &V,
+        bound: &Bound,
+    ) -> Result<(Reply, Txn), AllocError>
+        requires store { IsStore (V.schema_of version.now) (V.rows version.now) }
+        requires space { IsSpaceOf (V.schema_of version.now).tables self.now.space }
+        requires rows { AreRowsOf (V.schema_of version.now).tables (changed_rows (V.schema_of version.now).tables (V.rows version.now) self.now.space) }
+        requires bound { IsRowStatement (V.schema_of version.now) bound.now }
+        requires quiet { IsQuiet self.now }
+        ensures ran { IfOk result (λ after. (creates : Seq CreateText) → HasRun (db_of creates (V.schema_of version.now) (V.rows version.now)) bound.now self.now.space after.0 after.1.space) }
+        ensures quiet { IfOk result (λ after. IsQuiet after.1) }
+        ensures wrote { IfOk result (λ after. after.1.wrote ≡ (self.now.wrote || not (is_select bound.now))) }
+        ensures told { IfOk result (λ after. after.0 ≢ Refused Memory) }
+    {
+        let mut txn = self.copy(alloc)?;
+        let reply = txn.run(alloc, version, bound)?;
+        Ok((reply, txn))
     }
 
     /// What the transaction changes in a version: the net. Where it has run no write that takes no memory.

@@ -42,6 +42,14 @@ impl Model for Space {
     ghost view = { λ space. seen space.tables };
 }
 
+/// A copy shares all pages: it takes memory for a list of the tables alone.
+impl MakeCopy for Space {
+    fn copy(&self, alloc: Global) -> Result<Space, AllocError> {
+        let tables = self.tables.copy(alloc)?;
+        Ok(Space { tables })
+    }
+}
+
 impl Space {
     /// No change. Takes no memory.
     pub fn new(alloc: Global) -> Space

@@ -1,9 +1,6 @@
 use Rattle.std.proofs.Common.{◌∙◌, ap, refl, sym}
-use Rattle.own_model.specs.declared.schema.Schema.{Schema}
 use Rattle.own_model.specs.Db.{Db}
-use Rattle.commit_check.specs.Judged.{IsJudged}
 use Rattle.state_model.proofs.CreatedSchema.{owner_schema-created, within-created}
-use Rattle.engine_core.specs.Changed.{changed}
 use Rattle.engine_core.proofs.Judged.{bare-ordered, net-bare}
 use Rattle.engine_core.proofs.NoCreates.{fault-same, judged-same, weight-same}
 use Rattle.engine_core.proofs.commit.judged_by.Goals as goal

@@ -9,6 +9,6 @@ use Rattle.engine_core.proofs.Judged.{settled-none}
 use Rattle.engine_core.proofs.creating.checked.Goals as goal
 
 -- nothing else refuses a CREATE
-pub returns-in-Ok : goal.returns-in-Ok
-returns-in-Ok c = λ db.
-    subst (λ (cause : Option Refusal). Tells db (committing Took true cause Done) c.args.next c.settled.result) (settled-none (fault c.args.next)) (c.settled.ensures db true)
+pub returns-in-Ok-clause-tells : goal.returns-in-Ok-clause-tells
+returns-in-Ok-clause-tells c = λ db.
+    subst (λ (cause : Option Refusal). Tells db (committing Took true cause Done) c.args.next c.settled.result) (settled-none (fault c.args.next)) (c.settled.ensures.tells db true)

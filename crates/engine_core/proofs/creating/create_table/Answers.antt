@@ -18,14 +18,14 @@ use Rattle.engine_core.proofs.creating.create_table.Goals as goal
 pub admit-requires-clause-columns : goal.admit-requires-clause-columns
 admit-requires-clause-columns c = columns-few c.args.create.now (subst (IsWritten STATEMENT_BYTES) c.requires.of c.requires.written)
 
-pub returns-in-Err : goal.returns-in-Err
-returns-in-Err c =
+pub returns-in-Err-clause-tells : goal.returns-in-Err-clause-tells
+returns-in-Err-clause-tells c =
     let db = c.args.version.now in
     let create = c.args.create.now in
     IfOk-weaker c.refused.result _ _ (λ answer told.
-    let cause = c.in-Err.ensures.refused (λ memory. told.1.1 (c.into_refusal.ensures ∙ ap refusal_seen memory)) in
+    let cause = c.in-Err.ensures.refused (λ memory. told.3 (c.into_refusal.ensures ∙ ap refusal_seen memory)) in
     let is = subst (λ (schema : Schema). refusal_of schema (holds_rows db.rows) create ≡ Some (refusal_seen c.in-Err.fault)) c.catalog.ensures.schema cause in
-    tells-uncreated db create (refusal_seen c.in-Err.fault) answer is (told.0 ∙ ap (λ why. Refused why) c.into_refusal.ensures) told.1.0)
+    tells-uncreated db create (refusal_seen c.in-Err.fault) answer is (told.0 ∙ ap (λ why. Refused why) c.into_refusal.ensures) told.1)
     c.refused.ensures
 
 -- the table that is admitted is what the next version has more
@@ -39,12 +39,12 @@ checked-requires c =
     let made = next-table db next create c.in-Ok.admitted c.in-Ok-print_statement.text admitted text c.in_ok-prepare_table-in-Ok-print_statement.ensures in
     kept-table db next create c.requires.kept (subst (IsWritten STATEMENT_BYTES) c.requires.of c.requires.written) made
 
-pub returns-in_ok-prepare_table-in-Ok-print_statement : goal.returns-in_ok-prepare_table-in-Ok-print_statement
-returns-in_ok-prepare_table-in-Ok-print_statement c =
+pub returns-in_ok-prepare_table-in-Ok-print_statement-clause-tells : goal.returns-in_ok-prepare_table-in-Ok-print_statement-clause-tells
+returns-in_ok-prepare_table-in-Ok-print_statement-clause-tells c =
     let db = c.args.version.now in
     let create = c.args.create.now in
     let text = c.in-Ok-print_statement.ensures ∙ ap canonical c.requires.of in
     let admitted = subst (λ (schema : Schema). IsAdmitted schema (holds_rows db.rows) create c.in-Ok.admitted) c.catalog.ensures.schema c.in-Ok.ensures.admitted in
     let next = c.in_ok-prepare_table-in-Ok-print_statement.field-0 in
     let made = next-table db next create c.in-Ok.admitted c.in-Ok-print_statement.text admitted text c.in_ok-prepare_table-in-Ok-print_statement.ensures in
-    IfOk-weaker c.checked.result _ _ (λ answer told. tells-created db next (create_table db create) answer made told) c.checked.ensures
+    IfOk-weaker c.checked.result _ _ (λ answer told. tells-created db next (create_table db create) answer made told) c.checked.ensures.tells

@@ -18,10 +18,10 @@ bind_view-requires-clause-items c = view_within c.args.create.now (subst (IsWrit
 pub prepare_view-requires : goal.prepare_view-requires
 prepare_view-requires c = view-room c.args.version.now.schema c.args.create.now c.in-Ok.definition (rw (c.schema.ensures.same, c.catalog.ensures.schema) at c.in-Ok.ensures.ok)
 
-pub returns-in-Err : goal.returns-in-Err
-returns-in-Err c =
+pub returns-in-Err-clause-tells : goal.returns-in-Err-clause-tells
+returns-in-Err-clause-tells c =
     IfOk-weaker c.refused.result _ _ (λ answer is.
-    tells-unviewed c.args.version.now c.args.create.now c.in-Err.why answer (rw (c.schema.ensures.same, c.catalog.ensures.schema) at (c.in-Err.ensures.err is.1.1)) is.0 is.1.0)
+    tells-unviewed c.args.version.now c.args.create.now c.in-Err.why answer (rw (c.schema.ensures.same, c.catalog.ensures.schema) at (c.in-Err.ensures.err is.3)) is.0 is.1)
     c.refused.ensures
 
 -- the view that is bound is what the next version has more
@@ -35,12 +35,12 @@ checked-requires c =
     let made = next-view db next create c.in-Ok.definition c.in-Ok-print_statement.text is text c.in_ok-prepare_view-in-Ok-print_statement.ensures in
     kept-view db next create c.requires.kept (subst (IsWritten STATEMENT_BYTES) c.requires.of c.requires.written) made
 
-pub returns-in_ok-prepare_view-in-Ok-print_statement : goal.returns-in_ok-prepare_view-in-Ok-print_statement
-returns-in_ok-prepare_view-in-Ok-print_statement c =
+pub returns-in_ok-prepare_view-in-Ok-print_statement-clause-tells : goal.returns-in_ok-prepare_view-in-Ok-print_statement-clause-tells
+returns-in_ok-prepare_view-in-Ok-print_statement-clause-tells c =
     let db = c.args.version.now in
     let create = c.args.create.now in
     let text = c.in-Ok-print_statement.ensures ∙ ap canonical c.requires.of in
     let is = rw (c.schema.ensures.same, c.catalog.ensures.schema) at c.in-Ok.ensures.ok in
     let next = c.in_ok-prepare_view-in-Ok-print_statement.field-0 in
     let made = next-view db next create c.in-Ok.definition c.in-Ok-print_statement.text is text c.in_ok-prepare_view-in-Ok-print_statement.ensures in
-    IfOk-weaker c.checked.result _ _ (λ answer told. tells-created db next (add_view db create) answer made told) c.checked.ensures
+    IfOk-weaker c.checked.result _ _ (λ answer told. tells-created db next (add_view db create) answer made told) c.checked.ensures.tells

@@ -1,5 +1,6 @@
 use Rattle.std.proofs.Common.{true}
 use Rattle.state_model.proofs.CreatedSchema.{owner_schema-created, within-created}
+use Rattle.engine_core.proofs.Erased.{erases-forgotten, forgot-accepted, tells-erasing}
 use Rattle.engine_core.proofs.Forgotten.{erased-sound, few-erased, lent-there, planned-next, tells-forgotten}
 use Rattle.engine_core.proofs.subjects.forget.Goals as goal
 
@@ -12,22 +13,36 @@ erase_changes-requires-clause-owner c = owner_schema-created c.args.version.now 
 pub forgotten-reply-requires : goal.forgotten-reply-requires
 forgotten-reply-requires c =
     let db = c.args.version.now in
-    rw c.items-2.ensures (few-erased db c.args.subject.now.0 c.in_ok-changes.changes c.requires.sound.faultless (c.in_ok-changes.ensures.plan db.creates))
+    rw c.items-3.ensures (few-erased db c.args.subject.now.0 c.in_ok-changes.changes c.requires.sound.faultless (c.in_ok-changes.ensures.plan db.creates))
 
 pub judged-requires : goal.judged-requires
 judged-requires c =
     let db = c.args.version.now in
     let subject = c.args.subject.now.0 in
-    let is = planned-next db c.in_ok-next.next subject c.items.result.now c.in_ok-changes.changes c.in_ok-next.ensures c.items.ensures (c.in_ok-changes.ensures.applied db.creates) in
+    let is = planned-next db c.in_ok-next.next subject c.items-2.result.now c.in_ok-changes.changes c.in_ok-next.ensures c.items-2.ensures (c.in_ok-changes.ensures.applied db.creates) in
     (erased-sound db c.in_ok-next.next subject c.requires.subject c.requires.sound is).kept
 
-pub returns-in-Ok : goal.returns-in-Ok
-returns-in-Ok c =
+-- it is told with its counts
+told : goal.returns-in-Ok-clause-tells
+told c =
     let db = c.args.version.now in
     let subject = c.args.subject.now.0 in
     let next = c.in_ok-next.next in
-    let is = planned-next db next subject c.items.result.now c.in_ok-changes.changes c.in_ok-next.ensures c.items.ensures (c.in_ok-changes.ensures.applied db.creates) in
+    let is = planned-next db next subject c.items-2.result.now c.in_ok-changes.changes c.in_ok-next.ensures c.items-2.ensures (c.in_ok-changes.ensures.applied db.creates) in
     let sound = erased-sound db next subject c.requires.subject c.requires.sound is in
     let there = lent-there db subject c.row.result c.row.ensures c.if-is_none.ensures in
-    let counted = rw c.items-2.ensures at c.forgotten-reply.ensures in
-    tells-forgotten db next subject c.in_ok-changes.changes c.forgotten-reply.result c.settled.result there is sound.faultless (c.in_ok-changes.ensures.plan db.creates) counted (c.settled.ensures db true)
+    let counted = rw c.items-3.ensures at c.forgotten-reply.ensures in
+    tells-erasing db _ _ c.settled.result c.erasing.result c.erasing.ensures.reply c.erasing.ensures.next
+    (tells-forgotten db next subject c.in_ok-changes.changes c.forgotten-reply.result c.settled.result there is sound.faultless (c.in_ok-changes.ensures.plan db.creates) counted (c.settled.ensures.tells db true))
+
+pub returns-in-Ok-clause-tells : goal.returns-in-Ok-clause-tells
+returns-in-Ok-clause-tells c = told c
+
+-- and names what it removes and changes
+pub returns-in-Ok-clause-erases : goal.returns-in-Ok-clause-erases
+returns-in-Ok-clause-erases c =
+    let db = c.args.version.now in
+    let there = lent-there db c.args.subject.now.0 c.row.result c.row.ensures c.if-is_none.ensures in
+    erases-forgotten db c.args.subject.now c.in_ok-changes.changes c.in_ok-names.names c.erasing.result (c.in_ok-changes.ensures.plan db.creates)
+    (rw c.items.ensures at c.in_ok-names.ensures) c.erasing.ensures.erased
+    (forgot-accepted db _ c.args.subject.now.0 c.erasing.result there (told c))

@@ -1,12 +1,12 @@
-use Rattle.transcript_model.proofs.BuiltStatements.{comes}
+use Rattle.history_model.proofs.BuiltRequests.{comes}
 use Rattle.store_top.proofs.Calls.{leaves-call, makes-call}
 use Rattle.store_top.proofs.steps.lines_of_call.Goals as goal
 
 pub step-requires-clause-readable : goal.step-requires-clause-readable
-step-requires-clause-readable g c = rw c.built.ensures (comes c.args.call.session.0 c.args.call.request c.requires.readable).readable
+step-requires-clause-readable g c = rw c.built.ensures (comes c.args.call.request c.requires.readable).readable
 
 pub step-requires-clause-built : goal.step-requires-clause-built
-step-requires-clause-built g c = rw c.built.ensures (comes c.args.call.session.0 c.args.call.request c.requires.readable).same
+step-requires-clause-built g c = rw c.built.ensures (comes c.args.call.request c.requires.readable).same
 
 pub returns-in-Answered-clause-makes : goal.returns-in-Answered-clause-makes
 returns-in-Answered-clause-makes g c =

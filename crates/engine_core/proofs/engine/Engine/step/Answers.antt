@@ -1,12 +1,44 @@
-use Rattle.transcript_model.proofs.PlainHistories.{serial-plain}
-use Rattle.engine_core.proofs.Standing.{built-request}
+use Rattle.std.proofs.Common.{◌∙◌, ap, arith, refl, subst}
+use Rattle.own_model.specs.declared.history.Entry.{Entry}
+use Rattle.own_model.specs.Db.{empty}
+use Rattle.history_model.specs.History.{world}
+use Rattle.history_model.specs.MayBeUnmade.{MayBeUnmadeFrom}
+use Rattle.history_model.proofs.EveryHistory.{serial-empty}
+use Rattle.engine_core.specs.Made.{IsMade}
+use Rattle.engine_core.specs.Seen.{disk_of, entry as made, history_of, spare_of}
+use Rattle.engine_core.proofs.Standing.{built-request, history-after, leaves-of, makes-of}
 use Rattle.engine_core.proofs.engine.Engine.step.Goals as goal
+use Rattle.engine_core.proofs.engine.Engine.step.Goals.{in-Err, in-Ok}
 
-pub prepared-requires-clause-built : goal.prepared-requires-clause-built
-prepared-requires-clause-built g c = built-request c.args.session.0 c.args.request c.requires.built
+pub make-requires : goal.make-requires
+make-requires g c = record {
+  event = record {
+    entries = c.self.invariant.0;
+    stands = c.self.invariant.1;
+    is_entry = record { readable = c.requires.readable; first = c.requires.first; last = c.requires.last };
+    took = refl;
+    built = built-request c.args.request c.requires.built;
+  };
+}
 
-pub returns-in-Ok-clause-serial : goal.returns-in-Ok-clause-serial
-returns-in-Ok-clause-serial g c = serial-plain _ c.make-reply.ensures.plain
+pub returns-clause-steps : goal.returns-clause-steps
+returns-clause-steps g c =
+    let same = ap history_of c.self.view_is in
+    let spare = ap spare_of c.self.view_is in
+    let entry : Entry = made c.args.session c.args.call c.args.request in
+    elim c.match-make.branch [
+      | in-Ok w ↦ rw w.result-is
+          (makes-of c.args.self.now _ c.make.new.state entry w.in-Ok.place.0 w.in-Ok.reply
+          (subst (λ history. IsMade history c.make.new.history.items c.make.new.state entry w.in-Ok.place.0 w.in-Ok.reply) same w.in-Ok.ensures.made)
+          (let room = c.make.ensures.room in omega arith) (ap disk_of c.self.view_is))
+      | in-Err w ↦ rw w.result-is
+          (leaves-of c.args.self.now _ entry (w.in-Err.ensures.unmade.0 ∙ same) (let room = w.in-Err.ensures.room_left in omega arith) (ap disk_of c.self.view_is)
+          (λ some. subst (λ history. MayBeUnmadeFrom (world empty history).flat.schema ((world empty history).standing c.args.session.0) c.args.request) same
+          (w.in-Err.ensures.spared (omega arith))))
+    ]
 
-pub returns-in-Err-clause-serial : goal.returns-in-Err-clause-serial
-returns-in-Err-clause-serial g c = rw c.prepared.ensures.history (serial-plain _ c.prepared.ensures.plain)
+pub returns-clause-serial : goal.returns-clause-serial
+returns-clause-serial g c =
+    serial-empty c.make.new.history.items
+    (history-after c.self.inside.history.items c.make.new.history.items c.make.new.state _ c.make.result c.self.invariant.0
+    (record { readable = c.requires.readable; first = c.requires.first; last = c.requires.last }) c.make.ensures.made c.make.ensures.unmade).0

@@ -1,0 +1,119 @@
+-- Entries that leave the flat database and doom nobody.
+use Rattle.std.proofs.Common.{◌≡◌, ◌∙◌, ◌==◌, ℕ, length, Bool, true, false, ap, refl, subst, sym}
+use Rattle.std.proofs.lemmas.Bool.{eqb-false, eqb-true}
+use Rattle.own_model.specs.declared.history.Entry.{Entry}
+use Rattle.own_model.specs.declared.refusal.Refusal.{Refusal}
+use Rattle.own_model.specs.declared.reply.Reply.{Reply}
+use Rattle.own_model.specs.declared.reply.Reply.TheVariants.{Refused}
+use Rattle.own_model.specs.Db.{Db, empty}
+use Rattle.state_model.specs.Weight.{weight}
+use Rattle.history_model.specs.Held.{held, items_held}
+use Rattle.history_model.specs.History.{History, dooms, flat_after, happens, own_after, world}
+use Rattle.history_model.specs.Reply.{answer, is_refusal}
+use Rattle.history_model.specs.World.{Standing, World}
+use Rattle.history_model.proofs.DoomLemmas.{refused-dooms}
+use Rattle.row_locks.specs.Kept.{kept_by as held_by}
+use Rattle.row_locks.specs.Stands.{StandFor}
+use Rattle.txn_core.specs.Kept.{StandsAs, kept_by}
+use Rattle.txn_core.specs.Transactions.{AreOthersSame, AreSame, Transactions}
+use Rattle.engine_core.specs.Standing.{IsEvent, StandsIn}
+use Rattle.engine_core.specs.declared.state.State.{State}
+use Rattle.engine_core.proofs.NextWorlds.{stands-next}
+
+-- what is the same of all sessions is the same of the others
+pub others-same : (session : ℕ) (before after : Transactions) → AreSame before after → AreOthersSame session before after
+others-same session before after same = record { kept = λ other differs. same.kept other; held = λ other differs. same.held other }
+
+-- what isn't touched is the same
+pub none-moved : (txns : Transactions) → AreSame txns txns
+none-moved txns = record { kept = λ session. refl; held = λ session. refl }
+
+-- and what is the same of one and of the others is the same of all
+pub all-same : (session : ℕ) (before after : Transactions) → AreOthersSame session before after → kept_by after.kept session ≡ kept_by before.kept session
+    → held_by after.held session ≡ held_by before.held session → AreSame before after
+all-same session before after others kept held = record {
+  kept = λ one. kept_at one (one == session) refl;
+  held = λ one. held_at one (one == session) refl;
+}
+  where
+    kept_at : (one : ℕ) (b : Bool) → (one == session) ≡ b → kept_by after.kept one ≡ kept_by before.kept one
+    kept_at one true same = subst (λ n. kept_by after.kept n ≡ kept_by before.kept n) (sym (eqb-true one session same)) kept
+    kept_at one false apart = others.kept one (eqb-false one session apart)
+
+    held_at : (one : ℕ) (b : Bool) → (one == session) ≡ b → held_by after.held one ≡ held_by before.held one
+    held_at one true same = subst (λ n. held_by after.held n ≡ held_by before.held n) (sym (eqb-true one session same)) held
+    held_at one false apart = others.held one (eqb-false one session apart)
+
+-- the state stands for the same world where the same is kept
+pub stands-kept : (before after : State) (world : World) → after.version ≡ before.version → after.weighs ≡ before.weighs → AreSame before.txns after.txns
+    → StandsIn before world → StandsIn after world
+stands-kept before after world version weighs same stands = record {
+  flat = version ∙ stands.flat;
+  weighs = ap weight version ∙ (stands.weighs ∙ sym weighs);
+  up = stands.up;
+  kept = λ session. subst (λ one. StandsAs world.flat one (world.standing session)) (sym (same.kept session)) (stands.kept session);
+  held = λ session. subst (λ items. StandFor items (held world session)) (sym (same.held session)) (stands.held session);
+}
+
+-- so an entry may come behind it as before
+pub event-kept : (history : History) (entry : Entry) (before after : State) → after.version ≡ before.version → after.weighs ≡ before.weighs → AreSame before.txns after.txns
+    → IsEvent before history entry → IsEvent after history entry
+event-kept history entry before after version weighs same event = record {
+  entries = event.entries;
+  stands = stands-kept before after (world empty history) version weighs same event.stands;
+  is_entry = event.is_entry;
+  took = event.took;
+  built = event.built;
+}
+
+module _ (history : History) (entry : Entry) (before after : State) (event : IsEvent before history entry) where
+  abbrev now : World
+  now = world empty history
+
+  abbrev told : Reply
+  told = answer now entry
+
+  pub stands-calm : (stood : Standing) → after.version ≡ before.version → after.weighs ≡ before.weighs → AreOthersSame entry.session.0 before.txns after.txns
+      → flat_after (world empty history) entry (answer (world empty history) entry) ≡ (world empty history).flat
+      → ((other : ℕ) → dooms (world empty history) entry (answer (world empty history) entry) other ≡ false)
+      → own_after (world empty history) entry (answer (world empty history) entry) ≡ stood
+      → StandsAs (world empty history).flat (kept_by after.txns.kept entry.session.0) stood
+      → StandFor (held_by after.txns.held entry.session.0) (items_held (world empty history).flat.schema stood)
+      → StandsIn after (happens (world empty history) entry)
+  stands-calm stood version weighs others calm undoomed stands kept holds =
+      let is = event.stands in
+      stands-next history entry event.entries event.is_entry event.took before is after (record { 0 = length history }) refl
+      (version ∙ (is.flat ∙ sym calm)) (ap weight version ∙ (is.weighs ∙ sym weighs))
+      (subst (λ db. StandsAs db (kept_by after.txns.kept entry.session.0) (own_after now entry told)) (sym calm)
+      (subst (λ stood. StandsAs now.flat (kept_by after.txns.kept entry.session.0) stood) (sym stands) kept))
+      (subst (λ (db : Db). StandFor (held_by after.txns.held entry.session.0) (items_held db.schema (own_after now entry told))) (sym calm)
+      (subst (λ stood. StandFor (held_by after.txns.held entry.session.0) (items_held now.flat.schema stood)) (sym stands) holds))
+      (λ other differs. record {
+        kept = rw (undoomed other) (others.kept other differs);
+        held = rw (undoomed other) (others.held other differs);
+      })
+
+  -- a refusal does both
+  module _ (why : Refusal) (is : answer (world empty history) entry ≡ Refused why) where
+    refusal : is_refusal told ≡ true
+    refusal = ap is_refusal is
+
+    calm : flat_after now entry told ≡ now.flat
+    calm = rw refusal refl
+
+    pub stands-refused : (stood : Standing) → after.version ≡ before.version → after.weighs ≡ before.weighs → AreOthersSame entry.session.0 before.txns after.txns
+        → own_after (world empty history) entry (answer (world empty history) entry) ≡ stood
+        → StandsAs (world empty history).flat (kept_by after.txns.kept entry.session.0) stood
+        → StandFor (held_by after.txns.held entry.session.0) (items_held (world empty history).flat.schema stood)
+        → StandsIn after (happens (world empty history) entry)
+    stands-refused stood version weighs others = stands-calm stood version weighs others calm (λ other. refused-dooms now entry told other refusal)
+
+    -- and where its session stands as it did the state is the same
+    pub stands-unmoved : after.version ≡ before.version → after.weighs ≡ before.weighs → AreSame before.txns after.txns
+        → own_after (world empty history) entry (answer (world empty history) entry) ≡ (world empty history).standing entry.session.0
+        → StandsIn after (happens (world empty history) entry)
+    unfolding held
+    stands-unmoved version weighs same stays =
+        let now_after = stands-kept before after now version weighs same event.stands in
+        stands-refused (now.standing entry.session.0) version weighs (others-same entry.session.0 before.txns after.txns same) stays
+        (now_after.kept entry.session.0) (now_after.held entry.session.0)

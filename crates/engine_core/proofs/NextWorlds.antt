@@ -1,0 +1,169 @@
+-- After an entry the state stands for the next world.
+use Rattle.std.proofs.Common.{◌≡◌, ◌∙◌, ◌==◌, ℕ, [], length, Bool, true, false, ap, refl, subst, sym}
+use Rattle.std.specs.Prelude.{if◌then◌else◌}
+use Rattle.std.proofs.lemmas.Bool.{eqb-false, eqb-true, ne_eqb}
+use Rattle.own_base.specs.declared.number.Place.{Place}
+use Rattle.own_model.specs.declared.history.Entry.{Entry}
+use Rattle.own_model.specs.declared.history.Verdict.TheVariants.{Took}
+use Rattle.own_model.specs.declared.reply.Reply.{Reply}
+use Rattle.own_model.specs.declared.schema.Schema.{Schema}
+use Rattle.own_model.specs.Db.{Db, empty}
+use Rattle.state_model.specs.Sound.{Sound}
+use Rattle.state_model.specs.Weight.{weight}
+use Rattle.state_model.proofs.KeptLemmas.{sound-empty}
+use Rattle.run_model.specs.Agree.{Agree}
+use Rattle.history_model.specs.HasWritten.{has_written}
+use Rattle.history_model.specs.Held.{held, is_open, items_held}
+use Rattle.history_model.specs.History.{History, after_request, doomed_at, dooms, flat, flat_after, happens, is_conflict, other_after, own_after, standing, world}
+use Rattle.history_model.specs.Reply.{answer, reply_in}
+use Rattle.history_model.specs.Serial.{IsEntry, IsHistory}
+use Rattle.history_model.specs.World.{Standing, Outside, Open, Doomed, World}
+use Rattle.history_model.proofs.EveryHistory.{serial-world}
+use Rattle.history_model.proofs.HistoryLemmas.{place-world, reply-last}
+use Rattle.history_model.proofs.SerialLemmas.{held-kept, serial-step}
+use Rattle.history_model.proofs.Working.{answer-works, up-after}
+use Rattle.history_model.proofs.Worlds.{IsSerialWorld}
+use Rattle.row_locks.specs.Kept.{kept_by as held_by}
+use Rattle.row_locks.specs.Stands.{StandFor}
+use Rattle.row_locks.proofs.Holders.{stand-same}
+use Rattle.txn_core.specs.declared.kept.Kept.{Kept}
+use Rattle.txn_core.specs.declared.kept.Kept.TheVariants as kept
+use Rattle.txn_core.specs.Kept.{StandsAs, kept_by, struck}
+use Rattle.txn_core.proofs.KeptStands.{stands_struck}
+use Rattle.txn_core.proofs.OpenBlocks.{stands_elsewhere}
+use Rattle.engine_core.specs.Standing.{StandsIn}
+use Rattle.engine_core.specs.declared.state.State.{State}
+
+module _ (history : History) (entry : Entry) (entered : IsHistory history) (is_entry : IsEntry entry) (took : entry.verdict ≡ Took)
+    (before : State) (stands : StandsIn before (world empty history)) where
+  abbrev now : World
+  now = world empty history
+
+  abbrev session : ℕ
+  session = entry.session.0
+
+  abbrev told : Reply
+  told = answer now entry
+
+  abbrev next_flat : Db
+  next_flat = flat_after now entry told
+
+  is_serial : IsSerialWorld empty history now
+  is_serial = serial-world empty history sound-empty entered
+
+  -- nothing is wrong with the state, before it and behind it
+  pub sound-now : Sound (world empty history).flat
+  sound-now = is_serial.sound
+
+  pub sound-next : Sound (flat_after (world empty history) entry (answer (world empty history) entry))
+  sound-next = (serial-step empty history now is_serial entry is_entry told (reply-last empty history entry) refl).sound
+
+  -- what it is answered, by how its session stands
+  pub answer-in : answer (world empty history) entry ≡ reply_in (world empty history) entry.session.0 Took ((world empty history).standing entry.session.0) entry.request
+  unfolding answer
+  answer-in = rw (stands.up, took) refl
+
+  -- and how its session stands then
+  pub own-in : own_after (world empty history) entry (answer (world empty history) entry)
+      ≡ after_request (world empty history).place ((world empty history).standing entry.session.0) entry.request (is_conflict (answer (world empty history) entry))
+  own-in = rw (answer-works now entry took stands.up) refl
+
+  module _ (other : ℕ) (differs : other ≡ entry.session.0 → ⊥) where
+    apart : (other == session) ≡ false
+    apart = ne_eqb other session differs
+
+    -- another session that isn't doomed stands as it did
+    module _ (undoomed : dooms now entry told other ≡ false) where
+      same_standing : (happens now entry).standing other ≡ now.standing other
+      same_standing = rw (apart, undoomed) refl
+
+      agree : is_open (now.standing other) ≡ true → Agree (held now other) now.flat next_flat
+      agree opened = held-kept empty history now is_serial entry is_entry told (reply-last empty history entry) refl other (ap is_open same_standing ∙ opened)
+
+      stands_still : (one : Kept) (stood : Standing) → now.standing other ≡ stood → StandsAs now.flat one stood → StandsAs next_flat one stood
+      unfolding flat standing
+      stands_still kept.Nothing Outside is stood = tt
+      stands_still (kept.Open txn) (Open begun block) is stood =
+          let same = agree (ap is_open is) in (
+            stands_elsewhere empty history sound-empty entered other begun block is txn.space stood.0 next_flat sound-next same,
+            stood.1,
+            λ wrote. ap (λ schema. has_written schema block) (sym same.schema) ∙ stood.2 wrote,
+          )
+      stands_still (kept.Doomed place) (Doomed by) is stood = stood
+      stands_still kept.Nothing (Open begun block) is stood = absurd stood
+      stands_still kept.Nothing (Doomed by) is stood = absurd stood
+      stands_still (kept.Open txn) Outside is stood = absurd stood
+      stands_still (kept.Open txn) (Doomed by) is stood = absurd stood
+      stands_still (kept.Doomed place) Outside is stood = absurd stood
+      stands_still (kept.Doomed place) (Open begun block) is stood = absurd stood
+
+      -- and holds what it held
+      holds_still : (stood : Standing) → now.standing other ≡ stood → items_held next_flat.schema stood ≡ items_held now.flat.schema stood
+      holds_still Outside is = refl
+      holds_still (Open begun block) is = ap (λ schema. items_held schema (Open begun block)) (sym (agree (ap is_open is)).schema)
+      holds_still (Doomed by) is = refl
+
+      kept_still : StandsAs next_flat (kept_by before.txns.kept other) (now.standing other)
+      kept_still = stands_still (kept_by before.txns.kept other) (now.standing other) refl (stands.kept other)
+
+      held_still : StandFor (held_by before.txns.held other) (items_held next_flat.schema (now.standing other))
+      unfolding held
+      held_still = subst (λ items. StandFor (held_by before.txns.held other) items) (sym (holds_still (now.standing other) refl)) (stands.held other)
+
+    -- one that is doomed holds nothing
+    none_held : (schema : Schema) (place : ℕ) (stood : Standing) → items_held schema (doomed_at place stood) ≡ []
+    none_held schema place Outside = refl
+    none_held schema place (Open begun block) = refl
+    none_held schema place (Doomed by) = refl
+
+  -- what is kept of another session behind the entry: it is struck where it is doomed, else it is as it was
+  pub record IsLeft (place : Place) (after : State) (other : ℕ) : Type 0 where
+    pub kept : kept_by after.txns.kept other
+        ≡ (if dooms (world empty history) entry (answer (world empty history) entry) other then struck place (kept_by before.txns.kept other) else kept_by before.txns.kept other)
+    pub held : held_by after.txns.held other ≡ (if dooms (world empty history) entry (answer (world empty history) entry) other then [] else held_by before.txns.held other)
+
+  module _ (after : State) (place : Place) (at : place.0 ≡ length history) (version : after.version ≡ flat_after (world empty history) entry (answer (world empty history) entry))
+      (weighs : weight after.version ≡ after.weighs)
+      (own_kept : StandsAs (flat_after (world empty history) entry (answer (world empty history) entry)) (kept_by after.txns.kept entry.session.0)
+      (own_after (world empty history) entry (answer (world empty history) entry)))
+      (own_held : StandFor (held_by after.txns.held entry.session.0) (items_held (flat_after (world empty history) entry (answer (world empty history) entry)).schema
+      (own_after (world empty history) entry (answer (world empty history) entry))))
+      (others : (other : ℕ) → (other ≡ entry.session.0 → ⊥) → IsLeft place after other) where
+    here : place.0 ≡ now.place
+    here = at ∙ sym (place-world empty history)
+
+    -- of another session
+    kept_by_doom : (other : ℕ) (differs : other ≡ session → ⊥) (b : Bool) → dooms now entry told other ≡ b
+        → StandsAs next_flat (if b then struck place (kept_by before.txns.kept other) else kept_by before.txns.kept other) (if b then doomed_at now.place (now.standing other) else now.standing other)
+    kept_by_doom other differs true doomed =
+        subst (λ n. StandsAs next_flat (struck place (kept_by before.txns.kept other)) (doomed_at n (now.standing other))) here
+        (stands_struck now.flat next_flat place (kept_by before.txns.kept other) (now.standing other) (stands.kept other))
+    kept_by_doom other differs false undoomed = kept_still other differs undoomed
+
+    held_by_doom : (other : ℕ) (differs : other ≡ session → ⊥) (b : Bool) → dooms now entry told other ≡ b
+        → StandFor (if b then [] else held_by before.txns.held other) (items_held next_flat.schema (if b then doomed_at now.place (now.standing other) else now.standing other))
+    held_by_doom other differs true doomed = rw (none_held other differs next_flat.schema now.place (now.standing other)) (stand-same [])
+    held_by_doom other differs false undoomed = held_still other differs undoomed
+
+    kept_at : (one : ℕ) (b : Bool) → (one == session) ≡ b → StandsAs next_flat (kept_by after.txns.kept one) (if b then own_after now entry told else other_after now entry told one)
+    kept_at one true same = subst (λ n. StandsAs next_flat (kept_by after.txns.kept n) (own_after now entry told)) (sym (eqb-true one session same)) own_kept
+    kept_at one false apart =
+        let differs = eqb-false one session apart in
+        subst (λ found. StandsAs next_flat found (other_after now entry told one)) (sym (others one differs).kept) (kept_by_doom one differs (dooms now entry told one) refl)
+
+    held_at : (one : ℕ) (b : Bool) → (one == session) ≡ b
+        → StandFor (held_by after.txns.held one) (items_held next_flat.schema (if b then own_after now entry told else other_after now entry told one))
+    held_at one true same = subst (λ n. StandFor (held_by after.txns.held n) (items_held next_flat.schema (own_after now entry told))) (sym (eqb-true one session same)) own_held
+    held_at one false apart =
+        let differs = eqb-false one session apart in
+        subst (λ found. StandFor found (items_held next_flat.schema (other_after now entry told one))) (sym (others one differs).held) (held_by_doom one differs (dooms now entry told one) refl)
+
+    pub stands-next : StandsIn after (happens (world empty history) entry)
+    unfolding held
+    stands-next = record {
+      flat = version;
+      weighs = weighs;
+      up = up-after now entry took stands.up;
+      kept = λ one. kept_at one (one == session) refl;
+      held = λ one. held_at one (one == session) refl;
+    }

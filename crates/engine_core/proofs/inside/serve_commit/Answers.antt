@@ -1,0 +1,27 @@
+use Rattle.std.proofs.Common.{refl}
+use Rattle.engine_core.proofs.CommitEvents.{kept-committed, net-committed, serves-commit}
+use Rattle.engine_core.proofs.OpenStates.{base-event, sound-event}
+use Rattle.engine_core.proofs.inside.serve_commit.Goals as goal
+
+pub changes-requires-clause-base : goal.changes-requires-clause-base
+changes-requires-clause-base c = base-event c.args.history.now c.args.entry.now c.args.state.now c.requires.event
+
+pub commit-answer-requires-clause-sound : goal.commit-answer-requires-clause-sound
+commit-answer-requires-clause-sound c = sound-event c.args.history.now c.args.entry.now c.args.state.now c.requires.event
+
+pub commit-answer-requires-clause-net : goal.commit-answer-requires-clause-net
+commit-answer-requires-clause-net c =
+    rw c.items.ensures
+    (net-committed c.args.history.now c.args.entry.now c.args.state.now c.requires.event c.requires.open c.requires.asks c.in_ok-changes.changes c.in_ok-changes.ensures.net)
+
+pub commit-answer-requires-clause-kept : goal.commit-answer-requires-clause-kept
+commit-answer-requires-clause-kept c =
+    rw c.items.ensures
+    (kept-committed c.args.history.now c.args.entry.now c.args.state.now c.requires.event c.requires.open c.requires.asks c.in_ok-changes.changes c.in_ok-changes.ensures.net)
+
+pub returns : goal.returns
+returns c =
+    rw c.settle-reply.ensures.told
+    (serves-commit c.args.history.now c.args.entry.now c.args.state.now c.requires.event c.requires.open c.requires.asks c.in_ok-changes.changes c.in_ok-changes.ensures.net c.in_ok-answer.answer
+    (rw (← c.items.ensures) c.in_ok-answer.ensures.tells) _ refl c.settle-reply.new.state _ c.settle-reply.ensures.version c.settle-reply.ensures.weighs c.in_ok-answer.ensures.nothing
+    c.settle-reply.ensures.doomed refl refl c.finish.ensures.others c.finish.ensures.outside c.finish.ensures.free)

@@ -1,0 +1,37 @@
+use Rattle.std.proofs.Common.{◌∙◌, ap, inl, inr, refl}
+use Rattle.own_model.specs.declared.request.Request.TheVariants.{Run}
+use Rattle.own_model.specs.declared.statement.Statement.{Statement}
+use Rattle.engine_core.proofs.CalmEvents.{none-moved}
+use Rattle.engine_core.proofs.OpenStates.{sound-event, written-event}
+use Rattle.engine_core.proofs.OutsideReplies.{runs-itself}
+use Rattle.engine_core.proofs.PromptEvents.{serves-begin, serves-commit_outside, serves-rollback_outside}
+use Rattle.engine_core.proofs.SettledEvents.{serves-outside}
+use Rattle.engine_core.proofs.outside.serve_outside.Goals as goal
+
+pub returns-in-Begin : goal.returns-in-Begin
+returns-in-Begin c =
+    serves-begin c.args.history.now c.args.entry.now c.args.state.now _ c.requires.event refl refl c.requires.outside
+    (c.requires.asks ∙ ap (λ (asked : Statement). Run asked) c.in-Begin.is) c.begin.ensures.others c.begin.ensures.begun c.begin.ensures.held
+
+pub answer-requires : goal.answer-requires
+answer-requires c = record {
+  sound = sound-event c.args.history.now c.args.entry.now c.args.state.now c.requires.event;
+  stands = c.requires.event.stands;
+  written = written-event c.args.history.now c.args.entry.now c.args.state.now c.args.statement.now c.requires.event c.requires.asks;
+  itself = runs-itself c.args.statement.now c.requires.built c.in_default.not-Begin c.in_default.not-Commit c.in_default.not-Rollback;
+}
+
+pub returns-in_ok-answer-in_default : goal.returns-in_ok-answer-in_default
+returns-in_ok-answer-in_default c =
+    rw c.settle.ensures.told
+    (serves-outside c.args.history.now c.args.entry.now c.args.state.now c.settle.new.state c.requires.event _ refl c.args.statement.now c.requires.asks
+    (runs-itself c.args.statement.now c.requires.built c.in_default.not-Begin c.in_default.not-Commit c.in_default.not-Rollback) c.requires.outside
+    c.in_ok-answer-in_default.answer c.in_ok-answer-in_default.ensures.tells c.in_ok-answer-in_default.ensures.erases c.settle.ensures.version c.settle.ensures.weighs c.settle.ensures.doomed)
+
+pub returns-in-Commit : goal.returns-in-Commit
+returns-in-Commit c = elim c.in-Commit.is [
+  | inl is ↦ serves-commit_outside c.args.history.now c.args.entry.now c.args.state.now c.args.state.now c.requires.event refl refl c.requires.outside
+      (c.requires.asks ∙ ap (λ (asked : Statement). Run asked) is) (none-moved c.args.state.now.txns)
+  | inr is ↦ serves-rollback_outside c.args.history.now c.args.entry.now c.args.state.now c.args.state.now c.requires.event refl refl c.requires.outside
+      (c.requires.asks ∙ ap (λ (asked : Statement). Run asked) is) (none-moved c.args.state.now.txns)
+]

@@ -1,0 +1,278 @@
+ghost use Rattle.std.specs.Prelude.{◌≡◌, ◌≢◌, ◌<◌, ◌≤◌, ◌⊎◌, ℕ, List as Seq, [], None, false, true, IfErr, IfOk, OnErr, option_map};
+ghost use Rattle.std.specs.List.{find};
+ghost use Rattle.own_model.specs.declared.footprint.FootItem.{FootItem as Item};
+ghost use Rattle.own_model.specs.declared.limit.TheConstants.{SESSIONS as COUNT};
+ghost use Rattle.own_model.specs.declared.refusal.Refusal.TheVariants.{Memory};
+ghost use Rattle.own_model.specs.declared.reply.Reply.TheVariants.{Refused};
+ghost use Rattle.own_model.specs.declared.schema.CreateText.{CreateText};
+ghost use Rattle.query_model.specs.Footprints.{footprint_of};
+ghost use Rattle.query_eval.specs.Tables.{AreTables};
+ghost use Rattle.state_model.specs.Rows.{AreRowsOf};
+ghost use Rattle.run_model.specs.Run.{run_bound};
+ghost use Rattle.history_model.specs.Held.{others};
+ghost use Rattle.history_model.specs.History.{lie_on};
+ghost use Rattle.row_locks.specs.Kept.{kept_by as held_by};
+ghost use Rattle.row_locks.specs.Stands.{AreHeld, StandFor, holder_among};
+ghost use Rattle.txn_space.specs.Changed.{changed_rows};
+ghost use Rattle.txn_space.specs.EntryNet.{database};
+ghost use Rattle.txn_space.specs.Sound.{IsBase, IsSpaceOf};
+ghost use Rattle.write_eval.specs.Write.{IsWrite};
+ghost use Rattle.write_eval.specs.Writes.{db_of};
+ghost use Rattle.txn_core.specs.declared.kept.Kept.TheVariants.{Nothing, Open};
+ghost use Rattle.txn_core.specs.Kept.{doom_of, is_open, kept_by, told};
+ghost use Rattle.txn_core.specs.Runs.{IsRowStatement, IsStore};
+ghost use Rattle.txn_core.specs.Single.{IsNetTo, NetTo};
+ghost use Rattle.txn_core.specs.Transactions.{AreItemsOf, AreOthersSame, AreSame, IsQuietKept, IsSameOf, IsSingleRefusal, IsStruckIf, Stated, conflict_of, space_of, wrote_of};
+
+use crate::conflict::conflict;
+use crate::kept::Kept;
+use crate::sessions::Sessions;
+use crate::single_write::single;
+use own_base::{Change, List, Place, RowName, SessionNo};
+use own_model::{Bound, Footprint, Refusal, Reply, SESSIONS, Schema, StoreView};
+use plan_bind::footprint;
+use row_locks::LockTable;
+use std::alloc::{AllocError, Global};
+use std::marker::Model;
+
+/// The transactions of all sessions. Contracts see how each session stands, and the items that it holds.
+#[derive(Drop)]
+pub struct Txns {
+    sessions: Sessions,
+    locks: LockTable,
+}
+
+impl Model for Txns {
+    ghost use Rattle.txn_core.specs.Transactions.{Transactions};
+
+    ghost Value = { Transactions };
+
+    ghost view = { λ txns. record { kept = txns.sessions; held = txns.locks } };
+}
+
+impl Txns {
+    /// No session is in a transaction, and none holds anything.
+    pub fn new(alloc: Global) -> Result<Txns, AllocError>
+        ensures outside { IfOk result (λ txns. (session : ℕ) → kept_by txns.kept session ≡ Nothing) }
+        ensures free { IfOk result (λ txns. (session : ℕ) → held_by txns.held session ≡ []) }
+    {
+        let sessions = Sessions::new(alloc)?;
+        Ok(Txns {
+            sessions,
+            locks: LockTable::new(alloc),
+        })
+    }
+
+    /// Whether a transaction of a session is open. Takes no memory.
+    pub fn is_open(&self, session: SessionNo) -> bool
+        requires { session.0 ≤ COUNT }
+        ensures { result ≡ is_open (kept_by self.now.kept session.0) }
+    {
+        self.sessions.is_open(session)
+    }
+
+    /// The lowest other session with an open transaction. Takes no memory.
+    pub fn lowest_other(&self, session: SessionNo) -> Option<SessionNo>
+        ensures { option_map (λ other. other.0) result ≡ find (λ other. is_open (kept_by self.now.kept other)) (others session.0) }
+    {
+        self.sessions.lowest_other(session)
+    }
+
+    /// Opens a transaction of a session that is outside one. Takes no memory.
+    pub fn begin(&mut self, alloc: Global, session: SessionNo)
+        requires session { session.0 ≤ COUNT }
+        requires outside { kept_by self.old.kept session.0 ≡ Nothing }
+        ensures begun { kept_by self.new.kept session.0 ≡ Open (record { space = []; wrote = false }) }
+        ensures held { held_by self.new.held session.0 ≡ held_by self.old.held session.0 }
+        ensures others { AreOthersSame session.0 self.old self.new }
+    {
+        self.sessions.begin(alloc, session);
+    }
+
+    /// Why a statement is refused in whose way another session stands, where one does: the lowest such session, and the
+    /// first item of the footprint that it holds.
+    fn conflict(
+        &self,
+        alloc: Global,
+        schema: &Schema,
+        session: SessionNo,
+        footprint: &Footprint,
+    ) -> Result<Option<Refusal>, AllocError>
+        requires there { AreItemsOf schema.now footprint.now }
+        ensures { IfOk result (λ why. why ≡ option_map (conflict_of schema.now) (holder_among (held_by self.now.held) session.0 footprint.now)) }
+    {
+        match self.locks.first_holder(session, footprint) {
+            None => Ok(None),
+            Some(held) => Ok(Some(conflict(alloc, schema, held.session, held.item)?)),
+        }
+    }
+
+    /// A statement in the open transaction of a session. It runs in a copy of the transaction, which comes in its place with
+    /// the last step that may want memory.
+    fn run<V: StoreView>(
+        &mut self,
+        alloc: Global,
+        version: &V,
+        session: SessionNo,
+        bound: &Bound,
+    ) -> Result<Reply, AllocError>
+        requires session { session.0 ≤ COUNT }
+        requires open { is_open (kept_by self.old.kept session.0) ≡ true }
+        requires store { IsStore (V.schema_of version.now) (V.rows version.now) }
+        requires space { IsSpaceOf (V.schema_of version.now).tables (space_of (kept_by self.old.kept session.0)) }
+        requires rows { AreRowsOf (V.schema_of version.now).tables (changed_rows (V.schema_of version.now).tables (V.rows version.now) (space_of (kept_by self.old.kept session.0))) }
+        requires quiet { IsQuietKept (kept_by self.old.kept session.0) }
+        requires bound { IsRowStatement (V.schema_of version.now) bound.now }
+        ensures stated { IfOk result (λ reply. (creates : Seq CreateText)
+            → Stated (holder_among (held_by self.old.held) session.0 (footprint_of (V.schema_of version.now) bound.now)) (db_of creates (V.schema_of version.now) (V.rows version.now)) bound.now session.0 self.old self.new reply) }
+        ensures told { IfOk result (λ reply. reply ≢ Refused Memory) }
+        ensures unmade { OnErr result (AreSame self.old self.new) }
+    {
+        let footprint = footprint(alloc, version.schema(), bound)?;
+        let conflict = self.conflict(alloc, version.schema(), session, &footprint)?;
+        if let Some(why) = conflict {
+            return Ok(Reply::Refused(why));
+        }
+        let (reply, txn) = self
+            .sessions
+            .txn(session)
+            .run_in_copy(alloc, version, bound)?;
+        self.locks.grant(alloc, session, footprint)?;
+        let _ = self.sessions.put(session, Kept::Open(txn));
+        Ok(reply)
+    }
+
+    /// Runs a bound SELECT, INSERT, UPDATE or DELETE in the open transaction of a session, which then holds the rows of its
+    /// footprint besides. Where another session stands in the way it is refused with the conflict, and where memory is
+    /// refused with `Memory`: nothing changes then. A statement that is refused as it runs is one of the transaction.
+    pub fn statement<V: StoreView>(
+        &mut self,
+        alloc: Global,
+        version: &V,
+        session: SessionNo,
+        bound: &Bound,
+    ) -> Result<Reply, Refusal>
+        requires session { session.0 ≤ COUNT }
+        requires open { is_open (kept_by self.old.kept session.0) ≡ true }
+        requires store { IsStore (V.schema_of version.now) (V.rows version.now) }
+        requires space { IsSpaceOf (V.schema_of version.now).tables (space_of (kept_by self.old.kept session.0)) }
+        requires rows { AreRowsOf (V.schema_of version.now).tables (changed_rows (V.schema_of version.now).tables (V.rows version.now) (space_of (kept_by self.old.kept session.0))) }
+        requires quiet { IsQuietKept (kept_by self.old.kept session.0) }
+        requires bound { IsRowStatement (V.schema_of version.now) bound.now }
+        ensures ok { IfOk result (λ reply. (creates : Seq CreateText)
+            → Stated (holder_among (held_by self.old.held) session.0 (footprint_of (V.schema_of version.now) bound.now)) (db_of creates (V.schema_of version.now) (V.rows version.now)) bound.now session.0 self.old self.new reply) }
+        ensures err { IfErr result (λ why. why ≢ Memory → (creates : Seq CreateText)
+            → Stated (holder_among (held_by self.old.held) session.0 (footprint_of (V.schema_of version.now) bound.now)) (db_of creates (V.schema_of version.now) (V.rows version.now)) bound.now session.0 self.old self.new (Refused why)) }
+        ensures unmade { IfErr result (λ why. why ≡ Memory → AreSame self.old self.new) }
+    {
+        match self.run(alloc, version, session, bound) {
+            Ok(Reply::Refused(why)) => Err(why),
+            Ok(reply) => Ok(reply),
+            Err(AllocError) => Err(Refusal::Memory),
+        }
+    }
+
+    /// The conflict of a bound statement, where another session stands in its way.
+    fn conflict_with(
+        &self,
+        alloc: Global,
+        schema: &Schema,
+        session: SessionNo,
+        bound: &Bound,
+    ) -> Result<Option<Refusal>, AllocError>
+        requires there { AreItemsOf schema.now (footprint_of schema.now bound.now) }
+        ensures { IfOk result (λ why. why ≡ option_map (conflict_of schema.now) (holder_among (held_by self.now.held) session.0 (footprint_of schema.now bound.now))) }
+    {
+        let footprint = footprint(alloc, schema, bound)?;
+        self.conflict(alloc, schema, session, &footprint)
+    }
+
+    /// A write of a session outside a transaction: the reply to it, and the net of what it changes, by table, then key; or
+    /// why it is refused, with the conflict where a session stands in the way. Where memory is refused, it is `Memory`.
+    pub fn single<V: StoreView>(
+        &self,
+        alloc: Global,
+        version: &V,
+        session: SessionNo,
+        bound: &Bound,
+    ) -> Result<(Reply, List<Change>), Refusal>
+        requires write { IsWrite (V.schema_of version.now) bound.now }
+        requires tables { AreTables (V.schema_of version.now) (V.rows version.now) }
+        requires base { IsBase (V.schema_of version.now).tables (V.rows version.now) }
+        ensures ok { IfOk result (λ written. (holder_among (held_by self.now.held) session.0 (footprint_of (V.schema_of version.now) bound.now) ≡ None)
+            × ((creates : Seq CreateText) → NetTo (db_of creates (V.schema_of version.now) (V.rows version.now)) (run_bound (db_of creates (V.schema_of version.now) (V.rows version.now)) bound.now) written.0 written.1)) }
+        ensures err { IfErr result (λ why. why ≢ Memory → (creates : Seq CreateText)
+            → IsSingleRefusal (holder_among (held_by self.now.held) session.0 (footprint_of (V.schema_of version.now) bound.now)) (db_of creates (V.schema_of version.now) (V.rows version.now)) bound.now why) }
+    {
+        match self.conflict_with(alloc, version.schema(), session, bound) {
+            Ok(None) => single(alloc, version, bound),
+            Ok(Some(why)) => Err(why),
+            Err(AllocError) => Err(Refusal::Memory),
+        }
+    }
+
+    /// What the open transaction of a session changes in a version: the net. Where it has run no write that takes no memory.
+    pub fn changes<V: StoreView>(
+        &self,
+        alloc: Global,
+        version: &V,
+        session: SessionNo,
+    ) -> Result<List<Change>, AllocError>
+        requires session { session.0 ≤ COUNT }
+        requires open { is_open (kept_by self.now.kept session.0) ≡ true }
+        requires base { IsBase (V.schema_of version.now).tables (V.rows version.now) }
+        requires space { IsSpaceOf (V.schema_of version.now).tables (space_of (kept_by self.now.kept session.0)) }
+        requires quiet { IsQuietKept (kept_by self.now.kept session.0) }
+        ensures net { IfOk result (IsNetTo (database (V.schema_of version.now) (V.rows version.now)) (database (V.schema_of version.now) (changed_rows (V.schema_of version.now).tables (V.rows version.now) (space_of (kept_by self.now.kept session.0))))) }
+        ensures spared { wrote_of (kept_by self.now.kept session.0) ≡ false → IfOk result (λ changes. changes ≡ []) }
+        ensures given { OnErr result (wrote_of (kept_by self.now.kept session.0) ≡ true) }
+    {
+        self.sessions.txn(session).changes(alloc, version)
+    }
+
+    /// Ends the transaction of a session: what it changed is forgotten, and it holds nothing. Takes no memory.
+    pub fn finish(&mut self, session: SessionNo)
+        requires { session.0 ≤ COUNT }
+        ensures outside { kept_by self.new.kept session.0 ≡ Nothing }
+        ensures free { held_by self.new.held session.0 ≡ [] }
+        ensures others { AreOthersSame session.0 self.old self.new }
+    {
+        self.sessions.finish(session);
+        self.locks.release(session);
+    }
+
+    /// Ends the transaction of a session by a FORGET at a place, where one of the names lies on an item that it holds; it
+    /// holds nothing then. Takes no memory.
+    fn strike(&mut self, session: SessionNo, names: &[RowName], place: Place)
+        requires { session.0 ≤ COUNT }
+        ensures struck { (items : Seq Item) → StandFor (held_by self.old.held session.0) items → IsStruckIf (lie_on names.now items) place session.0 self.old self.new }
+        ensures others { AreOthersSame session.0 self.old self.new }
+    {
+        if self.locks.overlaps(session, names) {
+            self.sessions.strike(session, place);
+            self.locks.release(session);
+        }
+    }
+
+    /// Ends, by a FORGET at a place, the transaction of each session that holds an item on which one of the names lies; it
+    /// holds nothing then. Takes no memory.
+    pub fn doom(&mut self, names: &[RowName], place: Place)
+        ensures doomed { (held : ℕ → Seq Item) → AreHeld self.old.held held → (session : ℕ) → 1 ≤ session → session ≤ COUNT → IsStruckIf (lie_on names.now (held session)) place session self.old self.new }
+        ensures others { (session : ℕ) → (session ≡ 0) ⊎ (COUNT < session) → IsSameOf session self.old self.new }
+    {
+        for number in 1..SESSIONS + 1 {
+            self.strike(SessionNo(number), names, place);
+        }
+    }
+
+    /// Gives the place of a session's doom, once. Takes no memory.
+    pub fn tell_doom(&mut self, session: SessionNo) -> Option<Place>
+        requires { session.0 ≤ COUNT }
+        ensures told { result ≡ doom_of (kept_by self.old.kept session.0) }
+        ensures once { kept_by self.new.kept session.0 ≡ told (kept_by self.old.kept session.0) }
+        ensures held { held_by self.new.held session.0 ≡ held_by self.old.held session.0 }
+        ensures others { AreOthersSame session.0 self.old self.new }
+    {
+        self.sessions.tell_doom(session)
+    }
+}
