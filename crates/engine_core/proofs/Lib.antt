@@ -1,17 +1,17 @@
-mod BoundStatements
+pub mod BoundStatements
 mod CalmEvents
 mod CommitEvents
-mod Commits
-mod CreatedTables
+pub mod Commits
+pub mod CreatedTables
 mod Erased
-mod FewColumns
-mod Forgotten
-mod Judged
-mod KeptTables
-mod KeptViews
+pub mod FewColumns
+pub mod Forgotten
+pub mod Judged
+pub mod KeptTables
+pub mod KeptViews
 mod Nets
 mod NextWorlds
-mod NoCreates
+pub mod NoCreates
 mod OpenStates
 mod OutsideReplies
 mod PromptEvents
@@ -21,4 +21,4 @@ mod StatedEvents
 mod Stood
 mod TableSources
 mod UnmadeEvents
-mod Writes
+pub mod Writes
