@@ -1,0 +1,2 @@
+mod KeptStores
+mod Readiness

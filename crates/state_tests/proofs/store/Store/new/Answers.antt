@@ -1,0 +1,5 @@
+use Rattle.state_model.proofs.KeptLemmas.{sound-empty}
+use Rattle.state_tests.proofs.store.Store.new.Goals as goal
+
+pub invariant_of-result : goal.invariant_of-result
+invariant_of-result c = rw c.in_ok-new.ensures sound-empty

@@ -1,0 +1,153 @@
+//! An engine's calls, and the history that it keeps.
+ghost use Rattle.std.specs.Prelude.{◌≡◌, IfOk};
+ghost use Rattle.grammar_model.specs.Readable.{IsReadable};
+ghost use Rattle.history_model.specs.Built.{built, is_built};
+
+use crate::texts::read;
+use engine_core::{Closed, Engine, NoLook, Step};
+use own_base::{SessionNo, Text};
+use own_model::{Entry, Request, SESSIONS, Statement};
+use sql_print::{print_reply, print_statement};
+use std::alloc::{AllocError, Global};
+use std::mem::drop;
+use std::process::Abort;
+use std::test::Fail;
+
+/// A session, and its statement with a space between tokens, or End.
+type Call = (u8, &'static str);
+
+const CALLS: [Call; 15] = [
+    (1, "CREATE DATA_SUBJECT TABLE users ( id INT PRIMARY KEY )"),
+    (1, "BEGIN"),
+    (1, "INSERT INTO users VALUES ( 5 ) , ( 7 )"),
+    (2, "SELECT * FROM users"),
+    (2, "BEGIN"),
+    (2, "SELECT * FROM users WHERE id = 7"),
+    (1, "COMMIT"),
+    (2, "SELECT * FROM users WHERE id = 7"),
+    (2, "DELETE FROM users WHERE id = 5"),
+    (1, "DELETE FROM users WHERE id = 5"),
+    (1, "GDPR FORGET users 5"),
+    (2, "COMMIT"),
+    (2, "SELECT * FROM users"),
+    (1, "End"),
+    (2, "End"),
+];
+
+/// The replies. All calls are numbered together.
+const LINES: &str = "\
+0 1.1 ok
+1 1.2 ok
+2 1.3 ok 2
+3 2.4 rows 0
+4 2.5 ok
+5 2.6 refused conflict 1 users 7
+6 1.7 ok
+7 2.8 rows 1
+  7
+8 2.9 ok 1
+9 1.10 refused conflict 2 users 5
+10 1.11 forgot 1 removed 0 changed
+11 2.12 refused doomed 10
+12 2.13 rows 1
+  7
+13 1.14 end
+14 2.15 end
+";
+
+/// Whether it is no CHECKPOINT.
+fn is_built(statement: &Statement) -> bool
+    ensures { result ≡ is_built statement.now }
+{
+    !matches!(statement, Statement::Checkpoint)
+}
+
+/// What a text asks for.
+#[tactic(auto, unfolding(history_model::specs::Built::built))]
+fn request_of(rt: &(impl Abort + AllocGlobal), text: &str) -> Result<Request, Fail>
+    ensures readable { IfOk result IsReadable }
+    ensures built { IfOk result (λ request. built request ≡ request) }
+{
+    if text == "End" {
+        return Ok(Request::End);
+    }
+    let statement = read(rt, text)?;
+    assert!(rt; is_built(&statement));
+    Ok(Request::Run(statement))
+}
+
+/// The text of what was asked for.
+fn text_of(alloc: Global, request: &Request) -> Result<Text, AllocError> {
+    match request {
+        Request::Run(statement) => print_statement(alloc, statement),
+        _ => Ok(Text::from_string(format!(in alloc; "{request:?}")?)),
+    }
+}
+
+/// The lines of a call.
+fn lines_of(
+    alloc: Global,
+    session: SessionNo,
+    number: u32,
+    step: Step<NoLook>,
+) -> Result<Text, AllocError> {
+    match step {
+        Step::Answered(place, reply) => {
+            let lines = print_reply(alloc, Some(place), session, number, &reply);
+            drop(reply);
+            lines
+        }
+        Step::Look(..) | Step::NoMemory => Err(AllocError),
+    }
+}
+
+/// Makes a call, which takes room for one entry.
+fn make(
+    rt: &(impl Abort + AllocGlobal),
+    engine: &mut Engine<u32>,
+    number: u32,
+    call: Call,
+) -> Result<Text, Fail> {
+    let (session, text) = call;
+    assert!(rt; 1 <= session && session <= SESSIONS);
+    let request = request_of(rt, text)?;
+    let spare = engine.spare();
+    let step = engine.step(SessionNo(session), number, request);
+    assert_eq!(rt; Some(engine.spare()), spare.checked_sub(1), "{text}");
+    Ok(lines_of(rt.alloc(), SessionNo(session), number, step)?)
+}
+
+/// Makes the calls, and gives their lines.
+fn make_all(rt: &(impl Abort + AllocGlobal), engine: &mut Engine<u32>) -> Result<String, Fail> {
+    let mut lines = String::new(rt.alloc());
+    for (number, call) in (1..u32::MAX).zip(CALLS) {
+        lines.push_str(make(rt, engine, number, call)?.as_str())?;
+    }
+    Ok(lines)
+}
+
+/// The calls, as a history has them.
+fn expect_history(rt: &(impl Abort + AllocGlobal), entries: &[Entry]) -> Result<(), AllocError> {
+    assert_eq!(rt; entries.len(), CALLS.len());
+    for (number, (entry, (session, text))) in (1..u32::MAX).zip(entries.iter().zip(CALLS)) {
+        assert_eq!(rt; (entry.session.0, entry.call), (session, number));
+        assert_eq!(rt; text_of(rt.alloc(), &entry.request)?.as_str(), text);
+    }
+    Ok(())
+}
+
+#[test]
+fn calls_are_answered_and_kept(rt: HostRuntime) -> Result<(), Fail> {
+    let mut engine = match Engine::open_with_room(rt.alloc(), 7, CALLS.len() as u32) {
+        Ok(engine) => engine,
+        Err((fault, _)) => return Err(Fail::from(fault)),
+    };
+    let lines = make_all(&rt, &mut engine);
+    let kept = expect_history(&rt, engine.history());
+    let Closed { history, disk } = engine.close();
+    let left = expect_history(&rt, history.items());
+    drop(history);
+    assert_eq!(rt; disk, 7);
+    assert_eq!(rt; lines?.as_str(), LINES);
+    Ok(kept.and(left)?)
+}

@@ -1,0 +1,92 @@
+//! Selects over a store, and one transaction by itself.
+ghost use Rattle.state_model.specs.Sound.{Sound};
+ghost use Rattle.txn_core.specs.Runs.{IsRowStatement};
+ghost use Rattle.engine_core.specs.Asked.{IsMeant};
+
+use crate::changes::check_names;
+use crate::kept::{bound, row_bound};
+use crate::store::{Store, store_of};
+use crate::texts::{check_lines, parts, read};
+use own_model::{Bound, Reply};
+use std::alloc::Global;
+use std::mem::drop;
+use std::process::Abort;
+use std::test::Fail;
+use store_version::Version;
+use txn_core::{Txn, select_reply};
+
+const STORE: &str = "\
+CREATE TABLE acc (id INT PRIMARY KEY, n INT)
+CREATE TABLE towns (name TEXT PRIMARY KEY, acc INT)
+CREATE VIEW rich AS SELECT id, n FROM acc WHERE n >= 20
+CREATE VIEW total AS SELECT SUM(n) FROM acc
+INSERT INTO acc VALUES (1, 10), (2, 20), (3, 30)
+INSERT INTO towns VALUES ('Bern', 1), ('Chur', 3)";
+
+/// Selects from a table, two tables, groups and views.
+const SELECTS: [&str; 5] = [
+    "SELECT n FROM acc WHERE id <> 2 => rows 2 / 10 / 30",
+    "SELECT name, n FROM towns JOIN acc ON acc = id => rows 2 / 'Bern'|10 / 'Chur'|30",
+    "SELECT COUNT(*), SUM(n) FROM acc WHERE n > 10 => rows 1 / 2|50",
+    "SELECT id FROM rich ORDER BY n DESC => rows 2 / 3 / 2",
+    "SELECT * FROM total => rows 1 / 60",
+];
+
+/// The reply to a bound SELECT.
+fn reply_to(alloc: Global, version: &Version, bound: &Bound) -> Result<Reply, Fail>
+    requires sound { Sound version.now }
+    requires meant { IsMeant version.now.schema bound.now }
+{
+    match bound {
+        Bound::Select(query) => Ok(select_reply(alloc, version, query)?),
+        _ => Err(Fail::from("no SELECT")),
+    }
+}
+
+/// One select.
+fn check_select(rt: &(impl Abort + AllocGlobal), store: &Store, case: &str) -> Result<(), Fail> {
+    let (text, wanted) = parts(case)?;
+    let version = store.version();
+    let statement = read(rt, text)?;
+    let bound = bound(rt.alloc(), version, &statement);
+    drop(statement);
+    let bound = bound?;
+    let reply = reply_to(rt.alloc(), version, &bound);
+    drop(bound);
+    check_lines(rt, reply?, wanted)
+}
+
+#[test]
+fn selects_have_replies(rt: HostRuntime) -> Result<(), Fail> {
+    let store = store_of(&rt, STORE)?;
+    for case in &SELECTS {
+        check_select(&rt, &store, case)?;
+    }
+    Ok(())
+}
+
+/// Runs a bound UPDATE of one row in a transaction of its own.
+fn check_txn(rt: &(impl Abort + AllocGlobal), version: &Version, bound: &Bound) -> Result<(), Fail>
+    requires sound { Sound version.now }
+    requires row { IsRowStatement version.now.schema bound.now }
+{
+    let mut txn = Txn::new(rt.alloc());
+    let reply = txn.run(rt.alloc(), version, bound)?;
+    check_lines(rt, reply, "ok 2")?;
+    let changes = txn.changes(rt.alloc(), version)?;
+    check_names(rt, &changes, &[(0, 2)]);
+    Ok(())
+}
+
+#[test]
+fn transaction_has_changes(rt: HostRuntime) -> Result<(), Fail> {
+    let store = store_of(&rt, STORE)?;
+    let version = store.version();
+    let statement = read(&rt, "UPDATE acc SET n = 10 WHERE id < 3")?;
+    let bound = row_bound(rt.alloc(), version, &statement);
+    drop(statement);
+    let bound = bound?;
+    let checked = check_txn(&rt, version, &bound);
+    drop(bound);
+    checked
+}

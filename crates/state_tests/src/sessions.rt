@@ -1,0 +1,230 @@
+//! Transactions of sessions over a store that stays as it is.
+ghost use Rattle.std.specs.Prelude.{◌≡◌, ◌≢◌, ◌≤◌, true, IfOk, OnErr};
+ghost use Rattle.own_model.specs.declared.limit.TheConstants.{SESSIONS};
+ghost use Rattle.own_model.specs.declared.refusal.Refusal.TheVariants.{Memory};
+ghost use Rattle.own_model.specs.Db.{Db};
+ghost use Rattle.run_model.specs.Run.{run_bound};
+ghost use Rattle.state_model.specs.Sound.{IsKept, Sound};
+ghost use Rattle.txn_core.specs.Kept.{is_open, kept_by};
+ghost use Rattle.txn_core.specs.Runs.{IsRowStatement};
+ghost use Rattle.engine_core.specs.Asked.{IsMeant};
+ghost use Rattle.state_tests.specs.Ready.{AreReady};
+
+use crate::changes::check_names;
+use crate::kept::{bound, row_bound};
+use crate::store::store_of;
+use crate::texts::{check_lines, read};
+use own_base::{Key, Place, RowName, SessionNo, TableNo};
+use own_model::{Bound, Refusal, Reply};
+use std::alloc::{AllocError, Global};
+use std::mem::drop;
+use std::process::Abort;
+use std::test::Fail;
+use store_version::Version;
+use txn_core::Txns;
+
+const STORE: &str = "\
+CREATE TABLE acc (id INT PRIMARY KEY, n INT)
+INSERT INTO acc VALUES (1, 10), (2, 20)";
+
+/// What a refusal is told as, unless it is for want of memory.
+fn refused(why: Refusal) -> Result<Reply, Fail>
+    ensures told { IfOk result (λ reply. why ≢ Memory) }
+    ensures memory { OnErr result (why ≡ Memory) }
+{
+    match why {
+        Refusal::Memory => Err(Fail::from("out of memory")),
+        why => Ok(Reply::Refused(why)),
+    }
+}
+
+/// The reply to a bound statement in the open transaction of a session.
+fn reply_to_statement(
+    alloc: Global,
+    version: &Version,
+    txns: &mut Txns,
+    session: SessionNo,
+    bound: &Bound,
+) -> Result<Reply, Fail>
+    requires sound { Sound version.now }
+    requires session { session.0 ≤ SESSIONS }
+    requires ready { AreReady version.now txns.old }
+    requires open { is_open (kept_by txns.old.kept session.0) ≡ true }
+    requires bound { IsRowStatement version.now.schema bound.now }
+    requires kept { (db : Db) → IsKept db → db.schema ≡ version.now.schema → IsKept (run_bound db bound.now).db }
+    ensures { AreReady version.now txns.new }
+{
+    match txns.statement(alloc, version, session, bound) {
+        Ok(reply) => Ok(reply),
+        Err(why) => refused(why),
+    }
+}
+
+/// A statement in the open transaction of a session.
+fn check_statement(
+    rt: &(impl Abort + AllocGlobal),
+    version: &Version,
+    txns: &mut Txns,
+    session: SessionNo,
+    text: &str,
+    wanted: &str,
+) -> Result<(), Fail>
+    requires sound { Sound version.now }
+    requires session { session.0 ≤ SESSIONS }
+    requires ready { AreReady version.now txns.old }
+    ensures { AreReady version.now txns.new }
+{
+    let statement = read(rt, text)?;
+    let bound = row_bound(rt.alloc(), version, &statement);
+    drop(statement);
+    let bound = bound?;
+    assert!(rt; txns.is_open(session));
+    let reply = reply_to_statement(rt.alloc(), version, txns, session, &bound);
+    drop(bound);
+    check_lines(rt, reply?, wanted)
+}
+
+/// The reply to a bound write of a session that is outside a transaction.
+fn reply_to_single(
+    rt: &(impl Abort + AllocGlobal),
+    version: &Version,
+    txns: &Txns,
+    session: SessionNo,
+    bound: &Bound,
+) -> Result<Reply, Fail>
+    requires sound { Sound version.now }
+    requires meant { IsMeant version.now.schema bound.now }
+{
+    match bound {
+        Bound::Insert { .. } | Bound::Update { .. } | Bound::Delete { .. } => {
+            match txns.single(rt.alloc(), version, session, bound) {
+                Ok((reply, _)) => Ok(reply),
+                Err(why) => Ok(Reply::Refused(why)),
+            }
+        }
+        _ => Err(Fail::from("no write")),
+    }
+}
+
+/// A write of a session that is outside a transaction.
+fn check_single(
+    rt: &(impl Abort + AllocGlobal),
+    version: &Version,
+    txns: &Txns,
+    text: &str,
+    wanted: &str,
+) -> Result<(), Fail>
+    requires { Sound version.now }
+{
+    let statement = read(rt, text)?;
+    let bound = bound(rt.alloc(), version, &statement);
+    drop(statement);
+    let bound = bound?;
+    let reply = reply_to_single(rt, version, txns, SessionNo(3), &bound);
+    drop(bound);
+    check_lines(rt, reply?, wanted)
+}
+
+/// Session 1 changes row 1, and session 2 meets that and reads row 2.
+fn check_statements(
+    rt: &(impl Abort + AllocGlobal),
+    version: &Version,
+    txns: &mut Txns,
+) -> Result<(), Fail>
+    requires sound { Sound version.now }
+    requires ready { AreReady version.now txns.old }
+    ensures { AreReady version.now txns.new }
+{
+    let (first, second) = (SessionNo(1), SessionNo(2));
+    let update = "UPDATE acc SET n = n + 1 WHERE id = 1";
+    check_statement(rt, version, txns, first, update, "ok 1")?;
+    let changed = "SELECT n FROM acc WHERE id = 1";
+    check_statement(
+        rt,
+        version,
+        txns,
+        second,
+        changed,
+        "refused conflict 1 acc 1",
+    )?;
+    check_statement(rt, version, txns, first, changed, "rows 1 / 11")?;
+    let other = "SELECT n FROM acc WHERE id = 2";
+    check_statement(rt, version, txns, second, other, "rows 1 / 20")?;
+    let put = "INSERT INTO acc VALUES (2, 0)";
+    check_statement(rt, version, txns, second, put, "refused duplicate acc 2")?;
+    check_statement(
+        rt,
+        version,
+        txns,
+        first,
+        "DELETE FROM acc",
+        "refused conflict 2 acc *",
+    )
+}
+
+/// The row of a key.
+fn row(key: i64) -> RowName {
+    RowName {
+        table: TableNo(0),
+        key: Key::Int(key),
+    }
+}
+
+/// Session 2 is doomed by an erasure of row 2 at place 7, and told so once; session 1 ends.
+fn check_ends(rt: &impl Abort, txns: &mut Txns) {
+    assert!(rt; txns.lowest_other(SessionNo(1)) == Some(SessionNo(2)));
+    assert!(rt; txns.lowest_other(SessionNo(3)) == Some(SessionNo(1)));
+    txns.doom(&[row(3), row(2)], Place(7));
+    assert!(rt; txns.is_open(SessionNo(1)) && !txns.is_open(SessionNo(2)));
+    assert!(rt; txns.tell_doom(SessionNo(1)).is_none());
+    assert!(rt; txns.tell_doom(SessionNo(2)) == Some(Place(7)));
+    assert!(rt; txns.tell_doom(SessionNo(2)).is_none());
+    txns.finish(SessionNo(1));
+    assert!(rt; txns.lowest_other(SessionNo(3)).is_none());
+}
+
+/// The transactions of sessions 1 and 2, both begun.
+fn begun(alloc: Global, version: &Version) -> Result<Txns, AllocError>
+    requires { IsKept version.now }
+    ensures { IfOk result (AreReady version.now) }
+{
+    let _ = version;
+    let mut txns = Txns::new(alloc)?;
+    txns.begin(alloc, SessionNo(1));
+    txns.begin(alloc, SessionNo(2));
+    Ok(txns)
+}
+
+/// Looks at what session 1 has changed.
+fn check_changes(
+    rt: &(impl Abort + AllocGlobal),
+    version: &Version,
+    txns: &Txns,
+) -> Result<(), Fail>
+    requires sound { Sound version.now }
+    requires ready { AreReady version.now txns.now }
+{
+    assert!(rt; txns.is_open(SessionNo(1)));
+    let changes = txns.changes(rt.alloc(), version, SessionNo(1))?;
+    check_names(rt, &changes, &[(0, 1)]);
+    Ok(())
+}
+
+#[test]
+fn sessions_run_statements(rt: HostRuntime) -> Result<(), Fail> {
+    let store = store_of(&rt, STORE)?;
+    let version = store.version();
+    let mut txns = begun(rt.alloc(), version)?;
+    check_statements(&rt, version, &mut txns)?;
+    check_single(
+        &rt,
+        version,
+        &txns,
+        "DELETE FROM acc",
+        "refused conflict 1 acc *",
+    )?;
+    check_single(&rt, version, &txns, "INSERT INTO acc VALUES (3, 0)", "ok 1")?;
+    check_changes(&rt, version, &txns)?;
+    check_ends(&rt, &mut txns);
+    check_single(&rt, version, &txns, "DELETE FROM acc", "ok 2")
+}
