@@ -12,7 +12,7 @@ use Rattle.own_model.specs.declared.create.ColumnDef.{ColumnDef}
 use Rattle.own_model.specs.declared.create.CreateTable.{CreateTable}
 use Rattle.own_model.specs.declared.create.Part.{Part}
 use Rattle.own_model.specs.declared.create.Part.TheVariants as part
-use Rattle.own_model.specs.declared.refusal.Refusal.TheVariants.{Cycle as Told}
+use Rattle.own_model.specs.declared.refusal.Refusal.TheVariants.{Cycle as Reported}
 use Rattle.own_model.specs.declared.schema.Column.{Column}
 use Rattle.own_model.specs.declared.schema.Edge.{Edge}
 use Rattle.own_model.specs.declared.schema.RefKind.{RefKind}
@@ -31,7 +31,7 @@ use Rattle.schema_model.specs.Tables.{number_of}
 use Rattle.schema_model.specs.rules.MissingColumns.{missing_columns, stands_on}
 use Rattle.schema_model.specs.rules.SecondReferences.{second_references}
 use Rattle.schema_model.proofs.Admitted.{map_none, unbroken}
-use Rattle.schema_model.proofs.ClosedWalks.{leads-edge, leads-unclosed}
+use Rattle.schema_model.proofs.Cycles.{leads-edge, leads-unclosed}
 use Rattle.schema_model.proofs.Found.{find-only}
 use Rattle.schema_model.proofs.Names.{distinct-unrepeated, equal_name, one_place, same_name}
 use Rattle.schema_model.proofs.Places.{IsIn, all-at, all-from_places, any-place, filter-none, in_filter_map, in_flat_map, of_filter_map, slice_get-append_after, slice_get-in_map, slice_get-of_map}
@@ -204,5 +204,5 @@ pub owns_tables-unbroken : (schema : Schema) (create : CreateTable) → IsOwnerS
 unfolding broken
 owns_tables-unbroken schema create owner kept unclosed =
     let each = unbroken 1 (broken schema create) kept in
-    let none = map_none (λ (cycle : Cycle). Told (name_of schema create cycle.table) (name_of schema create cycle.through)) (cycle_of (length schema.tables + 1) (schema.edges ++ new_edges schema create)) unclosed in
+    let none = map_none (λ (cycle : Cycle). Reported (name_of schema create cycle.table) (name_of schema create cycle.through)) (cycle_of (length schema.tables + 1) (schema.edges ++ new_edges schema create)) unclosed in
     owns_tables schema create owner none each.1.1.0 each.1.1.1.0

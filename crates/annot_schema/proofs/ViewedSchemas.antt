@@ -32,6 +32,8 @@ edge-viewed schema view edge is = record {
   kind = is.kind;
   refers = is.refers;
   edges = is.edges;
+  side = is.side;
+  owner = is.owner;
 }
 
 rules-viewed : (schema : Schema) (view : ViewDef) (edge : Edge) → RulesWell schema edge → RulesWell (schema_viewed schema view) edge
@@ -45,6 +47,8 @@ sound-viewed schema view sound room = record {
     names = sound.owner.names;
     columns = all-weaker (ColumnsRefer schema) (ColumnsRefer (schema_viewed schema view)) (columns schema view) schema.tables sound.owner.columns;
     edges = all-weaker (IsOwnerEdge schema) (IsOwnerEdge (schema_viewed schema view)) (edge-viewed schema view) schema.edges sound.owner.edges;
+    each = sound.owner.each;
+    rise = sound.owner.rise;
     rules = all-weaker (RulesWell schema) (RulesWell (schema_viewed schema view)) (rules-viewed schema view) schema.edges sound.owner.rules;
     acyclic = sound.owner.acyclic;
     subjects = sound.owner.subjects;

@@ -1,4 +1,4 @@
--- What a catalog stands for, and what a CREATE TABLE adds to it.
+-- What a catalog represents, and what a CREATE TABLE adds to it.
 use Rattle.std.specs.Prelude.{◌≡◌, ◌≤◌, ◌*◌, ◌∷◌, [], ◌++◌, ℕ, List, Bool, false, true, None, length}
 use Rattle.own_model.specs.declared.create.CreateTable.{CreateTable}
 use Rattle.own_model.specs.declared.limit.TheConstants.{TABLE_COLUMNS, VIEWS}
@@ -6,6 +6,7 @@ use Rattle.own_model.specs.declared.schema.CreateText.{CreateText}
 use Rattle.own_model.specs.declared.schema.Schema.{Schema}
 use Rattle.own_model.specs.declared.schema.ViewDef.{ViewDef}
 use Rattle.schema_draft.specs.Names.{AreNamesOf, NameList}
+use Rattle.owner_graph.specs.Graph.{GraphSeen, IsGraphOf}
 use Rattle.schema_model.specs.NewEdges.{new_edges}
 use Rattle.schema_model.specs.NewTable.{new_table}
 use Rattle.schema_model.specs.OwnerSchema.{IsOwnerSchema}
@@ -30,9 +31,10 @@ pub record IsSound (schema : Schema) : Type 0 where
   -- a column gives one edge at most
   pub edges : length schema.edges ≤ TABLE_COLUMNS * length schema.tables
 
--- the names are those of such a schema
-pub record IsCatalog (names : NameList) (schema : Schema) : Type 0 where
+-- the names are those of such a schema, and the graph is that of its edges
+pub record IsCatalog (names : NameList) (graph : GraphSeen) (schema : Schema) : Type 0 where
   pub named : AreNamesOf names schema
+  pub ordered : IsGraphOf (length schema.tables) schema.edges graph
   pub sound : IsSound schema
 
 -- the table and the edges of a CREATE TABLE that isn't refused, by which tables hold rows

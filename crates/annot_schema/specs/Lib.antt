@@ -1,5 +1,5 @@
-pub mod ClosedWalk
+pub mod FoundCycle
 pub mod Created
 pub mod Fault
 pub mod OwnedTables
-pub mod Told
+pub mod Reported

@@ -9,7 +9,7 @@ ghost use Rattle.schema_model.specs.NewEdges as edges_spec;
 ghost use Rattle.schema_model.specs.NewTable as table_spec;
 ghost use Rattle.schema_model.specs.Refusal.{broken, closed, first_broken, owned_rows, past_limits, refusal_of, taken};
 ghost use Rattle.annot_schema.specs.Created.{IsAdmitted, IsSound};
-ghost use Rattle.annot_schema.specs.Told.{IsCause, Tells};
+ghost use Rattle.annot_schema.specs.Reported.{IsCause, Tells};
 
 use crate::admitted::Admitted;
 use crate::fault::SchemaFault;
@@ -63,13 +63,13 @@ fn check_additions<V: StoreView>(
     draft: &Draft<'_>,
     edges: &List<Edge>,
 ) -> Result<(), SchemaFault>
-    requires viewed { V.schema_of view.now ≡ schema.now }
+    requires viewed { (V.db view.now).schema ≡ schema.now }
     requires named { AreNamesOf names.now schema.now }
     requires sound { IsSound schema.now }
     requires unbroken { first_broken 1 (broken schema.now draft.now) ≡ None }
     requires new { edges.now ≡ edges_spec.new_edges schema.now draft.now }
     ensures { Tells (option_or (closed schema.now draft.now)
-        (option_or (owned_rows schema.now (holds_rows (V.rows view.now)) draft.now) (past_limits schema.now draft.now))) result }
+        (option_or (owned_rows schema.now (holds_rows (V.db view.now).rows) draft.now) (past_limits schema.now draft.now))) result }
 {
     check_walks(alloc, schema, draft.create(), edges)?;
     check_rows(alloc, view, names, draft)?;
@@ -86,12 +86,12 @@ pub fn admit<V: StoreView>(
     names: &Names,
     create: &CreateTable,
 ) -> Result<Admitted, SchemaFault>
-    requires viewed { V.schema_of view.now ≡ schema.now }
+    requires viewed { (V.db view.now).schema ≡ schema.now }
     requires named { AreNamesOf names.now schema.now }
     requires sound { IsSound schema.now }
     requires columns { length (columns_of create.now) < 2 ^ 31 }
-    ensures admitted { IfOk result (IsAdmitted schema.now (holds_rows (V.rows view.now)) create.now) }
-    ensures refused { IfErr result (IsCause (refusal_of schema.now (holds_rows (V.rows view.now)) create.now)) }
+    ensures admitted { IfOk result (IsAdmitted schema.now (holds_rows (V.db view.now).rows) create.now) }
+    ensures refused { IfErr result (IsCause (refusal_of schema.now (holds_rows (V.db view.now).rows) create.now)) }
 {
     check_name(alloc, names, create)?;
     let draft = Draft::of(alloc, create)?;

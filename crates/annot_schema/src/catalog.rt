@@ -1,13 +1,14 @@
 ghost use Rattle.std.specs.Prelude.{◌≡◌, ◌<◌, ◌^◌, ◌∷◌, [], ◌++◌, ℕ, Bool, bytes_eq, length, option_map, position, IfOk, IfErr};
 ghost use Rattle.own_model.specs.Stored.{holds_rows};
 ghost use Rattle.own_model.specs.declared.create.CreateTable.{CreateTable};
-ghost use Rattle.own_model.specs.declared.reply.Reply.TheVariants.{Graph};
+ghost use Rattle.own_model.specs.declared.reply.Reply.TheVariants as reply;
+ghost use Rattle.owner_graph.specs.Graph.{IsGraphOf};
 ghost use Rattle.schema_model.specs.Columns.{columns_of};
 ghost use Rattle.schema_model.specs.Explained.{explained};
 ghost use Rattle.schema_model.specs.Refusal.{refusal_of};
 ghost use Rattle.schema_model.specs.WithTable.{with_table};
 ghost use Rattle.annot_schema.specs.Created.{IsAdmissible, IsAdmitted, IsSound, created_viewed, created_with, nothing_created, schema_viewed, schema_with};
-ghost use Rattle.annot_schema.specs.Told.{IsCause};
+ghost use Rattle.annot_schema.specs.Reported.{IsCause};
 
 use crate::admit::admit;
 use crate::admitted::Admitted;
@@ -16,16 +17,19 @@ use crate::fault::SchemaFault;
 use crate::longer::{with_item, with_items};
 use own_base::{List, MakeCopy, Name, TableNo, Text};
 use own_model::{CreateTable, CreateText, Reply, Schema, StoreView, VIEWS, ViewDef};
+use owner_graph::{Graph, graph_of};
 use schema_draft::Names;
 use std::alloc::{AllocError, Global};
 use std::marker::Model;
 
-/// The schema of a store, the texts of the creates that gave it, and its names. Contracts see the schema and the texts.
+/// The schema of a store, the texts of the creates that gave it, its names, and the graph of its edges. Contracts see the
+/// schema and the texts.
 #[derive(Drop)]
 pub struct Catalog {
     schema: Schema,
     creates: List<CreateText>,
     names: Names,
+    graph: Graph,
 }
 
 impl Model for Catalog {
@@ -39,7 +43,7 @@ impl Model for Catalog {
 
     ghost view = { λ catalog. record { schema = catalog.schema; creates = catalog.creates } };
 
-    ghost invariant = { λ catalog. IsCatalog catalog.names catalog.schema };
+    ghost invariant = { λ catalog. IsCatalog catalog.names catalog.graph catalog.schema };
 }
 
 /// The schema with a table and its edges at the end.
@@ -84,6 +88,7 @@ impl Catalog {
             },
             creates: List::new(alloc),
             names: Names::new(alloc),
+            graph: Graph::new(alloc),
         }
     }
 
@@ -102,6 +107,13 @@ impl Catalog {
         self.creates.items()
     }
 
+    /// Lends the graph of the schema's edges. Takes no memory.
+    pub fn graph(&self) -> &Graph
+        ensures { IsGraphOf (length self.now.schema.tables) self.now.schema.edges result.now }
+    {
+        &self.graph
+    }
+
     /// The number of the table of this name. Takes no memory.
     pub fn table(&self, name: &Name) -> Option<TableNo>
         ensures { option_map (λ number. number.0) result ≡ position (λ table. bytes_eq table.name name.now) self.now.schema.tables }
@@ -111,7 +123,7 @@ impl Catalog {
 
     /// The answer to EXPLAIN COMPLIANCE.
     pub fn explain(&self, alloc: Global) -> Result<Reply, AllocError>
-        ensures { IfOk result (λ reply. reply ≡ Graph (explained self.now.schema)) }
+        ensures { IfOk result (λ shown. shown ≡ reply.Graph (explained self.now.schema)) }
     {
         Ok(Reply::Graph(explained(alloc, &self.schema)?))
     }
@@ -124,11 +136,11 @@ impl Catalog {
         view: &V,
         create: &CreateTable,
     ) -> Result<Admitted, SchemaFault>
-        requires viewed { V.schema_of view.now ≡ self.now.schema }
+        requires viewed { (V.db view.now).schema ≡ self.now.schema }
         requires columns { length (columns_of create.now) < 2 ^ 31 }
-        ensures admitted { IfOk result (IsAdmitted self.now.schema (holds_rows (V.rows view.now)) create.now) }
+        ensures admitted { IfOk result (IsAdmitted self.now.schema (holds_rows (V.db view.now).rows) create.now) }
         ensures admissible { IfOk result (IsAdmissible self.now.schema) }
-        ensures refused { IfErr result (IsCause (refusal_of self.now.schema (holds_rows (V.rows view.now)) create.now)) }
+        ensures refused { IfErr result (IsCause (refusal_of self.now.schema (holds_rows (V.db view.now).rows) create.now)) }
     {
         admit(alloc, view, &self.schema, &self.names, create)
     }
@@ -148,10 +160,12 @@ impl Catalog {
         let schema = schema_with(alloc, &self.schema, admitted)?;
         let creates = with_item(alloc, &self.creates, CreateText { view: false, text })?;
         let names = Names::of(alloc, &schema)?;
+        let graph = graph_of(alloc, &schema)?;
         Ok(Catalog {
             schema,
             creates,
             names,
+            graph,
         })
     }
     /// This catalog with a view at the end, and with the text of its create. There is room for one view more.
@@ -162,10 +176,12 @@ impl Catalog {
         let schema = schema_viewed(alloc, &self.schema, view)?;
         let creates = with_item(alloc, &self.creates, CreateText { view: true, text })?;
         let names = Names::of(alloc, &schema)?;
+        let graph = graph_of(alloc, &schema)?;
         Ok(Catalog {
             schema,
             creates,
             names,
+            graph,
         })
     }
 }

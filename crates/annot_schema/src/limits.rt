@@ -1,5 +1,5 @@
 ghost use Rattle.schema_model.specs.Refusal.{past_limits};
-ghost use Rattle.annot_schema.specs.Told.{Tells};
+ghost use Rattle.annot_schema.specs.Reported.{Tells};
 
 use crate::fault::SchemaFault;
 use own_model::{LimitName, Schema, TABLE_COLUMNS, TABLES};

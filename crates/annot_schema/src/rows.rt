@@ -4,7 +4,7 @@ ghost use Rattle.schema_draft.specs.Names.{AreNamesOf};
 ghost use Rattle.schema_model.specs.Refusal.{owned_rows};
 ghost use Rattle.schema_model.specs.Tables as spec;
 ghost use Rattle.annot_schema.specs.OwnedTables.{OwnsTablesOf};
-ghost use Rattle.annot_schema.specs.Told.{Tells};
+ghost use Rattle.annot_schema.specs.Reported.{Tells};
 
 use crate::fault::SchemaFault;
 use own_base::{MakeCopy, Name};
@@ -14,10 +14,10 @@ use std::alloc::Global;
 
 /// Whether the table of this name has a row.
 fn holds_rows<V: StoreView>(view: &V, names: &Names, name: &Name) -> bool
-    requires named { AreNamesOf names.now (V.schema_of view.now) }
-    requires tables { length (V.schema_of view.now).tables < 2 ^ 32 }
-    requires there { spec.number_of (V.schema_of view.now) name.now < length (V.schema_of view.now).tables }
-    ensures { result ≡ holds_rows (V.rows view.now) (spec.number_of (V.schema_of view.now) name.now) }
+    requires named { AreNamesOf names.now (V.db view.now).schema }
+    requires tables { length (V.db view.now).schema.tables < 2 ^ 32 }
+    requires there { spec.number_of (V.db view.now).schema name.now < length (V.db view.now).schema.tables }
+    ensures { result ≡ holds_rows (V.db view.now).rows (spec.number_of (V.db view.now).schema name.now) }
 {
     let table = number_of(view.schema(), names, name);
     view.count(table) != 0
@@ -30,10 +30,10 @@ pub fn check_rows<V: StoreView>(
     names: &Names,
     draft: &Draft<'_>,
 ) -> Result<(), SchemaFault>
-    requires named { AreNamesOf names.now (V.schema_of view.now) }
-    requires tables { length (V.schema_of view.now).tables < 2 ^ 32 }
-    requires owned { OwnsTablesOf (V.schema_of view.now) draft.now }
-    ensures { Tells (owned_rows (V.schema_of view.now) (holds_rows (V.rows view.now)) draft.now) result }
+    requires named { AreNamesOf names.now (V.db view.now).schema }
+    requires tables { length (V.db view.now).schema.tables < 2 ^ 32 }
+    requires owned { OwnsTablesOf (V.db view.now).schema draft.now }
+    ensures { Tells (owned_rows (V.db view.now).schema (holds_rows (V.db view.now).rows) draft.now) result }
 {
     for reference in draft.references() {
         let table = &reference.refers.table;

@@ -1,12 +1,12 @@
-//! Closed walks over the edges of a schema and those that a CREATE TABLE adds.
+//! Cycles over the edges of a schema and those that a CREATE TABLE adds.
 ghost use Rattle.std.specs.Prelude.{◌≡◌, ◌≤◌, ◌<◌, ◌+◌, ◌^◌, ◌++◌, length, option_map, IfOk, IfSome};
 ghost use Rattle.owner_model.specs.AreWithin.{AreWithin};
 ghost use Rattle.owner_model.specs.Cycle.{cycle_of};
 ghost use Rattle.schema_model.specs.NewEdges.{new_edges};
 ghost use Rattle.schema_model.specs.OwnerSchema.{IsOwnerSchema};
 ghost use Rattle.schema_model.specs.Refusal.{closed, name_of};
-ghost use Rattle.annot_schema.specs.ClosedWalk.{IsWithin, cycle_seen};
-ghost use Rattle.annot_schema.specs.Told.{Tells};
+ghost use Rattle.annot_schema.specs.FoundCycle.{IsWithin, cycle_seen};
+ghost use Rattle.annot_schema.specs.Reported.{Tells};
 
 use crate::fault::SchemaFault;
 use crate::longer::with_items;
@@ -15,17 +15,17 @@ use own_model::{CreateTable, Edge, Schema};
 use owner_graph::{Graph, GraphFault};
 use std::alloc::{AllocError, Global};
 
-/// A closed walk, by two of its tables.
+/// A cycle, by two of its tables.
 #[derive(Clone, Copy)]
-struct ClosedWalk {
+struct FoundCycle {
     table: TableNo,
     through: TableNo,
 }
 
-/// The closed walk that edges between so many tables have, where they have one.
-fn closed_walk(alloc: Global, tables: u32, edges: &[Edge]) -> Result<Option<ClosedWalk>, AllocError>
+/// The cycle that edges between so many tables have, where they have one.
+fn found_cycle(alloc: Global, tables: u32, edges: &[Edge]) -> Result<Option<FoundCycle>, AllocError>
     requires { AreWithin tables edges.now }
-    ensures told { IfOk result (λ walk. option_map cycle_seen walk ≡ cycle_of tables edges.now) }
+    ensures reported { IfOk result (λ walk. option_map cycle_seen walk ≡ cycle_of tables edges.now) }
     ensures within { IfOk result (λ walk. IfSome walk (λ walk. IsWithin tables walk)) }
 {
     match Graph::with_edges(alloc, tables, edges) {
@@ -33,7 +33,7 @@ fn closed_walk(alloc: Global, tables: u32, edges: &[Edge]) -> Result<Option<Clos
             std::mem::drop(graph);
             Ok(None)
         }
-        Err(GraphFault::Cycle { table, through }) => Ok(Some(ClosedWalk { table, through })),
+        Err(GraphFault::Cycle { table, through }) => Ok(Some(FoundCycle { table, through })),
         Err(GraphFault::Memory) => Err(AllocError),
     }
 }
@@ -63,7 +63,7 @@ pub fn check_walks(
 {
     let edges = with_items(alloc, &schema.edges, edges.copy(alloc)?)?;
     let tables = schema.tables.items().len() as u32 + 1;
-    match closed_walk(alloc, tables, edges.items())? {
+    match found_cycle(alloc, tables, edges.items())? {
         Some(walk) => Err(SchemaFault::Cycle {
             table: name_of(schema, create, walk.table).copy(alloc)?,
             through: name_of(schema, create, walk.through).copy(alloc)?,

@@ -1,3 +1,3 @@
 pub mod After
 pub mod Lent
-pub mod Told
+pub mod Reported

@@ -1,12 +1,12 @@
 ghost use Rattle.std.specs.Prelude.{◌≡◌, IfOk};
 ghost use Rattle.query_model.specs.Refused.{rank};
-ghost use Rattle.bind_scope.specs.Told.{told};
+ghost use Rattle.bind_scope.specs.Reported.{reported};
 
 use own_base::{MakeCopy, Name};
 use own_model::{LimitName, Refusal};
 use std::alloc::{AllocError, Global};
 
-/// What is wrong with a statement. Its names are lent, so that a fault takes no memory until it is told.
+/// What is wrong with a statement. Its names are lent, so that a fault takes no memory until it is reported.
 #[derive(Clone, Copy, Debug)]
 pub enum Fault<'a> {
     NoTable(&'a Name),
@@ -27,7 +27,7 @@ pub enum Fault<'a> {
 impl<'a> Fault<'a> {
     /// The place in the order of refusals.
     pub fn rank(&self) -> u8
-        ensures { result ≡ rank (told self.now) }
+        ensures { result ≡ rank (reported self.now) }
     {
         match self {
             Fault::NoTable(_) => 2,
@@ -45,7 +45,7 @@ impl<'a> Fault<'a> {
 
     /// The refusal that tells it.
     pub fn refusal(&self, alloc: Global) -> Result<Refusal, AllocError>
-        ensures { IfOk result (λ refusal. refusal ≡ told self.now) }
+        ensures { IfOk result (λ refusal. refusal ≡ reported self.now) }
     {
         match self {
             Fault::NoTable(table) => Ok(Refusal::NoTable(table.copy(alloc)?)),

@@ -1,13 +1,13 @@
 ghost use Rattle.std.specs.Prelude.{◌≡◌, None, IfOk};
 ghost use Rattle.query_model.specs.Refused.{sooner};
-ghost use Rattle.bind_scope.specs.Told.{told};
+ghost use Rattle.bind_scope.specs.Reported.{reported};
 
 use crate::fault::Fault;
 use own_model::Refusal;
 use std::alloc::{AllocError, Global};
 use std::marker::Model;
 
-/// The fault that is told of those noted so far: the first of the lowest rank. Contracts see it as its refusal.
+/// The fault that is reported of those noted so far: the first of the lowest rank. Contracts see it as its refusal.
 #[derive(Debug, Drop)]
 pub struct Least<'a> {
     fault: Option<Fault<'a>>,
@@ -16,11 +16,11 @@ pub struct Least<'a> {
 impl<'a> Model for Least<'a> {
     ghost use Rattle.std.specs.Prelude.{Option, option_map};
     ghost use Rattle.own_model.specs.declared.refusal.Refusal.{Refusal as Why};
-    ghost use Rattle.bind_scope.specs.Told.{told};
+    ghost use Rattle.bind_scope.specs.Reported.{reported};
 
     ghost Value = { Option Why };
 
-    ghost view = { λ least. option_map told least.fault };
+    ghost view = { λ least. option_map reported least.fault };
 }
 
 impl<'a> Least<'a> {
@@ -33,7 +33,7 @@ impl<'a> Least<'a> {
 
     /// Notes a fault: it takes the place of the one that is kept where its rank is lower.
     pub fn note(&mut self, fault: Fault<'a>)
-        ensures { self.new ≡ sooner self.old (told fault.entry) }
+        ensures { self.new ≡ sooner self.old (reported fault.entry) }
     {
         match &self.fault {
             None => self.fault = Some(fault),
@@ -47,7 +47,7 @@ impl<'a> Least<'a> {
 
     /// The refusal that tells it, where there is one.
     pub fn refusal(&self, alloc: Global) -> Result<Option<Refusal>, AllocError>
-        ensures { IfOk result (λ told. told ≡ self.now) }
+        ensures { IfOk result (λ reported. reported ≡ self.now) }
     {
         match &self.fault {
             None => Ok(None),

@@ -1,4 +1,4 @@
-//! What the names of a statement mean over the columns that it can name, and the one of its faults that is told.
+//! What the names of a statement mean over the columns that it can name, and the one of its faults that is reported.
 #![tactic(auto)]
 
 mod columns;

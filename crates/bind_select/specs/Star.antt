@@ -1,4 +1,4 @@
--- What a star stands for.
+-- What a star represents.
 use Rattle.own_model.specs.declared.bound.BoundItem.{BoundItem}
 use Rattle.own_model.specs.declared.bound.BoundItem.TheVariants.{Column}
 use Rattle.own_model.specs.declared.schema.Kind.{Kind}

@@ -122,7 +122,7 @@ fn note_view<'a>(schema: &Schema, create: &'a CreateView, names: &'a [Name], lea
     note_views(schema, least);
 }
 
-/// The view, or the fault that is told.
+/// The view, or the fault that is reported.
 #[tactic(auto, unfolding(query_model::specs::BoundView::bound_view, query_model::specs::BoundView::view_faults, query_model::specs::BoundView::new_view, query_model::specs::Refused::lowest))]
 fn view_or_fault(
     alloc: Global,

@@ -1,11 +1,12 @@
 pub mod AbsentColumns
 pub mod FirstLemmas
-pub mod HeldLemmas
+pub mod LentLemmas
 pub mod ReferenceLemmas
 pub mod RowCounts
+pub mod LightStores
 pub mod Listed
 pub mod OwnerFaults
-pub mod HeldOrder
+pub mod LentOrder
 pub mod CountLemmas
 pub mod UniqueLemmas
 pub mod SaturatedLemmas

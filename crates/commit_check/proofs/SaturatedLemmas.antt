@@ -10,7 +10,7 @@ use Rattle.commit_check.specs.Saturated.{saturated}
 pub saturated-sum : (a b : ℕ) → saturated (saturated a + saturated b) ≡ saturated (a + b)
 saturated-sum a b = omega arith
 
--- and so is one of which one is told whole
+-- and so is one of which one is reported whole
 pub saturated-add : (a b : ℕ) → saturated (saturated a + b) ≡ saturated (a + b)
 saturated-add a b = omega arith
 

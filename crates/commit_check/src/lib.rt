@@ -1,8 +1,8 @@
 //! The first fault of a store's state as a whole.
 #![tactic(auto)]
 
-mod held_value;
 mod judged;
+mod lent_value;
 mod naming;
 mod owner;
 mod reference;
@@ -18,4 +18,4 @@ pub use reference::first_reference_fault;
 pub use rows::row_limit_fault;
 pub use unique::first_unique_fault;
 pub use weight::{row_size, shown_size, weight_limit_fault};
-pub use whole::{first_fault_flat, judge_flat};
+pub use whole::{first_fault_flat, judge, judge_flat, weigh};

@@ -1,7 +1,7 @@
 ghost use Rattle.std.specs.Prelude.{◌≡◌, IfOk, Some, slice_get};
-ghost use Rattle.own_model.specs.Db.{IsOrdered, key_of};
+ghost use Rattle.own_model.specs.Db.{key_of};
 ghost use Rattle.own_model.specs.Stored.{rows_at};
-ghost use Rattle.owner_sets.specs.Sets.{AreSetsOf, db_of};
+ghost use Rattle.owner_sets.specs.Sets.{AreSetsOf};
 ghost use Rattle.schema_model.specs.OwnerSchema.{IsOwnerSchema};
 ghost use Rattle.schema_model.specs.Tables as spec;
 ghost use Rattle.schema_model.specs.WithinLimits.{IsWithinLimits};
@@ -43,11 +43,10 @@ fn first_in_table<V: StoreView>(
     table: TableNo,
     definition: &TableDef,
 ) -> Result<Option<Refusal>, AllocError>
-    requires there { slice_get (V.schema_of view.now).tables table.0 ≡ Some definition.now }
-    requires ordered { IsOrdered (db_of (V.schema_of view.now) (V.rows view.now)) }
-    requires owner { IsOwnerSchema (V.schema_of view.now) }
-    requires owners { AreSetsOf (db_of (V.schema_of view.now) (V.rows view.now)) (owners (db_of (V.schema_of view.now) (V.rows view.now))) sets.now.owners }
-    ensures { IfOk result (λ first. first ≡ first_in_table (owner_rule (db_of (V.schema_of view.now) (V.rows view.now))) table.0 definition.now (rows_at (V.rows view.now) table.0)) }
+    requires there { slice_get (V.db view.now).schema.tables table.0 ≡ Some definition.now }
+    requires owner { IsOwnerSchema (V.db view.now).schema }
+    requires owners { AreSetsOf (V.db view.now) (owners (V.db view.now)) sets.now.owners }
+    ensures { IfOk result (λ first. first ≡ first_in_table (owner_rule (V.db view.now)) table.0 definition.now (rows_at (V.db view.now).rows table.0)) }
 {
     if !is_private(view.schema(), table) {
         return Ok(None);
@@ -71,11 +70,10 @@ pub fn first_owner_fault<V: StoreView>(
     view: &V,
     sets: &OwnerSets,
 ) -> Result<Option<Refusal>, AllocError>
-    requires limits { IsWithinLimits (V.schema_of view.now) }
-    requires ordered { IsOrdered (db_of (V.schema_of view.now) (V.rows view.now)) }
-    requires owner { IsOwnerSchema (V.schema_of view.now) }
-    requires owners { AreSetsOf (db_of (V.schema_of view.now) (V.rows view.now)) (owners (db_of (V.schema_of view.now) (V.rows view.now))) sets.now.owners }
-    ensures { IfOk result (λ first. first ≡ first_of (owner_faults (db_of (V.schema_of view.now) (V.rows view.now)))) }
+    requires limits { IsWithinLimits (V.db view.now).schema }
+    requires owner { IsOwnerSchema (V.db view.now).schema }
+    requires owners { AreSetsOf (V.db view.now) (owners (V.db view.now)) sets.now.owners }
+    ensures { IfOk result (λ first. first ≡ first_of (owner_faults (V.db view.now))) }
 {
     for (number, definition) in view.schema().tables.items().iter().enumerate() {
         if let Some(fault) = first_in_table(

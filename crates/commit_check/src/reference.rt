@@ -4,7 +4,6 @@ ghost use Rattle.own_model.specs.declared.schema.Column.{Column as Defined};
 ghost use Rattle.own_model.specs.declared.schema.RefKind.{RefKind as By};
 ghost use Rattle.own_model.specs.Db.{key_of};
 ghost use Rattle.own_model.specs.Stored.{rows_at};
-ghost use Rattle.owner_sets.specs.Sets.{db_of};
 ghost use Rattle.query_model.specs.Truth.{cell};
 ghost use Rattle.schema_model.specs.OwnerSchema.{ColumnsRefer, IsOwnerSchema};
 ghost use Rattle.schema_model.specs.WithinLimits.{IsWithinLimits};
@@ -24,8 +23,8 @@ fn breaks_reference<V: StoreView>(
     column: &Column,
     row: &Row,
 ) -> Result<bool, AllocError>
-    requires { (link : By × Number) → column.now.refers ≡ Some link → link.1.0 < length (V.schema_of view.now).tables }
-    ensures { IfOk result (λ breaks. breaks ≡ breaks_reference (db_of (V.schema_of view.now) (V.rows view.now))
+    requires { (link : By × Number) → column.now.refers ≡ Some link → link.1.0 < length (V.db view.now).schema.tables }
+    ensures { IfOk result (λ breaks. breaks ≡ breaks_reference (V.db view.now)
         (record { number = number.0; column = column.now; value = cell row.now number.0 })) }
 {
     match column.refers {
@@ -61,8 +60,8 @@ fn first_in_row<V: StoreView>(
     row: &Row,
 ) -> Result<Option<Refusal>, AllocError>
     requires limits { length definition.now.columns < 2 ^ 32 }
-    requires refer { ColumnsRefer (V.schema_of view.now) definition.now }
-    ensures { IfOk result (λ first. first ≡ first_of (reference_rule (db_of (V.schema_of view.now) (V.rows view.now)) table.0 definition.now (rows_at (V.rows view.now) table.0) row.now)) }
+    requires refer { ColumnsRefer (V.db view.now).schema definition.now }
+    ensures { IfOk result (λ first. first ≡ first_of (reference_rule (V.db view.now) table.0 definition.now (rows_at (V.db view.now).rows table.0) row.now)) }
 {
     for (at, column) in definition.columns.items().iter().enumerate() {
         let breaks = breaks_reference(alloc, view, ColNo(at as u32), column, row)?;
@@ -81,10 +80,10 @@ fn first_in_table<V: StoreView>(
     table: TableNo,
     definition: &TableDef,
 ) -> Result<Option<Refusal>, AllocError>
-    requires there { slice_get (V.schema_of view.now).tables table.0 ≡ Some definition.now }
+    requires there { slice_get (V.db view.now).schema.tables table.0 ≡ Some definition.now }
     requires limits { length definition.now.columns < 2 ^ 32 }
-    requires refer { ColumnsRefer (V.schema_of view.now) definition.now }
-    ensures { IfOk result (λ first. first ≡ first_in_table (reference_rule (db_of (V.schema_of view.now) (V.rows view.now))) table.0 definition.now (rows_at (V.rows view.now) table.0)) }
+    requires refer { ColumnsRefer (V.db view.now).schema definition.now }
+    ensures { IfOk result (λ first. first ≡ first_in_table (reference_rule (V.db view.now)) table.0 definition.now (rows_at (V.db view.now).rows table.0)) }
 {
     for at in 0..view.count(table) {
         let row = match view.row_at(table, at) {
@@ -103,9 +102,9 @@ pub fn first_reference_fault<V: StoreView>(
     alloc: Global,
     view: &V,
 ) -> Result<Option<Refusal>, AllocError>
-    requires limits { IsWithinLimits (V.schema_of view.now) }
-    requires owner { IsOwnerSchema (V.schema_of view.now) }
-    ensures { IfOk result (λ first. first ≡ first_of (reference_faults (db_of (V.schema_of view.now) (V.rows view.now)))) }
+    requires limits { IsWithinLimits (V.db view.now).schema }
+    requires owner { IsOwnerSchema (V.db view.now).schema }
+    ensures { IfOk result (λ first. first ≡ first_of (reference_faults (V.db view.now))) }
 {
     for (number, definition) in view.schema().tables.items().iter().enumerate() {
         if let Some(fault) = first_in_table(alloc, view, TableNo(number as u32), definition)? {

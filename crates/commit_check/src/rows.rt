@@ -1,6 +1,4 @@
 ghost use Rattle.std.specs.Prelude.{◌≡◌, ◌≤◌, ◌<◌, ◌++◌, min, ◌-◌, ◌^◌, length, if◌then◌else◌, nat_lt, None, Some, sum_by};
-ghost use Rattle.own_model.specs.Db.{IsOrdered};
-ghost use Rattle.owner_sets.specs.Sets.{db_of};
 ghost use Rattle.schema_model.specs.WithinLimits.{IsWithinLimits};
 ghost use Rattle.state_model.specs.Weight.{row_count};
 
@@ -9,9 +7,8 @@ use own_model::{LimitName, Refusal, STORE_ROWS, StoreView};
 
 /// How many rows all tables have together, and no more than 64 bits tell.
 fn row_count<V: StoreView>(view: &V) -> u64
-    requires limits { IsWithinLimits (V.schema_of view.now) }
-    requires ordered { IsOrdered (db_of (V.schema_of view.now) (V.rows view.now)) }
-    ensures { result ≡ min (row_count (db_of (V.schema_of view.now) (V.rows view.now))) (2 ^ 64 - 1) }
+    requires limits { IsWithinLimits (V.db view.now).schema }
+    ensures { result ≡ min (row_count (V.db view.now)) (2 ^ 64 - 1) }
 {
     let mut count: u64 = 0;
     for number in 0..view.schema().tables.items().len() as u32 {
@@ -22,9 +19,8 @@ fn row_count<V: StoreView>(view: &V) -> u64
 
 /// More rows than a store may have. Takes no memory.
 pub fn row_limit_fault<V: StoreView>(view: &V) -> Option<Refusal>
-    requires limits { IsWithinLimits (V.schema_of view.now) }
-    requires ordered { IsOrdered (db_of (V.schema_of view.now) (V.rows view.now)) }
-    ensures { result ≡ (if nat_lt STORE_ROWS (row_count (db_of (V.schema_of view.now) (V.rows view.now))) then Some (Refusal.Limit LimitName.Rows) else None) }
+    requires limits { IsWithinLimits (V.db view.now).schema }
+    ensures { result ≡ (if nat_lt STORE_ROWS (row_count (V.db view.now)) then Some (Refusal.Limit LimitName.Rows) else None) }
 {
     if row_count(view) > STORE_ROWS {
         Some(Refusal::Limit(LimitName::Rows))

@@ -1,14 +1,13 @@
 ghost use Rattle.std.specs.Prelude.{◌≡◌, ◌<◌, ◌^◌, ◌&&◌, not, true, Contains, IfOk, List as Seq, Some, count_by, length, nat_lt, slice_get};
-ghost use Rattle.own_model.specs.Db.{IsOrdered, IsRising, Row as Values, key_of};
+ghost use Rattle.own_model.specs.Db.{IsRising, Row as Values, key_of};
 ghost use Rattle.own_model.specs.Stored.{rows_at};
-ghost use Rattle.owner_sets.specs.Sets.{db_of};
 ghost use Rattle.query_model.specs.Truth.{cell, is_null};
 ghost use Rattle.schema_model.specs.WithinLimits.{IsWithinLimits};
 ghost use Rattle.state_model.specs.Fault.{first_of, unique_faults, unique_rule};
 ghost use Rattle.commit_check.specs.Firsts.{first_in_table};
 ghost use Rattle.commit_check.specs.ValueCounts.{CountsColumns, CountsRows, holds};
 
-use crate::held_value::HeldValue;
+use crate::lent_value::LentValue;
 use crate::naming::key_of;
 use crate::value_counts::{counts_of_columns, is_repeated};
 use own_base::{ColNo, MakeCopy, Row, TableNo};
@@ -33,7 +32,7 @@ fn refusal(
 
 /// Whether a column is UNIQUE and what a row holds there isn't NULL and is counted more than once. Takes no memory.
 fn breaks_unique<'a>(
-    counts: &BTreeMap<HeldValue<'a>, u64>,
+    counts: &BTreeMap<LentValue<'a>, u64>,
     number: ColNo,
     column: &Column,
     row: &'a Row,
@@ -50,15 +49,15 @@ fn first_in_row<'a, V: StoreView>(
     view: &'a V,
     table: TableNo,
     definition: &TableDef,
-    counts: &[BTreeMap<HeldValue<'a>, u64>],
+    counts: &[BTreeMap<LentValue<'a>, u64>],
     row: &'a Row,
 ) -> Result<Option<Refusal>, AllocError>
     requires limits { length definition.now.columns < 2 ^ 32 }
-    requires counted { CountsColumns definition.now.columns (rows_at (V.rows view.now) table.0) counts.now }
+    requires counted { CountsColumns definition.now.columns (rows_at (V.db view.now).rows table.0) counts.now }
     requires all { length counts.now ≡ length definition.now.columns }
-    requires rising { IsRising definition.now (rows_at (V.rows view.now) table.0) }
-    requires among { Contains (rows_at (V.rows view.now) table.0) row.now }
-    ensures { IfOk result (λ first. first ≡ first_of (unique_rule table.0 definition.now (rows_at (V.rows view.now) table.0) row.now)) }
+    requires rising { IsRising definition.now (rows_at (V.db view.now).rows table.0) }
+    requires among { Contains (rows_at (V.db view.now).rows table.0) row.now }
+    ensures { IfOk result (λ first. first ≡ first_of (unique_rule table.0 definition.now (rows_at (V.db view.now).rows table.0) row.now)) }
 {
     for (at, column) in definition.columns.items().iter().enumerate() {
         let breaks = breaks_unique(&counts[at], ColNo(at as u32), column, row);
@@ -78,10 +77,10 @@ fn first_in_table<V: StoreView>(
     table: TableNo,
     definition: &TableDef,
 ) -> Result<Option<Refusal>, AllocError>
-    requires there { slice_get (V.schema_of view.now).tables table.0 ≡ Some definition.now }
+    requires there { slice_get (V.db view.now).schema.tables table.0 ≡ Some definition.now }
     requires limits { length definition.now.columns < 2 ^ 32 }
-    requires rising { IsRising definition.now (rows_at (V.rows view.now) table.0) }
-    ensures { IfOk result (λ first. first ≡ first_in_table unique_rule table.0 definition.now (rows_at (V.rows view.now) table.0)) }
+    requires rising { IsRising definition.now (rows_at (V.db view.now).rows table.0) }
+    ensures { IfOk result (λ first. first ≡ first_in_table unique_rule table.0 definition.now (rows_at (V.db view.now).rows table.0)) }
 {
     let counts = counts_of_columns(alloc, view, table, definition)?;
     for at in 0..view.count(table) {
@@ -102,9 +101,8 @@ pub fn first_unique_fault<V: StoreView>(
     alloc: Global,
     view: &V,
 ) -> Result<Option<Refusal>, AllocError>
-    requires limits { IsWithinLimits (V.schema_of view.now) }
-    requires ordered { IsOrdered (db_of (V.schema_of view.now) (V.rows view.now)) }
-    ensures { IfOk result (λ first. first ≡ first_of (unique_faults (db_of (V.schema_of view.now) (V.rows view.now)))) }
+    requires limits { IsWithinLimits (V.db view.now).schema }
+    ensures { IfOk result (λ first. first ≡ first_of (unique_faults (V.db view.now))) }
 {
     for (number, definition) in view.schema().tables.items().iter().enumerate() {
         if let Some(fault) = first_in_table(alloc, view, TableNo(number as u32), definition)? {

@@ -2,10 +2,10 @@ ghost use Rattle.std.specs.Prelude.{◌≡◌, ◌+◌, ◌-◌, ◌<◌, ◌^�
 ghost use Rattle.own_model.specs.Db.{Row as Values};
 ghost use Rattle.own_model.specs.Stored.{rows_at};
 ghost use Rattle.query_model.specs.Truth.{cell, is_null};
-ghost use Rattle.commit_check.specs.declared.held_value.HeldValue.{HeldValue as Held};
+ghost use Rattle.commit_check.specs.declared.lent_value.LentValue.{LentValue as Held};
 ghost use Rattle.commit_check.specs.ValueCounts.{CountsColumns, CountsRows, count_at, holds, times, value_of};
 
-use crate::held_value::{HeldValue, held_in};
+use crate::lent_value::{LentValue, held_in};
 use own_base::{ColNo, Row, TableNo};
 use own_model::{Column, StoreView, TableDef};
 use std::alloc::{AllocError, Global};
@@ -13,8 +13,8 @@ use std::collections::BTreeMap;
 
 /// Counts one value more; NULL doesn't count.
 fn count_value<'a>(
-    counts: &mut BTreeMap<HeldValue<'a>, u64>,
-    value: Option<HeldValue<'a>>,
+    counts: &mut BTreeMap<LentValue<'a>, u64>,
+    value: Option<LentValue<'a>>,
 ) -> Result<(), AllocError>
     requires { (other : Held) → count_at counts.old.entries (value_of other) < 2 ^ 64 - 1 }
     ensures { OnOk result ((other : Held) → count_at counts.new.entries (value_of other) ≡ count_at counts.old.entries (value_of other) + times value.entry (value_of other)) }
@@ -35,9 +35,9 @@ fn counts_of_column<'a, V: StoreView>(
     view: &'a V,
     table: TableNo,
     column: ColNo,
-) -> Result<BTreeMap<HeldValue<'a>, u64>, AllocError>
-    requires { table.0 < length (V.schema_of view.now).tables }
-    ensures { IfOk result (λ counts. CountsRows column.0 (rows_at (V.rows view.now) table.0) counts.entries) }
+) -> Result<BTreeMap<LentValue<'a>, u64>, AllocError>
+    requires { table.0 < length (V.db view.now).schema.tables }
+    ensures { IfOk result (λ counts. CountsRows column.0 (rows_at (V.db view.now).rows table.0) counts.entries) }
 {
     let mut counts = BTreeMap::new(alloc);
     for at in 0..view.count(table) {
@@ -58,9 +58,9 @@ fn counts_if_unique<'a, V: StoreView>(
     table: TableNo,
     number: ColNo,
     column: &Column,
-) -> Result<BTreeMap<HeldValue<'a>, u64>, AllocError>
-    requires { table.0 < length (V.schema_of view.now).tables }
-    ensures { IfOk result (λ counts. column.now.unique ≡ true → CountsRows number.0 (rows_at (V.rows view.now) table.0) counts.entries) }
+) -> Result<BTreeMap<LentValue<'a>, u64>, AllocError>
+    requires { table.0 < length (V.db view.now).schema.tables }
+    ensures { IfOk result (λ counts. column.now.unique ≡ true → CountsRows number.0 (rows_at (V.db view.now).rows table.0) counts.entries) }
 {
     if column.unique {
         counts_of_column(alloc, view, table, number)
@@ -75,10 +75,10 @@ pub(crate) fn counts_of_columns<'a, V: StoreView>(
     view: &'a V,
     table: TableNo,
     definition: &TableDef,
-) -> Result<Vec<BTreeMap<HeldValue<'a>, u64>>, AllocError>
-    requires there { table.0 < length (V.schema_of view.now).tables }
+) -> Result<Vec<BTreeMap<LentValue<'a>, u64>>, AllocError>
+    requires there { table.0 < length (V.db view.now).schema.tables }
     requires limits { length definition.now.columns < 2 ^ 32 }
-    ensures each { IfOk result (λ counts. CountsColumns definition.now.columns (rows_at (V.rows view.now) table.0) counts.items) }
+    ensures each { IfOk result (λ counts. CountsColumns definition.now.columns (rows_at (V.db view.now).rows table.0) counts.items) }
     ensures all { IfOk result (λ counts. length counts.items ≡ length definition.now.columns) }
 {
     let mut counts = Vec::new(alloc);
@@ -91,7 +91,7 @@ pub(crate) fn counts_of_columns<'a, V: StoreView>(
 
 /// Whether what a row holds in a column isn't NULL and is counted more than once. Takes no memory.
 pub(crate) fn is_repeated<'a>(
-    counts: &BTreeMap<HeldValue<'a>, u64>,
+    counts: &BTreeMap<LentValue<'a>, u64>,
     row: &'a Row,
     column: ColNo,
 ) -> bool

@@ -1,8 +1,7 @@
 ghost use Rattle.std.specs.Prelude.{◌≡◌, ◌+◌, ◌-◌, ◌*◌, ◌<◌, Some, None, if◌then◌else◌, length, nat_lt, slice_get, sum_by};
 ghost use Rattle.own_base.specs.Row.{row_size};
-ghost use Rattle.own_model.specs.Db.{IsOrdered};
 ghost use Rattle.own_model.specs.Stored.{rows_at};
-ghost use Rattle.owner_sets.specs.Sets.{AreSetsOf, db_of};
+ghost use Rattle.owner_sets.specs.Sets.{AreSetsOf};
 ghost use Rattle.schema_model.specs.OwnerSchema.{IsOwnerSchema};
 ghost use Rattle.schema_model.specs.WithinLimits.{IsWithinLimits};
 ghost use Rattle.state_model.specs.Weight.{at_least_one, item_size, row_weight, view_weight, weight};
@@ -45,10 +44,10 @@ fn table_weight<V: StoreView>(
     table: TableNo,
     definition: &TableDef,
 ) -> u64
-    requires there { slice_get (V.schema_of view.now).tables table.0 ≡ Some definition.now }
-    requires owners { AreSetsOf (db_of (V.schema_of view.now) (V.rows view.now)) (owners (db_of (V.schema_of view.now) (V.rows view.now))) sets.now.owners }
-    requires reach { AreSetsOf (db_of (V.schema_of view.now) (V.rows view.now)) (reach (db_of (V.schema_of view.now) (V.rows view.now))) sets.now.reach }
-    ensures { result ≡ saturated (sum_by (row_weight (db_of (V.schema_of view.now) (V.rows view.now))) (rows_in table.0 definition.now (rows_at (V.rows view.now) table.0))) }
+    requires there { slice_get (V.db view.now).schema.tables table.0 ≡ Some definition.now }
+    requires owners { AreSetsOf (V.db view.now) (owners (V.db view.now)) sets.now.owners }
+    requires reach { AreSetsOf (V.db view.now) (reach (V.db view.now)) sets.now.reach }
+    ensures { result ≡ saturated (sum_by (row_weight (V.db view.now)) (rows_in table.0 definition.now (rows_at (V.db view.now).rows table.0))) }
 {
     let mut total: u64 = 0;
     for at in 0..view.count(table) {
@@ -65,10 +64,10 @@ fn table_weight<V: StoreView>(
 
 /// What the rows of all tables weigh.
 fn rows_weight<V: StoreView>(view: &V, sets: &OwnerSets) -> u64
-    requires limits { IsWithinLimits (V.schema_of view.now) }
-    requires owners { AreSetsOf (db_of (V.schema_of view.now) (V.rows view.now)) (owners (db_of (V.schema_of view.now) (V.rows view.now))) sets.now.owners }
-    requires reach { AreSetsOf (db_of (V.schema_of view.now) (V.rows view.now)) (reach (db_of (V.schema_of view.now) (V.rows view.now))) sets.now.reach }
-    ensures { result ≡ saturated (sum_by (row_weight (db_of (V.schema_of view.now) (V.rows view.now))) (named_rows (db_of (V.schema_of view.now) (V.rows view.now)))) }
+    requires limits { IsWithinLimits (V.db view.now).schema }
+    requires owners { AreSetsOf (V.db view.now) (owners (V.db view.now)) sets.now.owners }
+    requires reach { AreSetsOf (V.db view.now) (reach (V.db view.now)) sets.now.reach }
+    ensures { result ≡ saturated (sum_by (row_weight (V.db view.now)) (named_rows (V.db view.now))) }
 {
     let mut total: u64 = 0;
     for (number, definition) in view.schema().tables.items().iter().enumerate() {
@@ -105,8 +104,8 @@ pub fn shown_size(row: &Row, items: &[BoundItem]) -> u64
 
 /// The sizes of what a view over one table shows of the table's rows.
 fn shown_weight<V: StoreView>(view: &V, table: TableNo, items: &[BoundItem]) -> u64
-    requires { table.0 < length (V.schema_of view.now).tables }
-    ensures { result ≡ saturated (sum_by (λ row. ROW_SIZE + sum_by (item_size row) items.now) (rows_at (V.rows view.now) table.0)) }
+    requires { table.0 < length (V.db view.now).schema.tables }
+    ensures { result ≡ saturated (sum_by (λ row. ROW_SIZE + sum_by (item_size row) items.now) (rows_at (V.db view.now).rows table.0)) }
 {
     let mut total: u64 = 0;
     for at in 0..view.count(table) {
@@ -122,8 +121,7 @@ fn shown_weight<V: StoreView>(view: &V, table: TableNo, items: &[BoundItem]) -> 
 
 /// What a view weighs.
 fn view_weight<V: StoreView>(view: &V, definition: &ViewDef) -> u64
-    requires { IsOrdered (db_of (V.schema_of view.now) (V.rows view.now)) }
-    ensures { result ≡ saturated (view_weight (db_of (V.schema_of view.now) (V.rows view.now)) definition.now) }
+    ensures { result ≡ saturated (view_weight (V.db view.now) definition.now) }
 {
     match definition.query.source {
         Source1::Table(table) => {
@@ -139,8 +137,7 @@ fn view_weight<V: StoreView>(view: &V, definition: &ViewDef) -> u64
 
 /// What all views weigh.
 fn views_weight<V: StoreView>(view: &V) -> u64
-    requires { IsOrdered (db_of (V.schema_of view.now) (V.rows view.now)) }
-    ensures { result ≡ saturated (sum_by (view_weight (db_of (V.schema_of view.now) (V.rows view.now))) (V.schema_of view.now).views) }
+    ensures { result ≡ saturated (sum_by (view_weight (V.db view.now)) (V.db view.now).schema.views) }
 {
     let mut total: u64 = 0;
     for definition in view.schema().views.items() {
@@ -153,22 +150,20 @@ fn views_weight<V: StoreView>(view: &V) -> u64
 /// What all rows and views weigh, as far as 64 bits tell it, given the sets of the view's rows. Takes no memory.
 #[tactic(auto, unfolding(state_model::specs::Weight::weight))]
 pub(crate) fn weight_of<V: StoreView>(view: &V, sets: &OwnerSets) -> u64
-    requires limits { IsWithinLimits (V.schema_of view.now) }
-    requires ordered { IsOrdered (db_of (V.schema_of view.now) (V.rows view.now)) }
-    requires owners { AreSetsOf (db_of (V.schema_of view.now) (V.rows view.now)) (owners (db_of (V.schema_of view.now) (V.rows view.now))) sets.now.owners }
-    requires reach { AreSetsOf (db_of (V.schema_of view.now) (V.rows view.now)) (reach (db_of (V.schema_of view.now) (V.rows view.now))) sets.now.reach }
-    ensures { result ≡ saturated (weight (db_of (V.schema_of view.now) (V.rows view.now))) }
+    requires limits { IsWithinLimits (V.db view.now).schema }
+    requires owners { AreSetsOf (V.db view.now) (owners (V.db view.now)) sets.now.owners }
+    requires reach { AreSetsOf (V.db view.now) (reach (V.db view.now)) sets.now.reach }
+    ensures { result ≡ saturated (weight (V.db view.now)) }
 {
     rows_weight(view, sets).saturating_add(views_weight(view))
 }
 
 /// A greater weight than a store may have, given the sets of the view's rows. Takes no memory.
 pub fn weight_limit_fault<V: StoreView>(view: &V, sets: &OwnerSets) -> Option<Refusal>
-    requires limits { IsWithinLimits (V.schema_of view.now) }
-    requires ordered { IsOrdered (db_of (V.schema_of view.now) (V.rows view.now)) }
-    requires owners { AreSetsOf (db_of (V.schema_of view.now) (V.rows view.now)) (owners (db_of (V.schema_of view.now) (V.rows view.now))) sets.now.owners }
-    requires reach { AreSetsOf (db_of (V.schema_of view.now) (V.rows view.now)) (reach (db_of (V.schema_of view.now) (V.rows view.now))) sets.now.reach }
-    ensures { result ≡ (if nat_lt STORE_WEIGHT (weight (db_of (V.schema_of view.now) (V.rows view.now))) then Some (Refusal.Limit LimitName.Weight) else None) }
+    requires limits { IsWithinLimits (V.db view.now).schema }
+    requires owners { AreSetsOf (V.db view.now) (owners (V.db view.now)) sets.now.owners }
+    requires reach { AreSetsOf (V.db view.now) (reach (V.db view.now)) sets.now.reach }
+    ensures { result ≡ (if nat_lt STORE_WEIGHT (weight (V.db view.now)) then Some (Refusal.Limit LimitName.Weight) else None) }
 {
     match judge_weight(weight_of(view, sets)) {
         Judged::Fault(why) => Some(why),

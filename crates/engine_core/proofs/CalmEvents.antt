@@ -10,13 +10,13 @@ use Rattle.state_model.specs.Weight.{weight}
 use Rattle.history_model.specs.Held.{held, items_held}
 use Rattle.history_model.specs.History.{History, dooms, flat_after, happens, own_after, world}
 use Rattle.history_model.specs.Reply.{answer, is_refusal}
-use Rattle.history_model.specs.World.{Standing, World}
+use Rattle.history_model.specs.World.{SessionStanding, World}
 use Rattle.history_model.proofs.DoomLemmas.{refused-dooms}
 use Rattle.row_locks.specs.Kept.{kept_by as held_by}
-use Rattle.row_locks.specs.Stands.{StandFor}
-use Rattle.txn_core.specs.Kept.{StandsAs, kept_by}
+use Rattle.row_locks.specs.RepresentsItems.{RepresentsItems}
+use Rattle.txn_core.specs.Kept.{RepresentsSession, kept_by}
 use Rattle.txn_core.specs.Transactions.{AreOthersSame, AreSame, Transactions}
-use Rattle.engine_core.specs.Standing.{IsEvent, StandsIn}
+use Rattle.engine_core.specs.RepresentsWorld.{IsEvent, RepresentsWorld}
 use Rattle.engine_core.specs.declared.state.State.{State}
 use Rattle.engine_core.proofs.NextWorlds.{stands-next}
 
@@ -44,15 +44,15 @@ all-same session before after others kept held = record {
     held_at one true same = subst (λ n. held_by after.held n ≡ held_by before.held n) (sym (eqb-true one session same)) held
     held_at one false apart = others.held one (eqb-false one session apart)
 
--- the state stands for the same world where the same is kept
+-- the state represents the same world where the same is kept
 pub stands-kept : (before after : State) (world : World) → after.version ≡ before.version → after.weighs ≡ before.weighs → AreSame before.txns after.txns
-    → StandsIn before world → StandsIn after world
+    → RepresentsWorld before world → RepresentsWorld after world
 stands-kept before after world version weighs same stands = record {
   flat = version ∙ stands.flat;
   weighs = ap weight version ∙ (stands.weighs ∙ sym weighs);
   up = stands.up;
-  kept = λ session. subst (λ one. StandsAs world.flat one (world.standing session)) (sym (same.kept session)) (stands.kept session);
-  held = λ session. subst (λ items. StandFor items (held world session)) (sym (same.held session)) (stands.held session);
+  kept = λ session. subst (λ one. RepresentsSession world.flat one (world.standing session)) (sym (same.kept session)) (stands.kept session);
+  held = λ session. subst (λ items. RepresentsItems items (held world session)) (sym (same.held session)) (stands.held session);
 }
 
 -- so an entry may come behind it as before
@@ -73,21 +73,21 @@ module _ (history : History) (entry : Entry) (before after : State) (event : IsE
   abbrev told : Reply
   told = answer now entry
 
-  pub stands-calm : (stood : Standing) → after.version ≡ before.version → after.weighs ≡ before.weighs → AreOthersSame entry.session.0 before.txns after.txns
+  pub stands-calm : (stood : SessionStanding) → after.version ≡ before.version → after.weighs ≡ before.weighs → AreOthersSame entry.session.0 before.txns after.txns
       → flat_after (world empty history) entry (answer (world empty history) entry) ≡ (world empty history).flat
       → ((other : ℕ) → dooms (world empty history) entry (answer (world empty history) entry) other ≡ false)
       → own_after (world empty history) entry (answer (world empty history) entry) ≡ stood
-      → StandsAs (world empty history).flat (kept_by after.txns.kept entry.session.0) stood
-      → StandFor (held_by after.txns.held entry.session.0) (items_held (world empty history).flat.schema stood)
-      → StandsIn after (happens (world empty history) entry)
+      → RepresentsSession (world empty history).flat (kept_by after.txns.kept entry.session.0) stood
+      → RepresentsItems (held_by after.txns.held entry.session.0) (items_held (world empty history).flat.schema stood)
+      → RepresentsWorld after (happens (world empty history) entry)
   stands-calm stood version weighs others calm undoomed stands kept holds =
       let is = event.stands in
       stands-next history entry event.entries event.is_entry event.took before is after (record { 0 = length history }) refl
       (version ∙ (is.flat ∙ sym calm)) (ap weight version ∙ (is.weighs ∙ sym weighs))
-      (subst (λ db. StandsAs db (kept_by after.txns.kept entry.session.0) (own_after now entry told)) (sym calm)
-      (subst (λ stood. StandsAs now.flat (kept_by after.txns.kept entry.session.0) stood) (sym stands) kept))
-      (subst (λ (db : Db). StandFor (held_by after.txns.held entry.session.0) (items_held db.schema (own_after now entry told))) (sym calm)
-      (subst (λ stood. StandFor (held_by after.txns.held entry.session.0) (items_held now.flat.schema stood)) (sym stands) holds))
+      (subst (λ db. RepresentsSession db (kept_by after.txns.kept entry.session.0) (own_after now entry told)) (sym calm)
+      (subst (λ stood. RepresentsSession now.flat (kept_by after.txns.kept entry.session.0) stood) (sym stands) kept))
+      (subst (λ (db : Db). RepresentsItems (held_by after.txns.held entry.session.0) (items_held db.schema (own_after now entry told))) (sym calm)
+      (subst (λ stood. RepresentsItems (held_by after.txns.held entry.session.0) (items_held now.flat.schema stood)) (sym stands) holds))
       (λ other differs. record {
         kept = rw (undoomed other) (others.kept other differs);
         held = rw (undoomed other) (others.held other differs);
@@ -101,17 +101,17 @@ module _ (history : History) (entry : Entry) (before after : State) (event : IsE
     calm : flat_after now entry told ≡ now.flat
     calm = rw refusal refl
 
-    pub stands-refused : (stood : Standing) → after.version ≡ before.version → after.weighs ≡ before.weighs → AreOthersSame entry.session.0 before.txns after.txns
+    pub stands-refused : (stood : SessionStanding) → after.version ≡ before.version → after.weighs ≡ before.weighs → AreOthersSame entry.session.0 before.txns after.txns
         → own_after (world empty history) entry (answer (world empty history) entry) ≡ stood
-        → StandsAs (world empty history).flat (kept_by after.txns.kept entry.session.0) stood
-        → StandFor (held_by after.txns.held entry.session.0) (items_held (world empty history).flat.schema stood)
-        → StandsIn after (happens (world empty history) entry)
+        → RepresentsSession (world empty history).flat (kept_by after.txns.kept entry.session.0) stood
+        → RepresentsItems (held_by after.txns.held entry.session.0) (items_held (world empty history).flat.schema stood)
+        → RepresentsWorld after (happens (world empty history) entry)
     stands-refused stood version weighs others = stands-calm stood version weighs others calm (λ other. refused-dooms now entry told other refusal)
 
     -- and where its session stands as it did the state is the same
     pub stands-unmoved : after.version ≡ before.version → after.weighs ≡ before.weighs → AreSame before.txns after.txns
         → own_after (world empty history) entry (answer (world empty history) entry) ≡ (world empty history).standing entry.session.0
-        → StandsIn after (happens (world empty history) entry)
+        → RepresentsWorld after (happens (world empty history) entry)
     unfolding held
     stands-unmoved version weighs same stays =
         let now_after = stands-kept before after now version weighs same event.stands in

@@ -11,10 +11,10 @@ use Rattle.own_model.specs.declared.request.Request.TheVariants.{Run}
 use Rattle.own_model.specs.declared.statement.Statement.TheVariants as of
 use Rattle.own_model.specs.Db.{Db, empty}
 use Rattle.state_model.specs.Net.{net}
-use Rattle.state_model.specs.Settle.{settle}
-use Rattle.state_model.specs.Sound.{IsKept}
+use Rattle.state_model.specs.CommitRefusal.{commit_refusal}
+use Rattle.state_model.specs.Sound.{IsWellFormed}
 use Rattle.state_model.specs.Weight.{weight}
-use Rattle.state_model.proofs.KeptLemmas.{sound-empty}
+use Rattle.state_model.proofs.WellFormedLemmas.{sound-empty}
 use Rattle.history_model.specs.Held.{held, items_held}
 use Rattle.history_model.specs.History.{History, after_request, dooms, flat, flat_after, forgotten, is_conflict, left_by, own_after, standing, world}
 use Rattle.history_model.specs.Reply.{answer, changes, commit_reply, committing, is_refusal, reply_in}
@@ -23,32 +23,30 @@ use Rattle.history_model.proofs.BlockLemmas.{creates-block, kept-block, schema-b
 use Rattle.history_model.proofs.EveryHistory.{serial-world}
 use Rattle.history_model.proofs.Worlds.{IsOpenBlock, open-block}
 use Rattle.row_locks.specs.Kept.{kept_by as held_by}
-use Rattle.row_locks.specs.Stands.{StandFor}
+use Rattle.row_locks.specs.RepresentsItems.{RepresentsItems}
 use Rattle.row_locks.proofs.Holders.{stand-same}
-use Rattle.txn_space.specs.Changed.{changed_rows}
-use Rattle.txn_space.specs.EntryNet.{database}
+use Rattle.txn_space.specs.Changed.{changed_db}
 use Rattle.txn_space.specs.Put.{put_rows}
 use Rattle.txn_core.specs.declared.kept.Kept.{Kept}
 use Rattle.txn_core.specs.declared.kept.Kept.TheVariants as kept
-use Rattle.txn_core.specs.Kept.{StandsAs, is_open, kept_by}
+use Rattle.txn_core.specs.Kept.{RepresentsSession, is_open, kept_by}
 use Rattle.txn_core.specs.Single.{IsNetTo}
 use Rattle.txn_core.specs.Transactions.{AreOthersSame, AreSame, space_of}
 use Rattle.txn_core.proofs.OpenBlocks.{net_block}
 use Rattle.engine_core.specs.Answered.{Tells, left}
 use Rattle.engine_core.specs.Changed.{IsNet, changed}
-use Rattle.engine_core.specs.Settled.{HasDoomed}
-use Rattle.engine_core.specs.Standing.{IsEvent, Serves}
+use Rattle.engine_core.specs.HasDoomed.{HasDoomed}
+use Rattle.engine_core.specs.RepresentsWorld.{IsEvent, Serves}
 use Rattle.engine_core.specs.declared.answer.Answer.{Answer}
 use Rattle.engine_core.specs.declared.state.State.{State}
 use Rattle.history_model.proofs.DoomLemmas.{undoomed}
 use Rattle.engine_core.proofs.NextWorlds.{answer-in, own-in, sound-now, stands-next}
 use Rattle.engine_core.proofs.Stood.{IsOpenTxn, stood-open}
-use Rattle.engine_core.proofs.SettledEvents.{same_undoomed}
+use Rattle.engine_core.proofs.InstalledEvents.{same_undoomed}
 
 module _ (history : History) (entry : Entry) (before : State) (event : IsEvent before history entry) (opened : is_open (kept_by before.txns.kept entry.session.0) ≡ true)
     (asks : entry.request ≡ Run of.Commit) (made : List Change)
-    (nets : IsNetTo (database before.version.schema before.version.rows)
-    (database before.version.schema (changed_rows before.version.schema.tables before.version.rows (space_of (kept_by before.txns.kept entry.session.0)))) made) where
+    (nets : IsNetTo before.version (changed_db before.version (space_of (kept_by before.txns.kept entry.session.0))) made) where
   abbrev now : World
   now = world empty history
 
@@ -71,10 +69,10 @@ module _ (history : History) (entry : Entry) (before : State) (event : IsEvent b
   abbrev behind : Db
   behind = after_block now.flat is.block
 
-  nets_flat : IsNetTo (database now.flat.schema now.flat.rows) (database now.flat.schema (changed_rows now.flat.schema.tables now.flat.rows is.txn.space)) made
+  nets_flat : IsNetTo now.flat (changed_db now.flat is.txn.space) made
   nets_flat =
-      subst (λ space. IsNetTo (database now.flat.schema now.flat.rows) (database now.flat.schema (changed_rows now.flat.schema.tables now.flat.rows space)) made) (ap space_of is.is_kept)
-      (subst (λ (db : Db). IsNetTo (database db.schema db.rows) (database db.schema (changed_rows db.schema.tables db.rows (space_of own))) made) event.stands.flat nets)
+      subst (λ space. IsNetTo now.flat (changed_db now.flat space) made) (ap space_of is.is_kept)
+      (subst (λ (db : Db). IsNetTo db (changed_db db (space_of own)) made) event.stands.flat nets)
 
   block_is : (made ≡ net now.flat behind) × (put_rows now.flat.schema.tables made now.flat.rows ≡ behind.rows)
   unfolding flat standing
@@ -97,13 +95,13 @@ module _ (history : History) (entry : Entry) (before : State) (event : IsEvent b
     once = nets.once;
   }
 
-  pub kept-committed : IsKept (changed before.version made)
+  pub kept-committed : IsWellFormed (changed before.version made)
   kept-committed =
-      subst IsKept (sym changed_is)
+      subst IsWellFormed (sym changed_is)
       (kept-block (length history) now.flat is.block (sound-now history entry event.entries event.is_entry event.took before event.stands).kept opens.stated)
 
   module _ (given : Answer)
-      (tells : Tells before.version (committing Took (changes before.version (changed before.version made)) (settle before.version (changed before.version made)) Done)
+      (tells : Tells before.version (committing Took (changes before.version (changed before.version made)) (commit_refusal before.version (changed before.version made)) Done)
       (changed before.version made) given)
       (place : Place) (at : place.0 ≡ length history) (middle after : State) (version : middle.version ≡ left before.version given.next) (weighs : weight middle.version ≡ middle.weighs)
       (none : given.erased ≡ []) (doomed : HasDoomed given.erased place before.txns middle.txns)
@@ -152,10 +150,10 @@ module _ (history : History) (entry : Entry) (before : State) (event : IsEvent b
       replied,
       stands-next history entry event.entries event.is_entry event.took before event.stands after place at left_is
           (ap weight version_after ∙ (weighs ∙ sym weighs_after))
-          (subst (λ stood. StandsAs (flat_after now entry told) (kept_by after.txns.kept session) stood) (sym own_commit)
-          (subst (λ one. StandsAs (flat_after now entry told) one Outside) (sym keeps) tt))
-          (subst (λ stood. StandFor (held_by after.txns.held session) (items_held (flat_after now entry told).schema stood)) (sym own_commit)
-          (subst (λ items. StandFor items []) (sym holds) (stand-same [])))
+          (subst (λ stood. RepresentsSession (flat_after now entry told) (kept_by after.txns.kept session) stood) (sym own_commit)
+          (subst (λ one. RepresentsSession (flat_after now entry told) one Outside) (sym keeps) tt))
+          (subst (λ stood. RepresentsItems (held_by after.txns.held session) (items_held (flat_after now entry told).schema stood)) (sym own_commit)
+          (subst (λ items. RepresentsItems items []) (sym holds) (stand-same [])))
           (λ other differs. record {
             kept = rw (undoomed_all other) (finished.kept other differs ∙ same.kept other);
             held = rw (undoomed_all other) (finished.held other differs ∙ same.held other);

@@ -13,8 +13,8 @@ use Rattle.state_model.specs.Fault.{fault}
 use Rattle.state_model.specs.Net.{net}
 use Rattle.state_model.specs.Payload.{payload_bytes}
 use Rattle.state_model.specs.Rows.{AreRowsOf}
-use Rattle.state_model.specs.Settle.{settle, too_big}
-use Rattle.state_model.specs.Sound.{IsKept, Sound}
+use Rattle.state_model.specs.CommitRefusal.{commit_refusal, too_big}
+use Rattle.state_model.specs.Sound.{IsWellFormed, Sound}
 use Rattle.state_model.proofs.CreatedSchema.{within-created}
 use Rattle.history_model.specs.Reply.{committing, is_refusal, on_disk}
 use Rattle.engine_core.specs.Answered.{Tells}
@@ -36,14 +36,14 @@ pub tells-cause : (db next : Db) (needed : Bool) (why : Refusal) (reply : Reply)
 tells-cause db next needed why reply answer accepted told stays = rw accepted (record { told = told; leaves = rw stays refl })
 
 -- the cause: the fault of what is left, else the length of the net
-pub cause-fault : (before after : Db) (first : Option Refusal) → first ≡ fault after → is_some first ≡ true → first ≡ settle before after
-unfolding settle
+pub cause-fault : (before after : Db) (first : Option Refusal) → first ≡ fault after → is_some first ≡ true → first ≡ commit_refusal before after
+unfolding commit_refusal
 cause-fault before after None is some = absurd (cc)
 cause-fault before after (Some why) is some = rw (← is) refl
 
 pub cause-length : (before after : Db) (changes : List Change) (first : Option Refusal) → first ≡ fault after → is_some first ≡ false → changes ≡ net before after
-    → too_big (payload_bytes changes) ≡ settle before after
-unfolding settle
+    → too_big (payload_bytes changes) ≡ commit_refusal before after
+unfolding commit_refusal
 cause-length before after changes (Some why) is some are = absurd (cc)
 cause-length before after changes None is some are = rw (← is, ← are) refl
 
@@ -52,7 +52,7 @@ faultless after (Some why) is some = absurd (cc)
 faultless after None is some = sym is
 
 -- the net of two databases of a store
-pub sound-net : (before after : Db) (changes : List Change) → Sound before → IsKept after → fault after ≡ None → before.schema ≡ after.schema → changes ≡ net before after
+pub sound-net : (before after : Db) (changes : List Change) → Sound before → IsWellFormed after → fault after ≡ None → before.schema ≡ after.schema → changes ≡ net before after
     → IsSoundNet changes
 sound-net before after changes sound kept none same is = record {
   before = before;

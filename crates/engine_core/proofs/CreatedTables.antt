@@ -27,7 +27,7 @@ use Rattle.text_model.specs.Canonical.{canonical}
 use Rattle.grammar_model.specs.Readable.{IsReadable}
 use Rattle.state_model.specs.Create.{create, create_view, with_view}
 use Rattle.state_model.specs.Fault.{fault}
-use Rattle.state_model.specs.Sound.{IsKept}
+use Rattle.state_model.specs.Sound.{IsWellFormed}
 use Rattle.run_model.specs.Run.{Outcome, add_view, answered, create_table, run}
 use Rattle.run_model.proofs.KeptRuns.{kept-run}
 use Rattle.history_model.specs.Reply.{committing, create_reply}
@@ -101,13 +101,13 @@ pub next-view : (db next : Db) (view : ViewCreate) (definition : ViewDef) (text 
     → text ≡ canonical (CreateView view) → next ≡ db_viewed db definition text → add_view db view ≡ record { db = next; reply = Done }
 next-view db next view definition text is text_is next_is = view-bound db view definition text is text_is ∙ outcome _ _ _ _ (sym next_is) refl
 
-pub kept-table : (db next : Db) (table : TableCreate) → IsKept db → IsReadable (Run (CreateTable table)) → create_table db table ≡ record { db = next; reply = Done } → IsKept next
+pub kept-table : (db next : Db) (table : TableCreate) → IsWellFormed db → IsReadable (Run (CreateTable table)) → create_table db table ≡ record { db = next; reply = Done } → IsWellFormed next
 unfolding run
-kept-table db next table kept readable is = subst (λ (o : Outcome). IsKept o.db) is (kept-run db kept (CreateTable table) readable)
+kept-table db next table kept readable is = subst (λ (o : Outcome). IsWellFormed o.db) is (kept-run db kept (CreateTable table) readable)
 
-pub kept-view : (db next : Db) (view : ViewCreate) → IsKept db → IsReadable (Run (CreateView view)) → add_view db view ≡ record { db = next; reply = Done } → IsKept next
+pub kept-view : (db next : Db) (view : ViewCreate) → IsWellFormed db → IsReadable (Run (CreateView view)) → add_view db view ≡ record { db = next; reply = Done } → IsWellFormed next
 unfolding run
-kept-view db next view kept readable is = subst (λ (o : Outcome). IsKept o.db) is (kept-run db kept (CreateView view) readable)
+kept-view db next view kept readable is = subst (λ (o : Outcome). IsWellFormed o.db) is (kept-run db kept (CreateView view) readable)
 
 pub tells-created : (db next : Db) (made : Outcome) (answer : Answer) → made ≡ record { db = next; reply = Done }
     → ((any : Db) → Tells any (committing Took true (fault next) Done) next answer) → Tells db (create_reply Took made) made.db answer

@@ -19,7 +19,7 @@ use Rattle.schema_model.specs.Tables.{is_subject}
 use Rattle.own_model.specs.Db.{Db, Row}
 use Rattle.readable_model.proofs.NoFaults.{none-first, none-if}
 use Rattle.state_model.specs.Fault.{fault}
-use Rattle.state_model.specs.Settle.{settled}
+use Rattle.state_model.specs.CommitRefusal.{first_refusal}
 use Rattle.state_model.specs.Sound.{Sound}
 use Rattle.state_model.specs.Weight.{row_count}
 use Rattle.state_model.proofs.ForgetSound.{sound-forget}
@@ -139,15 +139,15 @@ erased-sound db next subject of sound is = subst Sound (sym is) (sound-forget db
 pub tells-forgotten : (db next : Db) (subject : RowName) (changes : List Change) (reply : Reply) (answer : Answer) → is_there db subject ≡ true → next ≡ forget db subject
     → fault next ≡ None → IsPlan db subject (plan_of changes)
     → reply ≡ Forgot (count_by (λ change. not (leaves_row change)) changes) (count_by leaves_row changes)
-    → Tells db (committing Took true (settled (fault next) None) reply) next answer
+    → Tells db (committing Took true (first_refusal (fault next) None) reply) next answer
     → Tells db (forget_reply Took (forget_subject db subject)) (forget_subject db subject).db answer
 unfolding forget_subject
 tells-forgotten db next subject changes reply answer there is none plan counted told =
     let counts : reply ≡ Forgot (length (removed db subject)) (length (changed db subject)) =
     counted ∙ (counts-planned changes ∙ (λ i. Forgot (length (plan.removed i)) ((sym (length-map (plan_of changes).changed (λ (change : Change). change.name)) ∙ ap length plan.changed) i))) in
     let forgot = Forgot (length (removed db subject)) (length (changed db subject)) in
-    let as-counted = subst (λ (reply : Reply). Tells db (committing Took true (settled (fault next) None) reply) next answer) counts told in
-    rw there (rw (← is) (subst (λ (cause : Option Refusal). Tells db (committing Took true cause forgot) next answer) (ap (λ (first : Option Refusal). settled first None) none) as-counted))
+    let as-counted = subst (λ (reply : Reply). Tells db (committing Took true (first_refusal (fault next) None) reply) next answer) counts told in
+    rw there (rw (← is) (subst (λ (cause : Option Refusal). Tells db (committing Took true cause forgot) next answer) (ap (λ (first : Option Refusal). first_refusal first None) none) as-counted))
 
 -- a row that is lent is there
 pub lent-there : (db : Db) (name : RowName) (row : Option (Bor Row)) → option_copied row ≡ row_of db name → is_some row ≡ true → is_there db name ≡ true

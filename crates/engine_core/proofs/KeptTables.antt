@@ -11,7 +11,7 @@ use Rattle.own_model.specs.Db.{Db, Row}
 use Rattle.query_model.specs.Stored.{AreStored, IsStored, IsStoredRow}
 use Rattle.query_eval.specs.Tables.{AreTables}
 use Rattle.state_model.specs.Rows.{AreOfKinds, AreRowsOf, IsOfKind, IsRowOf}
-use Rattle.state_model.specs.Sound.{IsKept}
+use Rattle.state_model.specs.Sound.{IsWellFormed}
 
 -- a value of a column's kind is no sum
 kind_stored : (kind : Kind) (value : Value) → IsOfKind kind value → IsStored value
@@ -38,5 +38,5 @@ all_stored (table ∷ tables) [] are = absurd are
 all_stored (table ∷ tables) (rows ∷ rest) are = All-cons AreStored rows rest (rows_stored table rows are.0) (all_stored tables rest are.1)
 
 -- the tables that a select reads
-pub tables_kept : (db : Db) → IsKept db → AreTables db.schema db.rows
+pub tables_kept : (db : Db) → IsWellFormed db → AreTables db.schema db.rows
 tables_kept db kept = record { rising = kept.ordered.rising; stored = all_stored db.schema.tables db.rows kept.rows }

@@ -11,12 +11,11 @@ pub mod KeptTables
 pub mod KeptViews
 mod Nets
 mod NextWorlds
-pub mod NoCreates
 mod OpenStates
 mod OutsideReplies
 mod PromptEvents
-mod SettledEvents
-mod Standing
+mod InstalledEvents
+mod RepresentsLemmas
 mod StatedEvents
 mod Stood
 mod TableSources

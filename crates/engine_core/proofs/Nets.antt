@@ -10,7 +10,7 @@ use Rattle.own_model.specs.Db.{AreRising, Db, Row}
 use Rattle.page_model.specs.Changed.{with_changes}
 use Rattle.state_model.specs.Net.{net}
 use Rattle.state_model.specs.Payload.{payload_bytes}
-use Rattle.state_model.specs.Settle.{settle}
+use Rattle.state_model.specs.CommitRefusal.{commit_refusal}
 use Rattle.state_model.specs.Sound.{Sound}
 use Rattle.txn_space.specs.Put.{put_from}
 use Rattle.history_model.specs.Reply.{changes, committing, is_refusal}
@@ -42,9 +42,9 @@ module _ (db : Db) (sound : Sound db) where
     empty_net : net db db ≡ []
     empty_net = ap (net db) (sym same) ∙ (sym is.net ∙ none)
 
-    settles : settle db db ≡ None
-    unfolding settle payload_bytes
-    settles = rw (sound.faultless, empty_net) refl
+    accepts : commit_refusal db db ≡ None
+    unfolding commit_refusal payload_bytes
+    accepts = rw (sound.faultless, empty_net) refl
 
     unchanged : changes db db ≡ false
     unchanged = rw empty_net refl
@@ -59,6 +59,6 @@ module _ (db : Db) (sound : Sound db) where
 
     -- so it is told as it ran, and leaves the database
     pub tells-none : (reply : Reply) (answer : Answer) → answer.reply ≡ reply → answer.next ≡ None
-        → Tells db (committing Took (changes db (changed db list)) (settle db (changed db list)) reply) (changed db list) answer
+        → Tells db (committing Took (changes db (changed db list)) (commit_refusal db (changed db list)) reply) (changed db list) answer
     tells-none reply answer told stays =
-        rw same (rw (unchanged, settles, step (is_refusal reply) reply refl) (record { told = told; leaves = rw stays (leaves-step (is_refusal reply)) }))
+        rw same (rw (unchanged, accepts, step (is_refusal reply) reply refl) (record { told = told; leaves = rw stays (leaves-step (is_refusal reply)) }))

@@ -1,4 +1,4 @@
--- After an entry the state stands for the next world.
+-- After an entry the state represents the next world.
 use Rattle.std.proofs.Common.{◌≡◌, ◌∙◌, ◌==◌, ℕ, [], length, Bool, true, false, ap, refl, subst, sym}
 use Rattle.std.specs.Prelude.{if◌then◌else◌}
 use Rattle.std.proofs.lemmas.Bool.{eqb-false, eqb-true, ne_eqb}
@@ -10,32 +10,32 @@ use Rattle.own_model.specs.declared.schema.Schema.{Schema}
 use Rattle.own_model.specs.Db.{Db, empty}
 use Rattle.state_model.specs.Sound.{Sound}
 use Rattle.state_model.specs.Weight.{weight}
-use Rattle.state_model.proofs.KeptLemmas.{sound-empty}
+use Rattle.state_model.proofs.WellFormedLemmas.{sound-empty}
 use Rattle.run_model.specs.Agree.{Agree}
 use Rattle.history_model.specs.HasWritten.{has_written}
 use Rattle.history_model.specs.Held.{held, is_open, items_held}
 use Rattle.history_model.specs.History.{History, after_request, doomed_at, dooms, flat, flat_after, happens, is_conflict, other_after, own_after, standing, world}
 use Rattle.history_model.specs.Reply.{answer, reply_in}
 use Rattle.history_model.specs.Serial.{IsEntry, IsHistory}
-use Rattle.history_model.specs.World.{Standing, Outside, Open, Doomed, World}
+use Rattle.history_model.specs.World.{SessionStanding, Outside, Open, Doomed, World}
 use Rattle.history_model.proofs.EveryHistory.{serial-world}
 use Rattle.history_model.proofs.HistoryLemmas.{place-world, reply-last}
 use Rattle.history_model.proofs.SerialLemmas.{held-kept, serial-step}
 use Rattle.history_model.proofs.Working.{answer-works, up-after}
 use Rattle.history_model.proofs.Worlds.{IsSerialWorld}
 use Rattle.row_locks.specs.Kept.{kept_by as held_by}
-use Rattle.row_locks.specs.Stands.{StandFor}
+use Rattle.row_locks.specs.RepresentsItems.{RepresentsItems}
 use Rattle.row_locks.proofs.Holders.{stand-same}
 use Rattle.txn_core.specs.declared.kept.Kept.{Kept}
 use Rattle.txn_core.specs.declared.kept.Kept.TheVariants as kept
-use Rattle.txn_core.specs.Kept.{StandsAs, kept_by, struck}
-use Rattle.txn_core.proofs.KeptStands.{stands_struck}
-use Rattle.txn_core.proofs.OpenBlocks.{stands_elsewhere}
-use Rattle.engine_core.specs.Standing.{StandsIn}
+use Rattle.txn_core.specs.Kept.{RepresentsSession, kept_by, once_doomed}
+use Rattle.txn_core.proofs.RepresentsSteps.{represents_dooming}
+use Rattle.txn_core.proofs.OpenBlocks.{represents_elsewhere}
+use Rattle.engine_core.specs.RepresentsWorld.{RepresentsWorld}
 use Rattle.engine_core.specs.declared.state.State.{State}
 
 module _ (history : History) (entry : Entry) (entered : IsHistory history) (is_entry : IsEntry entry) (took : entry.verdict ≡ Took)
-    (before : State) (stands : StandsIn before (world empty history)) where
+    (before : State) (stands : RepresentsWorld before (world empty history)) where
   abbrev now : World
   now = world empty history
 
@@ -80,12 +80,12 @@ module _ (history : History) (entry : Entry) (entered : IsHistory history) (is_e
       agree : is_open (now.standing other) ≡ true → Agree (held now other) now.flat next_flat
       agree opened = held-kept empty history now is_serial entry is_entry told (reply-last empty history entry) refl other (ap is_open same_standing ∙ opened)
 
-      stands_still : (one : Kept) (stood : Standing) → now.standing other ≡ stood → StandsAs now.flat one stood → StandsAs next_flat one stood
+      stands_still : (one : Kept) (stood : SessionStanding) → now.standing other ≡ stood → RepresentsSession now.flat one stood → RepresentsSession next_flat one stood
       unfolding flat standing
       stands_still kept.Nothing Outside is stood = tt
       stands_still (kept.Open txn) (Open begun block) is stood =
           let same = agree (ap is_open is) in (
-            stands_elsewhere empty history sound-empty entered other begun block is txn.space stood.0 next_flat sound-next same,
+            represents_elsewhere empty history sound-empty entered other begun block is txn.space stood.0 next_flat sound-next same,
             stood.1,
             λ wrote. ap (λ schema. has_written schema block) (sym same.schema) ∙ stood.2 wrote,
           )
@@ -98,35 +98,35 @@ module _ (history : History) (entry : Entry) (entered : IsHistory history) (is_e
       stands_still (kept.Doomed place) (Open begun block) is stood = absurd stood
 
       -- and holds what it held
-      holds_still : (stood : Standing) → now.standing other ≡ stood → items_held next_flat.schema stood ≡ items_held now.flat.schema stood
+      holds_still : (stood : SessionStanding) → now.standing other ≡ stood → items_held next_flat.schema stood ≡ items_held now.flat.schema stood
       holds_still Outside is = refl
       holds_still (Open begun block) is = ap (λ schema. items_held schema (Open begun block)) (sym (agree (ap is_open is)).schema)
       holds_still (Doomed by) is = refl
 
-      kept_still : StandsAs next_flat (kept_by before.txns.kept other) (now.standing other)
+      kept_still : RepresentsSession next_flat (kept_by before.txns.kept other) (now.standing other)
       kept_still = stands_still (kept_by before.txns.kept other) (now.standing other) refl (stands.kept other)
 
-      held_still : StandFor (held_by before.txns.held other) (items_held next_flat.schema (now.standing other))
+      held_still : RepresentsItems (held_by before.txns.held other) (items_held next_flat.schema (now.standing other))
       unfolding held
-      held_still = subst (λ items. StandFor (held_by before.txns.held other) items) (sym (holds_still (now.standing other) refl)) (stands.held other)
+      held_still = subst (λ items. RepresentsItems (held_by before.txns.held other) items) (sym (holds_still (now.standing other) refl)) (stands.held other)
 
     -- one that is doomed holds nothing
-    none_held : (schema : Schema) (place : ℕ) (stood : Standing) → items_held schema (doomed_at place stood) ≡ []
+    none_held : (schema : Schema) (place : ℕ) (stood : SessionStanding) → items_held schema (doomed_at place stood) ≡ []
     none_held schema place Outside = refl
     none_held schema place (Open begun block) = refl
     none_held schema place (Doomed by) = refl
 
-  -- what is kept of another session behind the entry: it is struck where it is doomed, else it is as it was
+  -- what is kept of another session behind the entry: it is once_doomed where it is doomed, else it is as it was
   pub record IsLeft (place : Place) (after : State) (other : ℕ) : Type 0 where
     pub kept : kept_by after.txns.kept other
-        ≡ (if dooms (world empty history) entry (answer (world empty history) entry) other then struck place (kept_by before.txns.kept other) else kept_by before.txns.kept other)
+        ≡ (if dooms (world empty history) entry (answer (world empty history) entry) other then once_doomed place (kept_by before.txns.kept other) else kept_by before.txns.kept other)
     pub held : held_by after.txns.held other ≡ (if dooms (world empty history) entry (answer (world empty history) entry) other then [] else held_by before.txns.held other)
 
   module _ (after : State) (place : Place) (at : place.0 ≡ length history) (version : after.version ≡ flat_after (world empty history) entry (answer (world empty history) entry))
       (weighs : weight after.version ≡ after.weighs)
-      (own_kept : StandsAs (flat_after (world empty history) entry (answer (world empty history) entry)) (kept_by after.txns.kept entry.session.0)
+      (own_kept : RepresentsSession (flat_after (world empty history) entry (answer (world empty history) entry)) (kept_by after.txns.kept entry.session.0)
       (own_after (world empty history) entry (answer (world empty history) entry)))
-      (own_held : StandFor (held_by after.txns.held entry.session.0) (items_held (flat_after (world empty history) entry (answer (world empty history) entry)).schema
+      (own_held : RepresentsItems (held_by after.txns.held entry.session.0) (items_held (flat_after (world empty history) entry (answer (world empty history) entry)).schema
       (own_after (world empty history) entry (answer (world empty history) entry))))
       (others : (other : ℕ) → (other ≡ entry.session.0 → ⊥) → IsLeft place after other) where
     here : place.0 ≡ now.place
@@ -134,31 +134,31 @@ module _ (history : History) (entry : Entry) (entered : IsHistory history) (is_e
 
     -- of another session
     kept_by_doom : (other : ℕ) (differs : other ≡ session → ⊥) (b : Bool) → dooms now entry told other ≡ b
-        → StandsAs next_flat (if b then struck place (kept_by before.txns.kept other) else kept_by before.txns.kept other) (if b then doomed_at now.place (now.standing other) else now.standing other)
+        → RepresentsSession next_flat (if b then once_doomed place (kept_by before.txns.kept other) else kept_by before.txns.kept other) (if b then doomed_at now.place (now.standing other) else now.standing other)
     kept_by_doom other differs true doomed =
-        subst (λ n. StandsAs next_flat (struck place (kept_by before.txns.kept other)) (doomed_at n (now.standing other))) here
-        (stands_struck now.flat next_flat place (kept_by before.txns.kept other) (now.standing other) (stands.kept other))
+        subst (λ n. RepresentsSession next_flat (once_doomed place (kept_by before.txns.kept other)) (doomed_at n (now.standing other))) here
+        (represents_dooming now.flat next_flat place (kept_by before.txns.kept other) (now.standing other) (stands.kept other))
     kept_by_doom other differs false undoomed = kept_still other differs undoomed
 
     held_by_doom : (other : ℕ) (differs : other ≡ session → ⊥) (b : Bool) → dooms now entry told other ≡ b
-        → StandFor (if b then [] else held_by before.txns.held other) (items_held next_flat.schema (if b then doomed_at now.place (now.standing other) else now.standing other))
+        → RepresentsItems (if b then [] else held_by before.txns.held other) (items_held next_flat.schema (if b then doomed_at now.place (now.standing other) else now.standing other))
     held_by_doom other differs true doomed = rw (none_held other differs next_flat.schema now.place (now.standing other)) (stand-same [])
     held_by_doom other differs false undoomed = held_still other differs undoomed
 
-    kept_at : (one : ℕ) (b : Bool) → (one == session) ≡ b → StandsAs next_flat (kept_by after.txns.kept one) (if b then own_after now entry told else other_after now entry told one)
-    kept_at one true same = subst (λ n. StandsAs next_flat (kept_by after.txns.kept n) (own_after now entry told)) (sym (eqb-true one session same)) own_kept
+    kept_at : (one : ℕ) (b : Bool) → (one == session) ≡ b → RepresentsSession next_flat (kept_by after.txns.kept one) (if b then own_after now entry told else other_after now entry told one)
+    kept_at one true same = subst (λ n. RepresentsSession next_flat (kept_by after.txns.kept n) (own_after now entry told)) (sym (eqb-true one session same)) own_kept
     kept_at one false apart =
         let differs = eqb-false one session apart in
-        subst (λ found. StandsAs next_flat found (other_after now entry told one)) (sym (others one differs).kept) (kept_by_doom one differs (dooms now entry told one) refl)
+        subst (λ found. RepresentsSession next_flat found (other_after now entry told one)) (sym (others one differs).kept) (kept_by_doom one differs (dooms now entry told one) refl)
 
     held_at : (one : ℕ) (b : Bool) → (one == session) ≡ b
-        → StandFor (held_by after.txns.held one) (items_held next_flat.schema (if b then own_after now entry told else other_after now entry told one))
-    held_at one true same = subst (λ n. StandFor (held_by after.txns.held n) (items_held next_flat.schema (own_after now entry told))) (sym (eqb-true one session same)) own_held
+        → RepresentsItems (held_by after.txns.held one) (items_held next_flat.schema (if b then own_after now entry told else other_after now entry told one))
+    held_at one true same = subst (λ n. RepresentsItems (held_by after.txns.held n) (items_held next_flat.schema (own_after now entry told))) (sym (eqb-true one session same)) own_held
     held_at one false apart =
         let differs = eqb-false one session apart in
-        subst (λ found. StandFor found (items_held next_flat.schema (other_after now entry told one))) (sym (others one differs).held) (held_by_doom one differs (dooms now entry told one) refl)
+        subst (λ found. RepresentsItems found (items_held next_flat.schema (other_after now entry told one))) (sym (others one differs).held) (held_by_doom one differs (dooms now entry told one) refl)
 
-    pub stands-next : StandsIn after (happens (world empty history) entry)
+    pub stands-next : RepresentsWorld after (happens (world empty history) entry)
     unfolding held
     stands-next = record {
       flat = version;

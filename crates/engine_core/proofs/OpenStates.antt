@@ -13,7 +13,7 @@ use Rattle.own_model.specs.Db.{Db, empty}
 use Rattle.grammar_model.specs.Readable.{IsReadable, IsWritten}
 use Rattle.state_model.specs.Rows.{AreRowsOf}
 use Rattle.state_model.specs.Sound.{Sound}
-use Rattle.state_model.proofs.KeptLemmas.{sound-empty}
+use Rattle.state_model.proofs.WellFormedLemmas.{sound-empty}
 use Rattle.history_model.specs.History.{History, flat, standing, world}
 use Rattle.history_model.specs.World.{World}
 use Rattle.txn_space.specs.Changed.{changed_rows}
@@ -24,7 +24,7 @@ use Rattle.txn_core.specs.Runs.{IsStore}
 use Rattle.txn_core.specs.Transactions.{IsQuietKept, space_of}
 use Rattle.txn_core.proofs.OpenBlocks.{rows_shown}
 use Rattle.txn_core.proofs.SoundBases.{base-sound, store-sound}
-use Rattle.engine_core.specs.Standing.{IsEvent, Serves}
+use Rattle.engine_core.specs.RepresentsWorld.{IsEvent, Serves}
 use Rattle.engine_core.specs.declared.state.State.{State}
 use Rattle.engine_core.proofs.KeptViews.{views_there-created}
 use Rattle.engine_core.proofs.NextWorlds.{sound-now}
@@ -34,7 +34,7 @@ use Rattle.engine_core.proofs.Stood.{IsOpenTxn, stood-open}
 pub written-event : (history : History) (entry : Entry) (before : State) (asked : Statement) → IsEvent before history entry → entry.request ≡ Run asked → IsWritten STATEMENT_BYTES asked
 written-event history entry before asked event asks = subst IsReadable asks event.is_entry.readable
 
--- a refusal is told, unless it is for want of memory
+-- a refusal is reported, unless it is for want of memory
 pub serves-either : {E : Type 0} (history : History) (entry : Entry) (after : State) (why : Refusal) (result : Result Reply E)
     → IfOk result (λ reply. (reply ≡ Refused why) × (why ≢ Memory)) → OnErr result (why ≡ Memory)
     → (why ≢ Memory → Serves {E = ℕ} after history entry (Ok (Refused why))) → (why ≡ Memory → (e : E) → Serves {E = E} after history entry (Err e)) → Serves after history entry result
@@ -53,7 +53,7 @@ module _ (history : History) (entry : Entry) (before : State) (event : IsEvent b
   pub base-event : IsBase before.version.schema.tables before.version.rows
   base-event = base-sound before.version sound-event
 
-  pub store-event : IsStore before.version.schema before.version.rows
+  pub store-event : IsStore before.version
   store-event = store-sound before.version sound-event (views_there-created before.version sound-event.kept.created)
 
   -- where a transaction is open

@@ -24,11 +24,11 @@ use Rattle.history_model.specs.History.{forgotten}
 use Rattle.history_model.specs.Reply.{create_reply, reply_outside, unless_busy}
 use Rattle.history_model.specs.World.{World}
 use Rattle.txn_core.specs.Kept.{is_open, kept_by}
-use Rattle.txn_core.proofs.KeptStands.{stands_lowest}
+use Rattle.txn_core.proofs.RepresentsSteps.{represents_lowest}
 use Rattle.engine_core.specs.declared.answer.Answer.{Answer}
 use Rattle.engine_core.specs.Answered.{Tells, bound_reply}
 use Rattle.engine_core.specs.Asked.{IsBound, IsBuiltRequest, IsCreate, RunsByItself, has_place_inside}
-use Rattle.engine_core.specs.Standing.{StandsIn}
+use Rattle.engine_core.specs.RepresentsWorld.{RepresentsWorld}
 use Rattle.engine_core.specs.declared.state.State.{State}
 use Rattle.engine_core.proofs.BoundStatements.{reply-bound, reply-refused}
 
@@ -68,7 +68,7 @@ nobody-create schema (CreateTable table) create = refl
 nobody-create schema (CreateView view) create = refl
 nobody-create schema _ create = absurd create
 
-module _ (state : State) (world : World) (stands : StandsIn state world) (session : ℕ) where
+module _ (state : State) (world : World) (stands : RepresentsWorld state world) (session : ℕ) where
   -- one that is bound is answered as what it means
   pub reply-meant_in : (asked : Statement) (got : Bound) → IsBound asked → bound_statement state.version.schema asked ≡ Ok got
       → reply_outside world session Took asked ≡ bound_reply world state.version session got
@@ -96,7 +96,7 @@ module _ (state : State) (world : World) (stands : StandsIn state world) (sessio
   -- who keeps a CREATE waiting
   pub lowest-in : (given : Option SessionNo) → option_map (λ (other : SessionNo). other.0) given ≡ find (λ other. is_open (kept_by state.txns.kept other)) (others session)
       → option_map (λ (other : SessionNo). other.0) given ≡ lowest_other world session
-  lowest-in given is = is ∙ stands_lowest world state.txns.kept stands.kept session
+  lowest-in given is = is ∙ represents_lowest world state.txns.kept stands.kept session
 
   busy_step : (asked : Statement) → IsCreate asked → reply_outside world session Took asked ≡ unless_busy (lowest_other world session) (create_reply Took (run world.flat asked))
   busy_step (CreateTable table) create = refl

@@ -19,19 +19,19 @@ use Rattle.run_model.specs.Run.{run}
 use Rattle.history_model.specs.Held.{held, items_held}
 use Rattle.history_model.specs.History.{History, after_request, flat_after, is_conflict, left_by, own_after, world}
 use Rattle.history_model.specs.Reply.{answer, is_refusal, reply_in}
-use Rattle.history_model.specs.World.{Block, Standing, Outside, Open, Doomed, World}
+use Rattle.history_model.specs.World.{Block, SessionStanding, Outside, Open, Doomed, World}
 use Rattle.history_model.proofs.BlockLemmas.{items-nil}
 use Rattle.history_model.proofs.DoomLemmas.{undoomed}
 use Rattle.row_locks.specs.Kept.{kept_by as held_by}
-use Rattle.row_locks.specs.Stands.{StandFor}
+use Rattle.row_locks.specs.RepresentsItems.{RepresentsItems}
 use Rattle.row_locks.proofs.Holders.{stand-same}
 use Rattle.txn_core.specs.declared.kept.Kept.{Kept}
 use Rattle.txn_core.specs.declared.kept.Kept.TheVariants as kept
-use Rattle.txn_core.specs.Kept.{StandsAs, doom_of, is_open, kept_by, told as told_of}
+use Rattle.txn_core.specs.Kept.{RepresentsSession, doom_of, is_open, kept_by, told as told_of}
 use Rattle.txn_core.specs.Transactions.{AreOthersSame, AreSame}
-use Rattle.txn_core.proofs.KeptStands.{stands_begun}
+use Rattle.txn_core.proofs.RepresentsSteps.{represents_begun}
 use Rattle.engine_core.specs.Asked.{has_place_inside}
-use Rattle.engine_core.specs.Standing.{IsEvent, Serves}
+use Rattle.engine_core.specs.RepresentsWorld.{IsEvent, Serves}
 use Rattle.engine_core.specs.declared.state.State.{State}
 use Rattle.engine_core.proofs.CalmEvents.{stands-calm, stands-refused, stands-unmoved}
 use Rattle.engine_core.proofs.NextWorlds.{answer-in, own-in, sound-now}
@@ -75,18 +75,18 @@ module _ (history : History) (entry : Entry) (before after : State) (event : IsE
   own = kept_by before.txns.kept session
 
   -- by how the session stands and what it asks
-  told_by : (stood : Standing) (request : Request) → now.standing session ≡ stood → entry.request ≡ request → told ≡ reply_in now session Took stood request
+  told_by : (stood : SessionStanding) (request : Request) → now.standing session ≡ stood → entry.request ≡ request → told ≡ reply_in now session Took stood request
   told_by stood request stands asks =
       answer-in history entry event.entries event.is_entry event.took before event.stands
       ∙ (λ i. reply_in now session Took (stands i) (asks i))
 
-  own_by : (stood : Standing) (request : Request) → now.standing session ≡ stood → entry.request ≡ request
+  own_by : (stood : SessionStanding) (request : Request) → now.standing session ≡ stood → entry.request ≡ request
       → own_after now entry told ≡ after_request now.place stood request (is_conflict told)
   own_by stood request stands asks =
       own-in history entry event.entries event.is_entry event.took before event.stands
       ∙ (λ i. after_request now.place (stands i) (asks i) (is_conflict told))
 
-  flat_by : (stood : Standing) (request : Request) → now.standing session ≡ stood → entry.request ≡ request → left_by now.flat stood request ≡ now.flat
+  flat_by : (stood : SessionStanding) (request : Request) → now.standing session ≡ stood → entry.request ≡ request → left_by now.flat stood request ≡ now.flat
       → flat_after now entry told ≡ now.flat
   flat_by stood request stands asks stays = by (is_refusal told)
     where
@@ -97,11 +97,11 @@ module _ (history : History) (entry : Entry) (before after : State) (event : IsE
       by true = refl
       by false = left
 
-  -- what is kept of its items stands for those that it holds
-  held_by_standing : (stood : Standing) → now.standing session ≡ stood → StandFor (held_by before.txns.held session) (items_held now.flat.schema stood)
+  -- what is kept of its items represents those that it holds
+  held_by_standing : (stood : SessionStanding) → now.standing session ≡ stood → RepresentsItems (held_by before.txns.held session) (items_held now.flat.schema stood)
   unfolding held
   held_by_standing stood stands =
-      subst (λ stood. StandFor (held_by before.txns.held session) (items_held now.flat.schema stood)) stands (event.stands.held session)
+      subst (λ stood. RepresentsItems (held_by before.txns.held session) (items_held now.flat.schema stood)) stands (event.stands.held session)
 
   -- a doom is told, and nothing else done
   pub serves-doomed : (place : Place) → doom_of (kept_by before.txns.kept entry.session.0) ≡ Some place → AreOthersSame entry.session.0 before.txns after.txns
@@ -114,27 +114,27 @@ module _ (history : History) (entry : Entry) (before after : State) (event : IsE
         is,
         stands-refused history entry before after event (refusal.Doomed place) is Outside version weighs others
             (own_by (Doomed place.0) entry.request stood refl)
-            (subst (λ one. StandsAs now.flat one Outside) (sym (keeps ∙ kept-doomed own place doom)) tt)
-            (subst (λ items. StandFor items []) (sym holds) (held_by_standing (Doomed place.0) stood)),
+            (subst (λ one. RepresentsSession now.flat one Outside) (sym (keeps ∙ kept-doomed own place doom)) tt)
+            (subst (λ items. RepresentsItems items []) (sym holds) (held_by_standing (Doomed place.0) stood)),
       )
 
   -- a text that the reader refused
-  syntax_told : (byte : ℕ) (stood : Standing) → IsUndoomed stood → reply_in now session Took stood (Syntax byte) ≡ Refused (refusal.Syntax byte)
+  syntax_told : (byte : ℕ) (stood : SessionStanding) → IsUndoomed stood → reply_in now session Took stood (Syntax byte) ≡ Refused (refusal.Syntax byte)
   syntax_told byte Outside free = refl
   syntax_told byte (Open begun block) free = refl
   syntax_told byte (Doomed by) free = absurd free
 
-  syntax_stays : (byte : ℕ) (stood : Standing) (conflicts : Bool) → IsUndoomed stood → after_request now.place stood (Syntax byte) conflicts ≡ stood
+  syntax_stays : (byte : ℕ) (stood : SessionStanding) (conflicts : Bool) → IsUndoomed stood → after_request now.place stood (Syntax byte) conflicts ≡ stood
   syntax_stays byte Outside conflicts free = refl
   syntax_stays byte (Open begun block) conflicts free = refl
   syntax_stays byte (Doomed by) conflicts free = absurd free
 
-  limit_told : (limit : LimitName) (stood : Standing) → IsUndoomed stood → reply_in now session Took stood (Limit limit) ≡ Refused (refusal.Limit limit)
+  limit_told : (limit : LimitName) (stood : SessionStanding) → IsUndoomed stood → reply_in now session Took stood (Limit limit) ≡ Refused (refusal.Limit limit)
   limit_told limit Outside free = refl
   limit_told limit (Open begun block) free = refl
   limit_told limit (Doomed by) free = absurd free
 
-  limit_stays : (limit : LimitName) (stood : Standing) (conflicts : Bool) → IsUndoomed stood → after_request now.place stood (Limit limit) conflicts ≡ stood
+  limit_stays : (limit : LimitName) (stood : SessionStanding) (conflicts : Bool) → IsUndoomed stood → after_request now.place stood (Limit limit) conflicts ≡ stood
   limit_stays limit Outside conflicts free = refl
   limit_stays limit (Open begun block) conflicts free = refl
   limit_stays limit (Doomed by) conflicts free = absurd free
@@ -160,17 +160,17 @@ module _ (history : History) (entry : Entry) (before after : State) (event : IsE
         )
 
     -- the end of a session, which ends its transaction
-    end_told : (stood : Standing) → IsUndoomed stood → reply_in now session Took stood End ≡ Ended
+    end_told : (stood : SessionStanding) → IsUndoomed stood → reply_in now session Took stood End ≡ Ended
     end_told Outside so = refl
     end_told (Open begun block) so = refl
     end_told (Doomed by) so = absurd so
 
-    end_after : (stood : Standing) (conflicts : Bool) → after_request now.place stood End conflicts ≡ Outside
+    end_after : (stood : SessionStanding) (conflicts : Bool) → after_request now.place stood End conflicts ≡ Outside
     end_after Outside conflicts = refl
     end_after (Open begun block) conflicts = refl
     end_after (Doomed by) conflicts = refl
 
-    end_left : (stood : Standing) → left_by now.flat stood End ≡ now.flat
+    end_left : (stood : SessionStanding) → left_by now.flat stood End ≡ now.flat
     end_left Outside = refl
     end_left (Open begun block) = refl
     end_left (Doomed by) = refl
@@ -183,8 +183,8 @@ module _ (history : History) (entry : Entry) (before after : State) (event : IsE
           (flat_by (now.standing session) End refl asks (end_left (now.standing session)))
           (λ other. undoomed now entry told other (rw asks refl))
           (own_by (now.standing session) End refl asks ∙ end_after (now.standing session) (is_conflict told))
-          (subst (λ one. StandsAs now.flat one Outside) (sym keeps) tt)
-          (subst (λ items. StandFor items []) (sym holds) (stand-same [])),
+          (subst (λ one. RepresentsSession now.flat one Outside) (sym keeps) tt)
+          (subst (λ items. RepresentsItems items []) (sym holds) (stand-same [])),
     )
 
   -- outside a transaction
@@ -209,10 +209,10 @@ module _ (history : History) (entry : Entry) (before after : State) (event : IsE
           (flat_by Outside (Run Begin) outside asks begin_left)
           (λ other. undoomed now entry told other (rw asks refl))
           (own_by Outside (Run Begin) outside asks)
-          (subst (λ one. StandsAs now.flat one (Open now.place [])) (sym keeps)
-          (stands_begun now.flat now.place (sound-now history entry event.entries event.is_entry event.took before event.stands).kept))
-          (subst (λ items. StandFor items (items_held now.flat.schema (Open now.place []))) (sym holds)
-          (subst (λ items. StandFor (held_by before.txns.held session) items) (sym (items-nil now.flat.schema)) (held_by_standing Outside outside))),
+          (subst (λ one. RepresentsSession now.flat one (Open now.place [])) (sym keeps)
+          (represents_begun now.flat now.place (sound-now history entry event.entries event.is_entry event.took before event.stands).kept))
+          (subst (λ items. RepresentsItems items (items_held now.flat.schema (Open now.place []))) (sym holds)
+          (subst (λ items. RepresentsItems (held_by before.txns.held session) items) (sym (items-nil now.flat.schema)) (held_by_standing Outside outside))),
     )
 
     refused_outside : (request : Request) → entry.request ≡ request → reply_in now session Took Outside request ≡ Refused refusal.Outside
@@ -245,8 +245,8 @@ module _ (history : History) (entry : Entry) (before after : State) (event : IsE
           (flat_by (Open is.begun is.block) (Run Rollback) is.stands asks refl)
           (λ other. undoomed now entry told other (rw asks refl))
           (own_by (Open is.begun is.block) (Run Rollback) is.stands asks)
-          (subst (λ one. StandsAs now.flat one Outside) (sym keeps) tt)
-          (subst (λ items. StandFor items []) (sym holds) (stand-same [])),
+          (subst (λ one. RepresentsSession now.flat one Outside) (sym keeps) tt)
+          (subst (λ items. RepresentsItems items []) (sym holds) (stand-same [])),
     )
 
     -- what has no place in it

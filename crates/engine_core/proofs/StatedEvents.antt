@@ -10,14 +10,13 @@ use Rattle.own_model.specs.declared.refusal.Refusal.{Refusal}
 use Rattle.own_model.specs.declared.reply.Reply.{Reply}
 use Rattle.own_model.specs.declared.reply.Reply.TheVariants.{Refused}
 use Rattle.own_model.specs.declared.request.Request.TheVariants.{Run}
-use Rattle.own_model.specs.declared.schema.CreateText.{CreateText}
 use Rattle.own_model.specs.declared.schema.Schema.{Schema}
 use Rattle.own_model.specs.declared.statement.Statement.{Statement}
 use Rattle.own_model.specs.declared.statement.Statement.TheVariants.{Delete, Insert, Select, Update}
 use Rattle.own_model.specs.Db.{Db, empty}
 use Rattle.query_model.specs.BoundStatement.{bound_statement}
 use Rattle.query_model.specs.Footprints.{footprint_of}
-use Rattle.state_model.proofs.KeptLemmas.{sound-empty}
+use Rattle.state_model.proofs.WellFormedLemmas.{sound-empty}
 use Rattle.run_model.specs.Items.{TakesRows, items_of, items_of_all}
 use Rattle.history_model.specs.HasWritten.{has_written, is_bound_write, is_write}
 use Rattle.history_model.specs.Held.{Holding, held, holder, items_held}
@@ -29,20 +28,19 @@ use Rattle.history_model.proofs.EveryHistory.{serial-world}
 use Rattle.history_model.proofs.Within.{held-within, not_conflict-granted, refused-within}
 use Rattle.history_model.proofs.Worlds.{IsOpenBlock, open-block}
 use Rattle.row_locks.specs.Kept.{kept_by as held_by}
-use Rattle.row_locks.specs.Stands.{StandFor, holder_among}
+use Rattle.row_locks.specs.RepresentsItems.{RepresentsItems, holder_among}
 use Rattle.row_locks.proofs.Holders.{holder-alike, holder-of_world}
 use Rattle.txn_space.specs.declared.entry.Entry.{Entry as Change}
-use Rattle.write_eval.specs.Writes.{db_of}
 use Rattle.txn_core.specs.declared.kept.Kept.{Kept}
 use Rattle.txn_core.specs.declared.kept.Kept.TheVariants as kept
 use Rattle.txn_core.specs.declared.txn.Txn.{Txn}
-use Rattle.txn_core.specs.Kept.{StandsAs, is_open, is_select, kept_by}
+use Rattle.txn_core.specs.Kept.{RepresentsSession, is_open, is_select, kept_by}
 use Rattle.txn_core.specs.Runs.{HasRun, IsRowStatement}
-use Rattle.txn_core.specs.Standing.{StandsFor}
+use Rattle.txn_core.specs.RepresentsBlock.{RepresentsBlock}
 use Rattle.txn_core.specs.Transactions.{AreSame, HasStated, Stated, conflict_of, space_of, wrote_of}
-use Rattle.txn_core.proofs.OpenBlocks.{stands_more}
-use Rattle.txn_core.proofs.Standing.{stands_unbound}
-use Rattle.engine_core.specs.Standing.{IsEvent, Serves}
+use Rattle.txn_core.proofs.OpenBlocks.{represents_more}
+use Rattle.txn_core.proofs.RepresentsLemmas.{represents_unbound}
+use Rattle.engine_core.specs.RepresentsWorld.{IsEvent, Serves}
 use Rattle.engine_core.specs.declared.state.State.{State}
 use Rattle.engine_core.proofs.BoundStatements.{row-bound}
 use Rattle.engine_core.proofs.CalmEvents.{others-same, stands-calm, stands-unmoved}
@@ -169,9 +167,9 @@ module _ (history : History) (entry : Entry) (before after : State) (event : IsE
   nobody : forgotten now.flat.schema entry.request ≡ None
   nobody = ap (forgotten now.flat.schema) asks ∙ nobody_within now.flat.schema asked takes
 
-  held_open : StandFor (held_by before.txns.held session) (items_of_all now.flat.schema (statements_of block))
+  held_open : RepresentsItems (held_by before.txns.held session) (items_of_all now.flat.schema (statements_of block))
   unfolding held
-  held_open = subst (λ stood. StandFor (held_by before.txns.held session) (items_held now.flat.schema stood)) is.stands (event.stands.held session)
+  held_open = subst (λ stood. RepresentsItems (held_by before.txns.held session) (items_held now.flat.schema stood)) is.stands (event.stands.held session)
 
   -- the session's transaction goes on, with one statement more
   more : is_conflict told ≡ false → own_after now entry told ≡ Open is.begun longer
@@ -197,8 +195,8 @@ module _ (history : History) (entry : Entry) (before after : State) (event : IsE
       let free : is_conflict told ≡ false = ap is_conflict told_within ∙ within.1 in
       let opens : IsOpenBlock empty history now.flat session block =
       open-block empty history now (serial-world empty history sound-empty event.entries) session is.begun block is.stands in
-      let stands : StandsFor now.flat longer is.txn.space =
-      stands_unbound (length history) now.flat block is.txn.space opens.stated is.kept_as.0 last takes why refused in
+      let stands : RepresentsBlock now.flat longer is.txn.space =
+      represents_unbound (length history) now.flat block is.txn.space opens.stated is.kept_as.0 last takes why refused in
       let keeps : kept_by after.txns.kept session ≡ kept.Open is.txn = same.kept session ∙ is.is_kept in
       let items : items_of_all now.flat.schema (statements_of longer) ≡ items_of_all now.flat.schema (statements_of block) =
       items-push now.flat.schema block last
@@ -206,16 +204,16 @@ module _ (history : History) (entry : Entry) (before after : State) (event : IsE
         replies,
         stands-calm history entry before after event (Open is.begun longer) version weighs (others-same session before.txns after.txns same) calm (λ other. undoomed now entry told other nobody)
             (more free)
-            (subst (λ one. StandsAs now.flat one (Open is.begun longer)) (sym keeps) (stands, is.kept_as.1, λ wrote. written_still now.flat.schema block last (is.kept_as.2 wrote)))
-            (subst (λ some. StandFor some (items_of_all now.flat.schema (statements_of longer))) (sym (same.held session))
-            (subst (λ some. StandFor (held_by before.txns.held session) some) (sym items) held_open)),
+            (subst (λ one. RepresentsSession now.flat one (Open is.begun longer)) (sym keeps) (stands, is.kept_as.1, λ wrote. written_still now.flat.schema block last (is.kept_as.2 wrote)))
+            (subst (λ some. RepresentsItems some (items_of_all now.flat.schema (statements_of longer))) (sym (same.held session))
+            (subst (λ some. RepresentsItems (held_by before.txns.held session) some) (sym items) held_open)),
       )
 
   -- it runs
   module _ (bound : Bound) (meant : bound_statement now.flat.schema asked ≡ Ok bound) (none : holder now session (footprint_of now.flat.schema bound) ≡ None) (reply : Reply)
-      (stated : (creates : List CreateText) → HasStated (db_of creates now.flat.schema now.flat.rows) bound session before.txns after.txns reply) where
+      (stated : HasStated now.flat bound session before.txns after.txns reply) where
     abbrev txn : Txn
-    txn = (stated []).txn
+    txn = stated.txn
 
     space_is : space_of own ≡ is.txn.space
     space_is = ap space_of is.is_kept
@@ -223,20 +221,15 @@ module _ (history : History) (entry : Entry) (before after : State) (event : IsE
     wrote_is : wrote_of own ≡ is.txn.wrote
     wrote_is = ap wrote_of is.is_kept
 
-    one_txn : (creates : List CreateText) → (stated creates).txn ≡ txn
-    one_txn creates = let same : kept.Open (stated creates).txn ≡ kept.Open txn = sym (stated creates).open_then ∙ (stated []).open_then in cc
-
-    ran : (creates : List CreateText) → HasRun (db_of creates now.flat.schema now.flat.rows) bound is.txn.space reply txn.space
-    ran creates =
-        subst (λ (after : Txn). HasRun (db_of creates now.flat.schema now.flat.rows) bound is.txn.space reply after.space) (one_txn creates)
-        (subst (λ (changed : List (List Change)). HasRun (db_of creates now.flat.schema now.flat.rows) bound changed reply (stated creates).txn.space) space_is (stated creates).ran)
+    ran : HasRun now.flat bound is.txn.space reply txn.space
+    ran = subst (λ (changed : List (List Change)). HasRun now.flat bound changed reply stated.txn.space) space_is stated.ran
 
     -- its reply, and what is kept of the transaction with it
-    both : (told ≡ reply) × StandsFor now.flat longer txn.space
+    both : (told ≡ reply) × RepresentsBlock now.flat longer txn.space
     unfolding flat standing
     both =
         let within = not_conflict-granted now session block asked bound meant none in
-        let stands = stands_more empty history sound-empty event.entries session is.begun block is.stands is.txn.space is.kept_as.0 last bound reply txn.space takes meant ran in
+        let stands = represents_more empty history sound-empty event.entries session is.begun block is.stands is.txn.space is.kept_as.0 last bound reply txn.space takes meant ran in
         (told_within ∙ (within.0 ∙ stands.0), stands.1)
 
     free : is_conflict told ≡ false
@@ -245,43 +238,41 @@ module _ (history : History) (entry : Entry) (before after : State) (event : IsE
     wrote : txn.wrote ≡ true → has_written now.flat.schema longer ≡ true
     wrote is_true =
         written_by now.flat.schema block last bound meant (row-bound now.flat.schema asked bound takes meant) is.txn.wrote is.kept_as.2
-        (ap (λ wrote. wrote || not (is_select bound)) (sym wrote_is) ∙ (sym (stated []).wrote ∙ is_true))
+        (ap (λ wrote. wrote || not (is_select bound)) (sym wrote_is) ∙ (sym stated.wrote ∙ is_true))
 
-    holds : StandFor (held_by after.txns.held session) (items_of_all now.flat.schema (statements_of longer))
+    holds : RepresentsItems (held_by after.txns.held session) (items_of_all now.flat.schema (statements_of longer))
     holds =
         let items : items_of_all now.flat.schema (statements_of longer) ≡ items_of_all now.flat.schema (statements_of block) ++ footprint_of now.flat.schema bound =
         items-push now.flat.schema block last ∙ ap (λ more. items_of_all now.flat.schema (statements_of block) ++ more) (items_bound now.flat.schema asked bound meant) in
-        subst (λ some. StandFor (held_by after.txns.held session) some) (sym items) ((stated []).holds (items_of_all now.flat.schema (statements_of block)) held_open)
+        subst (λ some. RepresentsItems (held_by after.txns.held session) some) (sym items) (stated.holds (items_of_all now.flat.schema (statements_of block)) held_open)
 
     serves_ran : Serves {E = ℕ} after history entry (Ok reply)
     serves_ran = (
       both.0,
-      stands-calm history entry before after event (Open is.begun longer) version weighs (stated []).others calm (λ other. undoomed now entry told other nobody) (more free)
-          (subst (λ one. StandsAs now.flat one (Open is.begun longer)) (sym (stated []).open_then) (both.1, (stated []).quiet, wrote))
+      stands-calm history entry before after event (Open is.begun longer) version weighs stated.others calm (λ other. undoomed now entry told other nobody) (more free)
+          (subst (λ one. RepresentsSession now.flat one (Open is.begun longer)) (sym stated.open_then) (both.1, stated.quiet, wrote))
           holds,
     )
 
   -- a statement that was bound, by who stands in its way
   by_holder : (bound : Bound) → bound_statement now.flat.schema asked ≡ Ok bound → (reply : Reply) (found : Option Holding) → holder now session (footprint_of now.flat.schema bound) ≡ found
-      → ((creates : List CreateText) → Stated found (db_of creates now.flat.schema now.flat.rows) bound session before.txns after.txns reply)
+      → Stated found now.flat bound session before.txns after.txns reply
       → Serves {E = ℕ} after history entry (Ok reply)
   by_holder bound meant reply None found stated = serves_ran bound meant found reply stated
   by_holder bound meant reply (Some holding) found stated =
-      let back = held_back bound holding meant found (stated []).1 in
-      subst (λ reply. Serves {E = ℕ} after history entry (Ok reply)) (sym (stated []).0) back
+      let back = held_back bound holding meant found stated.1 in
+      subst (λ reply. Serves {E = ℕ} after history entry (Ok reply)) (sym stated.0) back
 
   -- the same, as it is told over the state
   pub serves-stated : (bound : Bound) (reply : Reply) → bound_statement before.version.schema asked ≡ Ok bound
-      → ((creates : List CreateText) → Stated (holder_among (held_by before.txns.held) entry.session.0 (footprint_of before.version.schema bound))
-      (db_of creates before.version.schema before.version.rows) bound entry.session.0 before.txns after.txns reply)
+      → Stated (holder_among (held_by before.txns.held) entry.session.0 (footprint_of before.version.schema bound)) before.version bound entry.session.0 before.txns after.txns reply
       → Serves {E = ℕ} after history entry (Ok reply)
   serves-stated bound reply meant stated =
       let same = event.stands.flat in
       let alike : holder_among (held_by before.txns.held) session (footprint_of now.flat.schema bound) ≡ holder now session (footprint_of now.flat.schema bound) =
       holder-alike before.txns.held (held now) event.stands.held (footprint_of now.flat.schema bound) session ∙ holder-of_world now session (footprint_of now.flat.schema bound) in
       by_holder bound (subst (λ (db : Db). bound_statement db.schema asked ≡ Ok bound) same meant) reply _ (sym alike)
-      (subst (λ (db : Db). (creates : List CreateText) → Stated (holder_among (held_by before.txns.held) session (footprint_of db.schema bound))
-      (db_of creates db.schema db.rows) bound session before.txns after.txns reply) same stated)
+      (subst (λ (db : Db). Stated (holder_among (held_by before.txns.held) session (footprint_of db.schema bound)) db bound session before.txns after.txns reply) same stated)
 
   pub serves-unbound : (why : Refusal) → bound_statement before.version.schema asked ≡ Err why → AreSame before.txns after.txns → Serves {E = ℕ} after history entry (Ok (Refused why))
   serves-unbound why refused same = serves_unbound why (subst (λ (db : Db). bound_statement db.schema asked ≡ Err why) event.stands.flat refused) same

@@ -2,31 +2,31 @@
 use Rattle.std.proofs.Common.{◌≡◌, ◌∙◌, ℕ, true, false, None, Some, ap, refl, sym, subst}
 use Rattle.own_base.specs.declared.number.Place.{Place}
 use Rattle.own_model.specs.Db.{Db}
-use Rattle.history_model.specs.World.{Block, Standing, Outside, Open, Doomed}
+use Rattle.history_model.specs.World.{Block, SessionStanding, Outside, Open, Doomed}
 use Rattle.txn_core.specs.declared.kept.Kept.{Kept}
 use Rattle.txn_core.specs.declared.kept.Kept.TheVariants as kept
 use Rattle.txn_core.specs.declared.txn.Txn.{Txn}
-use Rattle.txn_core.specs.Kept.{StandsAs, doom_of, is_open, told}
+use Rattle.txn_core.specs.Kept.{RepresentsSession, doom_of, is_open, told}
 
 -- nothing is kept of a session that is outside
-outside_by : (flat : Db) (stood : Standing) → StandsAs flat kept.Nothing stood → stood ≡ Outside
+outside_by : (flat : Db) (stood : SessionStanding) → RepresentsSession flat kept.Nothing stood → stood ≡ Outside
 outside_by flat Outside stands = refl
 outside_by flat (Open begun block) stands = absurd stands
 outside_by flat (Doomed by) stands = absurd stands
 
-pub stood-outside : (flat : Db) (one : Kept) (stood : Standing) → StandsAs flat one stood → one ≡ kept.Nothing → stood ≡ Outside
-stood-outside flat one stood stands is = outside_by flat stood (subst (λ one. StandsAs flat one stood) is stands)
+pub stood-outside : (flat : Db) (one : Kept) (stood : SessionStanding) → RepresentsSession flat one stood → one ≡ kept.Nothing → stood ≡ Outside
+stood-outside flat one stood stands is = outside_by flat stood (subst (λ one. RepresentsSession flat one stood) is stands)
 
 -- a transaction is open, with what is kept of it
-pub record IsOpenTxn (flat : Db) (one : Kept) (stood : Standing) : Type 0 where
+pub record IsOpenTxn (flat : Db) (one : Kept) (stood : SessionStanding) : Type 0 where
   pub begun : ℕ
   pub block : Block
   pub txn : Txn
   pub stands : stood ≡ Open begun block
   pub is_kept : one ≡ kept.Open txn
-  pub kept_as : StandsAs flat (kept.Open txn) (Open begun block)
+  pub kept_as : RepresentsSession flat (kept.Open txn) (Open begun block)
 
-pub stood-open : (flat : Db) (one : Kept) (stood : Standing) → StandsAs flat one stood → is_open one ≡ true → IsOpenTxn flat one stood
+pub stood-open : (flat : Db) (one : Kept) (stood : SessionStanding) → RepresentsSession flat one stood → is_open one ≡ true → IsOpenTxn flat one stood
 stood-open flat kept.Nothing stood stands opened = let never : false ≡ true = opened in absurd (cc)
 stood-open flat (kept.Doomed place) stood stands opened = let never : false ≡ true = opened in absurd (cc)
 stood-open flat (kept.Open txn) Outside stands opened = absurd stands
@@ -35,7 +35,7 @@ stood-open flat (kept.Open txn) (Open begun block) stands opened =
     record { begun = begun; block = block; txn = txn; stands = refl; is_kept = refl; kept_as = stands }
 
 -- a doom that is to be told
-pub stood-doomed : (flat : Db) (one : Kept) (stood : Standing) (place : Place) → StandsAs flat one stood → doom_of one ≡ Some place → stood ≡ Doomed place.0
+pub stood-doomed : (flat : Db) (one : Kept) (stood : SessionStanding) (place : Place) → RepresentsSession flat one stood → doom_of one ≡ Some place → stood ≡ Doomed place.0
 stood-doomed flat kept.Nothing stood place stands doom = absurd (cc)
 stood-doomed flat (kept.Open txn) stood place stands doom = absurd (cc)
 stood-doomed flat (kept.Doomed own) Outside place stands doom = absurd stands
@@ -61,12 +61,12 @@ kept-outside (kept.Open txn) none closed = let never : true ≡ false = closed i
 kept-outside (kept.Doomed place) none closed = absurd (cc)
 
 -- a session that isn't doomed
-abbrev pub IsUndoomed : Standing → Type 0
+abbrev pub IsUndoomed : SessionStanding → Type 0
 IsUndoomed Outside = Unit {0}
 IsUndoomed (Open begun block) = Unit {0}
 IsUndoomed (Doomed by) = ⊥
 
-pub stood-undoomed : (flat : Db) (one : Kept) (stood : Standing) → StandsAs flat one stood → doom_of one ≡ None → IsUndoomed stood
+pub stood-undoomed : (flat : Db) (one : Kept) (stood : SessionStanding) → RepresentsSession flat one stood → doom_of one ≡ None → IsUndoomed stood
 stood-undoomed flat one Outside stands none = tt
 stood-undoomed flat one (Open begun block) stands none = tt
 stood-undoomed flat kept.Nothing (Doomed by) stands none = absurd stands

@@ -10,12 +10,12 @@ use Rattle.own_model.specs.Db.{empty}
 use Rattle.run_model.specs.Items.{TakesRows}
 use Rattle.history_model.specs.History.{History, world}
 use Rattle.history_model.specs.MayBeUnmade.{MayBeUnmadeFrom, MayBeUnmadeInside}
-use Rattle.history_model.specs.World.{Block, Standing, Outside, Open, World}
+use Rattle.history_model.specs.World.{Block, SessionStanding, Outside, Open, World}
 use Rattle.txn_core.specs.declared.kept.Kept.TheVariants as kept
 use Rattle.txn_core.specs.Kept.{is_open, kept_by}
 use Rattle.txn_core.specs.Transactions.{wrote_of}
 use Rattle.engine_core.specs.Asked.{RunsByItself}
-use Rattle.engine_core.specs.Standing.{IsEvent}
+use Rattle.engine_core.specs.RepresentsWorld.{IsEvent}
 use Rattle.engine_core.specs.declared.state.State.{State}
 use Rattle.engine_core.proofs.Stood.{IsOpenTxn, stood-open, stood-outside}
 
@@ -48,7 +48,7 @@ module _ (history : History) (entry : Entry) (before : State) (event : IsEvent b
   abbrev session : ℕ
   session = entry.session.0
 
-  may_from : (stood : Standing) (request : Request) → now.standing session ≡ stood → entry.request ≡ request → MayBeUnmadeFrom now.flat.schema stood request
+  may_from : (stood : SessionStanding) (request : Request) → now.standing session ≡ stood → entry.request ≡ request → MayBeUnmadeFrom now.flat.schema stood request
       → MayBeUnmadeFrom now.flat.schema (now.standing session) entry.request
   may_from stood request stands asks may =
       subst (λ stood. MayBeUnmadeFrom now.flat.schema stood entry.request) (sym stands)

@@ -17,12 +17,12 @@ use Rattle.history_model.specs.Held.{Holding, held, holder}
 use Rattle.history_model.specs.Reply.{unless_held, write_reply}
 use Rattle.history_model.specs.World.{World}
 use Rattle.row_locks.specs.Kept.{kept_by as held_by}
-use Rattle.row_locks.specs.Stands.{holder_among}
+use Rattle.row_locks.specs.RepresentsItems.{holder_among}
 use Rattle.row_locks.proofs.Holders.{holder-alike, holder-of_world}
 use Rattle.txn_core.specs.Single.{NetTo}
 use Rattle.txn_core.specs.Transactions.{IsSingleRefusal, conflict_of}
 use Rattle.engine_core.specs.Changed.{IsNet, changed}
-use Rattle.engine_core.specs.Standing.{StandsIn}
+use Rattle.engine_core.specs.RepresentsWorld.{RepresentsWorld}
 use Rattle.engine_core.specs.declared.state.State.{State}
 
 module _ (db : Db) (bound : Bound) (reply : Reply) (changes : List Change) (is : NetTo db (run_bound db bound) reply changes) where
@@ -40,7 +40,7 @@ module _ (db : Db) (bound : Bound) (reply : Reply) (changes : List Change) (is :
   }
 
 -- Who stands in its way
-module _ (state : State) (world : World) (stands : StandsIn state world) (session : ℕ) (bound : Bound) where
+module _ (state : State) (world : World) (stands : RepresentsWorld state world) (session : ℕ) (bound : Bound) where
   abbrev items : List FootItem
   items = footprint_of state.version.schema bound
 

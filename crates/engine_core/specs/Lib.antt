@@ -3,5 +3,5 @@ pub mod Asked
 pub mod Changed
 pub mod Made
 pub mod Seen
-pub mod Settled
-pub mod Standing
+pub mod HasDoomed
+pub mod RepresentsWorld

@@ -1,4 +1,4 @@
--- What callers see of an engine, and what a call makes of it.
+-- What contracts see of an engine, and what a call makes of it.
 use Rattle.std.specs.Prelude.{◌≡◌, ◌+◌, ◌<◌, ◌≤◌, ℕ, [], ◌∷◌, ◌++◌, Some, length}
 use Rattle.own_base.specs.declared.number.SessionNo.{SessionNo}
 use Rattle.own_model.specs.declared.history.Entry.{Entry}

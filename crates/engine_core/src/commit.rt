@@ -4,8 +4,8 @@ ghost use Rattle.own_model.specs.Db.{Db};
 ghost use Rattle.state_model.specs.Fault.{fault};
 ghost use Rattle.state_model.specs.Net.{net};
 ghost use Rattle.state_model.specs.Payload.{payload_bytes};
-ghost use Rattle.state_model.specs.Settle as spec;
-ghost use Rattle.state_model.specs.Sound.{IsKept, Sound};
+ghost use Rattle.state_model.specs.CommitRefusal as spec;
+ghost use Rattle.state_model.specs.Sound.{IsWellFormed, Sound};
 ghost use Rattle.state_model.specs.Weight.{weight};
 ghost use Rattle.commit_check.specs.Judged.{IsJudged};
 ghost use Rattle.payload_size.specs.SoundNet.{IsSoundNet};
@@ -16,21 +16,34 @@ ghost use Rattle.engine_core.specs.Changed.{IsNet, changed};
 
 use crate::answer::Answer;
 use crate::prepared::Prepared;
-use commit_check::{Judged, judge_flat};
+use commit_check::{Judged, judge, weigh};
 use own_base::{Change, List};
-use own_model::{PAYLOAD_BYTES, Refusal, Reply, StoreView};
+use own_model::{PAYLOAD_BYTES, Refusal, Reply};
 use payload_size::payload_size;
 use std::alloc::{AllocError, Global};
 use std::mem::drop;
-use store_version::{Next, Version, prepare};
+use store_version::{Next, Shown, Version, prepare};
 use unlinked_check::{are_unlinked, judge_unlinked};
 
 /// What is judged of a next version as a whole.
 pub(crate) fn judged(alloc: Global, next: &Next) -> Result<Judged, AllocError>
-    requires { IsKept next.now }
+    requires { IsWellFormed next.now }
     ensures { IfOk result (IsJudged next.now) }
 {
-    judge_flat(alloc, next)
+    let after = next.version();
+    let left = Shown { version: after };
+    judge(alloc, &left, after.graph())
+}
+
+/// What is judged of a next version that is sound: what it weighs. No rule is asked.
+pub(crate) fn weighed(alloc: Global, next: &Next) -> Result<Judged, AllocError>
+    requires { Sound next.now }
+    ensures { IfOk result (IsJudged next.now) }
+{
+    let after = next.version();
+    let left = Shown { version: after };
+    let weighs = weigh(alloc, &left, after.graph())?;
+    Ok(Judged::Weighs(weighs))
 }
 
 /// What is judged of it, where changes lead to it. Where nothing is linked with their tables, no row but theirs is looked at.
@@ -44,12 +57,16 @@ fn judged_by(
     requires sound { Sound version.now }
     requires weighs { weight version.now ≡ weighs }
     requires net { IsNet version.now changes.now }
-    requires kept { IsKept next.now }
+    requires kept { IsWellFormed next.now }
     requires next { next.now ≡ changed version.now changes.now }
     ensures { IfOk result (IsJudged next.now) }
 {
     if are_unlinked(version.schema(), changes) {
-        Ok(judge_unlinked(version, next, weighs, changes))
+        let before = Shown { version };
+        let left = Shown {
+            version: next.version(),
+        };
+        Ok(judge_unlinked(&before, &left, weighs, changes))
     } else {
         judged(alloc, next)
     }
@@ -64,7 +81,7 @@ fn is_refusal(reply: &Reply) -> bool
 
 /// The answer to a call that leads to a next version: refused where that has a fault, and else where there is another cause;
 /// otherwise the next version is left.
-pub(crate) fn settled(
+pub(crate) fn decided(
     alloc: Global,
     next: Next,
     judged: Judged,
@@ -73,7 +90,7 @@ pub(crate) fn settled(
 ) -> Answer
     requires judged { IsJudged next judged }
     requires accepted { spec_of.is_refusal reply ≡ false }
-    ensures tells { (db : Db) (needed : Bool) → Tells db (committing Took needed (spec.settled (fault next) cause) reply) next result }
+    ensures tells { (db : Db) (needed : Bool) → Tells db (committing Took needed (spec.first_refusal (fault next) cause) reply) next result }
     ensures nothing { result.erased ≡ [] }
 {
     match judged {
@@ -114,11 +131,11 @@ fn too_big(changes: &[Change]) -> Option<Refusal>
 /// Why a commit without a fault is refused: the length of its changes.
 fn cause_of(version: &Version, next: &Next, judged: &Judged, changes: &[Change]) -> Option<Refusal>
     requires sound { Sound version.now }
-    requires kept { IsKept next.now }
+    requires kept { IsWellFormed next.now }
     requires schema { version.now.schema ≡ next.now.schema }
     requires net { changes.now ≡ net version.now next.now }
     requires judged { IsJudged next.now judged.now }
-    ensures { spec.settled (fault next.now) result ≡ spec.settle version.now next.now }
+    ensures { spec.first_refusal (fault next.now) result ≡ spec.commit_refusal version.now next.now }
 {
     let _ = version;
     let _ = next;
@@ -140,9 +157,9 @@ pub(crate) fn commit(
     requires sound { Sound version.now }
     requires weighs { weight version.now ≡ weighs }
     requires net { IsNet version.now changes.now }
-    requires kept { IsKept (changed version.now changes.now) }
+    requires kept { IsWellFormed (changed version.now changes.now) }
     ensures tells { IfOk result (Tells version.now (committing Took (spec_of.changes version.now (changed version.now changes.now))
-        (spec.settle version.now (changed version.now changes.now)) reply) (changed version.now changes.now)) }
+        (spec.commit_refusal version.now (changed version.now changes.now)) reply) (changed version.now changes.now)) }
     ensures nothing { IfOk result (λ answer. answer.erased ≡ []) }
     ensures spared { OnErr result (changes.now ≢ []) }
 {
@@ -156,7 +173,7 @@ pub(crate) fn commit(
     match judged_by(alloc, version, weighs, &next, changes) {
         Ok(judged) => {
             let cause = cause_of(version, &next, &judged, changes);
-            Ok(settled(alloc, next, judged, cause, reply))
+            Ok(decided(alloc, next, judged, cause, reply))
         }
         Err(refused) => {
             drop(next);

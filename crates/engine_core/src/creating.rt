@@ -6,29 +6,29 @@ ghost use Rattle.own_model.specs.declared.reply.Reply.TheVariants.{Done};
 ghost use Rattle.own_model.specs.Db.{Db};
 ghost use Rattle.grammar_model.specs.Readable.{IsWritten};
 ghost use Rattle.state_model.specs.Fault.{fault};
-ghost use Rattle.state_model.specs.Sound.{IsKept};
+ghost use Rattle.state_model.specs.Sound.{IsWellFormed};
 ghost use Rattle.run_model.specs.Run as run;
 ghost use Rattle.history_model.specs.Reply.{committing, create_reply};
 ghost use Rattle.engine_core.specs.Answered.{Tells};
 ghost use Rattle.engine_core.specs.Asked.{IsCreate};
 
 use crate::answer::Answer;
-use crate::commit::{judged, settled};
+use crate::commit::{decided, judged};
 use own_model::{CreateTable, CreateView, Reply, Statement};
 use plan_bind::bind_view;
 use sql_print::print_statement;
 use std::alloc::{AllocError, Global};
 use std::mem::drop;
-use store_version::{Next, Version, prepare_table, prepare_view};
+use store_version::{Next, Shown, Version, prepare_table, prepare_view};
 
 /// The answer to a CREATE that leads to a next version, if that has no fault.
 fn checked(alloc: Global, next: Next) -> Result<Answer, AllocError>
-    requires { IsKept next }
+    requires { IsWellFormed next }
     ensures tells { IfOk result (λ answer. (db : Db) → Tells db (committing Took true (fault next) Done) next answer) }
     ensures nothing { IfOk result (λ answer. answer.erased ≡ []) }
 {
     match judged(alloc, &next) {
-        Ok(judged) => Ok(settled(alloc, next, judged, None, Reply::Done)),
+        Ok(judged) => Ok(decided(alloc, next, judged, None, Reply::Done)),
         Err(refused) => {
             drop(next);
             Err(refused)
@@ -43,13 +43,14 @@ fn create_table(
     create: &CreateTable,
     statement: &Statement,
 ) -> Result<Answer, AllocError>
-    requires kept { IsKept version.now }
+    requires kept { IsWellFormed version.now }
     requires of { statement.now ≡ statement_of.CreateTable create.now }
     requires written { IsWritten STATEMENT_BYTES statement.now }
     ensures tells { IfOk result (Tells version.now (create_reply Took (run.create_table version.now create.now)) (run.create_table version.now create.now).db) }
     ensures nothing { IfOk result (λ answer. answer.erased ≡ []) }
 {
-    match version.catalog().admit(alloc, version, create) {
+    let shown = Shown { version };
+    match version.catalog().admit(alloc, &shown, create) {
         Ok(admitted) => match print_statement(alloc, statement) {
             Ok(text) => checked(alloc, prepare_table(alloc, version, admitted, text)?),
             Err(refused) => {
@@ -68,7 +69,7 @@ fn create_view(
     create: &CreateView,
     statement: &Statement,
 ) -> Result<Answer, AllocError>
-    requires kept { IsKept version.now }
+    requires kept { IsWellFormed version.now }
     requires of { statement.now ≡ statement_of.CreateView create.now }
     requires written { IsWritten STATEMENT_BYTES statement.now }
     ensures tells { IfOk result (Tells version.now (create_reply Took (run.add_view version.now create.now)) (run.add_view version.now create.now).db) }
@@ -93,7 +94,7 @@ pub(crate) fn create(
     version: &Version,
     statement: &Statement,
 ) -> Result<Answer, AllocError>
-    requires kept { IsKept version.now }
+    requires kept { IsWellFormed version.now }
     requires create { IsCreate statement.now }
     requires written { IsWritten STATEMENT_BYTES statement.now }
     ensures tells { IfOk result (Tells version.now (create_reply Took (run.run version.now statement.now)) (run.run version.now statement.now).db) }

@@ -10,7 +10,7 @@ ghost use Rattle.history_model.specs.Serial.{Serial};
 ghost use Rattle.engine_core.specs.declared.open.OpenFault.TheVariants.{Memory};
 ghost use Rattle.engine_core.specs.Made.{IsMade};
 ghost use Rattle.engine_core.specs.Seen.{Steps, entry};
-ghost use Rattle.engine_core.specs.Standing.{IsEvent, StandsIn};
+ghost use Rattle.engine_core.specs.RepresentsWorld.{IsEvent, RepresentsWorld};
 
 use crate::closed::Closed;
 use crate::open::OpenFault;
@@ -50,9 +50,9 @@ impl<D> Model for Engine<D> {
     ghost use Rattle.own_model.specs.Db.{empty};
     ghost use Rattle.history_model.specs.History.{world};
     ghost use Rattle.history_model.specs.Serial.{IsHistory};
-    ghost use Rattle.engine_core.specs.Standing.{StandsIn};
+    ghost use Rattle.engine_core.specs.RepresentsWorld.{RepresentsWorld};
 
-    ghost invariant = { λ engine. IsHistory engine.history.items × StandsIn engine.state (world empty engine.history.items) };
+    ghost invariant = { λ engine. IsHistory engine.history.items × RepresentsWorld engine.state (world empty engine.history.items) };
 }
 
 impl<D> Engine<D> {
@@ -143,7 +143,7 @@ fn make(
 ) -> Result<(Place, Reply), AllocError>
     requires event { IsEvent state.old history.old.items entry }
     ensures made { IfOk result (λ made. IsMade history.old.items history.new.items state.new entry made.0.0 made.1) }
-    ensures unmade { OnErr result ((history.new.items ≡ history.old.items) × StandsIn state.new (world empty history.old.items)) }
+    ensures unmade { OnErr result ((history.new.items ≡ history.old.items) × RepresentsWorld state.new (world empty history.old.items)) }
     ensures spared { OnErr result (0 < vec_capacity history.old - vec_len history.old
         → MayBeUnmadeFrom (world empty history.old.items).flat.schema ((world empty history.old.items).standing entry.session.0) entry.request) }
     ensures room { vec_capacity history.old - vec_len history.old ≤ vec_capacity history.new - vec_len history.new + 1 }
@@ -168,7 +168,7 @@ fn make(
 
 /// No table, no transaction and no history, with room for so many entries.
 fn opened(alloc: Global, calls: u32) -> Result<(State, Vec<Entry>), AllocError>
-    ensures stands { IfOk result (λ pair. StandsIn pair.0 (world empty [])) }
+    ensures stands { IfOk result (λ pair. RepresentsWorld pair.0 (world empty [])) }
     ensures history { IfOk result (λ pair. pair.1.items ≡ []) }
     ensures room { IfOk result (λ pair. calls ≤ vec_capacity pair.1) }
 {

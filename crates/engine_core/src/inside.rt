@@ -6,18 +6,19 @@ ghost use Rattle.own_model.specs.declared.statement.Statement.TheVariants.{Commi
 ghost use Rattle.run_model.specs.Items.{TakesRows};
 ghost use Rattle.txn_core.specs.Kept.{is_open, kept_by};
 ghost use Rattle.engine_core.specs.Asked as spec;
-ghost use Rattle.engine_core.specs.Standing.{IsEvent, Serves};
+ghost use Rattle.engine_core.specs.RepresentsWorld.{IsEvent, Serves};
 
 use crate::commit::commit;
-use crate::settling::settle;
+use crate::installing::install;
 use crate::state::State;
 use own_base::Place;
 use own_model::{Entry, Refusal, Reply, Statement};
 use plan_bind::bind;
 use std::alloc::{AllocError, Global};
 use std::mem::drop;
+use store_version::Shown;
 
-/// What a refusal is told as, unless it is for want of memory.
+/// What a refusal is reported as, unless it is for want of memory.
 fn refused(why: Refusal) -> Result<Reply, AllocError>
     ensures told { IfOk result (λ reply. (reply ≡ Refused why) × (why ≢ Memory)) }
     ensures memory { OnErr result (why ≡ Memory) }
@@ -60,9 +61,10 @@ fn serve_stated(
     let _ = history;
     match bind(alloc, state.version.catalog().schema(), statement) {
         Ok(bound) => {
-            let replied = state
-                .txns
-                .statement(alloc, &state.version, entry.session, &bound);
+            let shown = Shown {
+                version: &state.version,
+            };
+            let replied = state.txns.statement(alloc, &shown, entry.session, &bound);
             drop(bound);
             match replied {
                 Ok(reply) => Ok(reply),
@@ -85,7 +87,10 @@ fn serve_commit(
     requires asks { entry.now.request ≡ Run Commit }
     ensures { Serves state.new history.now entry.now result }
 {
-    let changes = state.txns.changes(alloc, &state.version, entry.session)?;
+    let shown = Shown {
+        version: &state.version,
+    };
+    let changes = state.txns.changes(alloc, &shown, entry.session)?;
     let answer = commit(
         alloc,
         &state.version,
@@ -95,7 +100,7 @@ fn serve_commit(
     );
     drop(changes);
     let answer = answer?;
-    let reply = settle(state, Place(history.len() as u64), answer);
+    let reply = install(state, Place(history.len() as u64), answer);
     state.txns.finish(entry.session);
     Ok(reply)
 }

@@ -4,7 +4,7 @@ ghost use Rattle.own_model.specs.declared.limit.TheConstants.{STATEMENT_BYTES};
 ghost use Rattle.own_model.specs.declared.request.Request.TheVariants.{Run};
 ghost use Rattle.own_model.specs.Db.{empty};
 ghost use Rattle.grammar_model.specs.Readable.{IsWritten};
-ghost use Rattle.state_model.specs.Sound.{IsKept, Sound};
+ghost use Rattle.state_model.specs.Sound.{IsWellFormed, Sound};
 ghost use Rattle.run_model.specs.Run.{run, run_bound};
 ghost use Rattle.history_model.specs.Built.{is_built};
 ghost use Rattle.history_model.specs.History.{world};
@@ -13,11 +13,11 @@ ghost use Rattle.txn_core.specs.Kept.{kept_by};
 ghost use Rattle.txn_core.specs.declared.kept.Kept.TheVariants.{Nothing};
 ghost use Rattle.engine_core.specs.Answered.{Erases, ErasesBound, Tells, bound_reply};
 ghost use Rattle.engine_core.specs.Asked.{IsBound, IsCreate, IsMeant, RunsByItself};
-ghost use Rattle.engine_core.specs.Standing.{IsEvent, Serves, StandsIn};
+ghost use Rattle.engine_core.specs.RepresentsWorld.{IsEvent, Serves, RepresentsWorld};
 
 use crate::answer::Answer;
 use crate::creating::create;
-use crate::settling::settle;
+use crate::installing::install;
 use crate::state::State;
 use crate::subjects::{forget, get_reply};
 use crate::writing::write;
@@ -26,6 +26,7 @@ use own_model::{Bound, Entry, Refusal, Reply, Statement};
 use plan_bind::bind;
 use std::alloc::{AllocError, Global};
 use std::mem::drop;
+use store_version::Shown;
 use txn_core::select_reply;
 
 /// The answer to a bound statement outside a transaction.
@@ -38,15 +39,18 @@ fn answer_meant(
     bound: &Bound,
 ) -> Result<Answer, AllocError>
     requires sound { Sound state.now.version }
-    requires stands { StandsIn state.now (world empty history.now) }
+    requires stands { RepresentsWorld state.now (world empty history.now) }
     requires meant { IsMeant state.now.version.schema bound.now }
-    requires kept { IsKept (run_bound state.now.version bound.now).db }
+    requires kept { IsWellFormed (run_bound state.now.version bound.now).db }
     ensures tells { IfOk result (Tells state.now.version (bound_reply (world empty history.now) state.now.version session.0 bound.now) (run_bound state.now.version bound.now).db) }
     ensures erases { IfOk result (ErasesBound state.now.version bound.now) }
 {
     match bound {
         Bound::Select(query) => {
-            let reply = select_reply(alloc, &state.version, query)?;
+            let shown = Shown {
+                version: &state.version,
+            };
+            let reply = select_reply(alloc, &shown, query)?;
             Ok(Answer::told(alloc, reply))
         }
         Bound::Insert { .. } | Bound::Update { .. } | Bound::Delete { .. } => {
@@ -70,7 +74,7 @@ fn answer_by_meaning(
     statement: &Statement,
 ) -> Result<Answer, AllocError>
     requires sound { Sound state.now.version }
-    requires stands { StandsIn state.now (world empty history.now) }
+    requires stands { RepresentsWorld state.now (world empty history.now) }
     requires written { IsWritten STATEMENT_BYTES statement.now }
     requires bound { IsBound statement.now }
     ensures tells { IfOk result (Tells state.now.version (reply_outside (world empty history.now) session.0 Took statement.now) (run state.now.version statement.now).db) }
@@ -94,8 +98,8 @@ fn answer_to_create(
     session: SessionNo,
     statement: &Statement,
 ) -> Result<Answer, AllocError>
-    requires kept { IsKept state.now.version }
-    requires stands { StandsIn state.now (world empty history.now) }
+    requires kept { IsWellFormed state.now.version }
+    requires stands { RepresentsWorld state.now (world empty history.now) }
     requires written { IsWritten STATEMENT_BYTES statement.now }
     requires create { IsCreate statement.now }
     ensures tells { IfOk result (Tells state.now.version (reply_outside (world empty history.now) session.0 Took statement.now) (run state.now.version statement.now).db) }
@@ -117,7 +121,7 @@ fn answer(
     statement: &Statement,
 ) -> Result<Answer, AllocError>
     requires sound { Sound state.now.version }
-    requires stands { StandsIn state.now (world empty history.now) }
+    requires stands { RepresentsWorld state.now (world empty history.now) }
     requires written { IsWritten STATEMENT_BYTES statement.now }
     requires itself { RunsByItself statement.now }
     ensures tells { IfOk result (Tells state.now.version (reply_outside (world empty history.now) session.0 Took statement.now) (run state.now.version statement.now).db) }
@@ -157,7 +161,7 @@ pub(crate) fn serve_outside(
         Statement::Commit | Statement::Rollback => Ok(Reply::Refused(Refusal::Outside)),
         _ => {
             let answer = answer(alloc, state, history, entry.session, statement)?;
-            Ok(settle(state, Place(history.len() as u64), answer))
+            Ok(install(state, Place(history.len() as u64), answer))
         }
     }
 }

@@ -1,7 +1,7 @@
 ghost use Rattle.std.specs.Prelude.{◌≡◌, None};
 ghost use Rattle.own_model.specs.declared.request.Request.TheVariants.{Run};
 ghost use Rattle.txn_core.specs.Kept.{doom_of, kept_by};
-ghost use Rattle.engine_core.specs.Standing.{IsEvent, Serves};
+ghost use Rattle.engine_core.specs.RepresentsWorld.{IsEvent, Serves};
 
 use crate::inside::serve_inside;
 use crate::outside::serve_outside;

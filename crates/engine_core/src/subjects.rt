@@ -3,20 +3,20 @@ ghost use Rattle.own_model.specs.declared.bound.Bound.TheVariants.{Forget};
 ghost use Rattle.own_model.specs.declared.history.Verdict.TheVariants.{Took};
 ghost use Rattle.own_model.specs.declared.reply.Reply.TheVariants.{Forgot};
 ghost use Rattle.schema_model.specs.Tables.{is_subject};
-ghost use Rattle.state_model.specs.Sound.{IsKept, Sound};
+ghost use Rattle.state_model.specs.Sound.{IsWellFormed, Sound};
 ghost use Rattle.run_model.specs.Run.{forget_subject, show_subject};
 ghost use Rattle.subject_erase.specs.Plan.{leaves_row};
 ghost use Rattle.history_model.specs.Reply.{forget_reply};
 ghost use Rattle.engine_core.specs.Answered.{ErasesBound, Tells};
 
 use crate::answer::Answer;
-use crate::commit::{judged, settled};
+use crate::commit::{decided, weighed};
 use own_base::{Change, List, MakeCopy, RowName, Subject};
 use own_model::{Reply, StoreView};
 use std::alloc::{AllocError, Global};
 use std::mem::drop;
-use store_version::{Version, prepare};
-use subject_access::{collect_flat, no_subject};
+use store_version::{Shown, Version, prepare};
+use subject_access::{collect_by_graph, no_subject};
 use subject_erase::erase_changes;
 
 /// The reply to a bound GDPR GET.
@@ -25,11 +25,12 @@ pub(crate) fn get_reply(
     version: &Version,
     subject: &Subject,
 ) -> Result<Reply, AllocError>
-    requires kept { IsKept version.now }
+    requires kept { IsWellFormed version.now }
     requires subject { IsTrue (is_subject version.now.schema subject.now.0.table.0) }
     ensures { IfOk result (λ reply. reply ≡ (show_subject version.now subject.now.0).reply) }
 {
-    collect_flat(alloc, version, subject)
+    let shown = Shown { version };
+    collect_by_graph(alloc, &shown, version.graph(), subject)
 }
 
 /// The reply to a GDPR FORGET that makes these changes: how many rows they remove, and how many they change.
@@ -63,7 +64,7 @@ fn names_of(alloc: Global, changes: &[Change]) -> Result<List<RowName>, AllocErr
     Ok(List::from_vec(names))
 }
 
-/// The answer to a bound GDPR FORGET, which commits by itself: no constraint, limit or length refuses it. It names the rows
+/// The answer to a bound GDPR FORGET, which commits by itself: no constraint, limit or length refuses it, and none is asked. It names the rows
 /// that it removes or changes as erased.
 #[tactic(auto, unfolding(run_model::specs::Run::forget_subject))]
 pub(crate) fn forget(
@@ -76,16 +77,17 @@ pub(crate) fn forget(
     ensures tells { IfOk result (Tells version.now (forget_reply Took (forget_subject version.now subject.now.0)) (forget_subject version.now subject.now.0).db) }
     ensures erases { IfOk result (ErasesBound version.now (Forget subject.now)) }
 {
-    if version.row(&subject.0).is_none() {
+    let shown = Shown { version };
+    if shown.row(&subject.0).is_none() {
         let why = no_subject(alloc, version.schema(), subject)?;
         return Ok(Answer::told(alloc, Reply::Refused(why)));
     }
-    let changes = erase_changes(alloc, version, subject)?;
+    let changes = erase_changes(alloc, &shown, version.graph(), subject)?;
     let names = names_of(alloc, changes.items())?;
     let next = prepare(alloc, version, changes.items())?;
     let reply = forgotten(changes.items());
-    match judged(alloc, &next) {
-        Ok(judged) => Ok(settled(alloc, next, judged, None, reply).erasing(names)),
+    match weighed(alloc, &next) {
+        Ok(judged) => Ok(decided(alloc, next, judged, None, reply).erasing(names)),
         Err(refused) => {
             drop(next);
             Err(refused)

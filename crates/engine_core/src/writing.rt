@@ -4,7 +4,7 @@ ghost use Rattle.own_model.specs.declared.refusal.Refusal.TheVariants.{Memory};
 ghost use Rattle.own_model.specs.declared.reply.Reply.TheVariants.{Refused};
 ghost use Rattle.own_model.specs.Db.{empty};
 ghost use Rattle.query_model.specs.Footprints.{footprint_of};
-ghost use Rattle.state_model.specs.Sound.{IsKept, Sound};
+ghost use Rattle.state_model.specs.Sound.{IsWellFormed, Sound};
 ghost use Rattle.run_model.specs.Run.{run_bound};
 ghost use Rattle.history_model.specs.Held.{holder};
 ghost use Rattle.history_model.specs.History.{world};
@@ -12,7 +12,7 @@ ghost use Rattle.history_model.specs.Reply.{unless_held, write_reply};
 ghost use Rattle.write_eval.specs.Write.{IsWrite};
 ghost use Rattle.engine_core.specs.Answered.{Tells};
 ghost use Rattle.engine_core.specs.Changed.{IsNet, changed};
-ghost use Rattle.engine_core.specs.Standing.{StandsIn};
+ghost use Rattle.engine_core.specs.RepresentsWorld.{RepresentsWorld};
 
 use crate::answer::Answer;
 use crate::commit::commit;
@@ -21,6 +21,7 @@ use own_base::{Change, List, SessionNo};
 use own_model::{Bound, Entry, Refusal, Reply};
 use std::alloc::{AllocError, Global};
 use std::mem::drop;
+use store_version::Shown;
 
 /// What a bound write outside a transaction is answered, and what it changes; or why it is refused: another session stands in
 /// its way, or as it runs.
@@ -33,7 +34,7 @@ fn written(
 ) -> Result<(Reply, List<Change>), Refusal>
     requires write { IsWrite state.now.version.schema bound.now }
     requires sound { Sound state.now.version }
-    requires stands { StandsIn state.now (world empty history.now) }
+    requires stands { RepresentsWorld state.now (world empty history.now) }
     ensures free { IfOk result (λ pair. holder (world empty history.now) session.0 (footprint_of state.now.version.schema bound.now) ≡ None) }
     ensures reply { IfOk result (λ pair. (run_bound state.now.version bound.now).reply ≡ pair.0) }
     ensures net { IfOk result (λ pair. IsNet state.now.version pair.1) }
@@ -42,7 +43,10 @@ fn written(
         (write_reply Took state.now.version (run_bound state.now.version bound.now)) ≡ Refused why) }
 {
     let _ = history;
-    state.txns.single(alloc, &state.version, session, bound)
+    let shown = Shown {
+        version: &state.version,
+    };
+    state.txns.single(alloc, &shown, session, bound)
 }
 
 /// The answer to a bound INSERT, UPDATE or DELETE outside a transaction, which commits by itself.
@@ -55,8 +59,8 @@ pub(crate) fn write(
 ) -> Result<Answer, AllocError>
     requires write { IsWrite state.now.version.schema bound.now }
     requires sound { Sound state.now.version }
-    requires stands { StandsIn state.now (world empty history.now) }
-    requires kept { IsKept (run_bound state.now.version bound.now).db }
+    requires stands { RepresentsWorld state.now (world empty history.now) }
+    requires kept { IsWellFormed (run_bound state.now.version bound.now).db }
     ensures tells { IfOk result (Tells state.now.version (unless_held (world empty history.now) (holder (world empty history.now) session.0 (footprint_of state.now.version.schema bound.now))
         (write_reply Took state.now.version (run_bound state.now.version bound.now))) (run_bound state.now.version bound.now).db) }
     ensures nothing { IfOk result (λ answer. answer.erased ≡ []) }

@@ -1,4 +1,4 @@
--- What the grammar says of terminals: which values they may stand for.
+-- What the grammar says of terminals: which values they may represent.
 use Rattle.std.specs.Prelude.{◌≡◌, ℕ, ◌+◌, Bool, true, false, List, [], ◌∷◌, Option, None, Some, ◌⊎◌, codes}
 use Rattle.grammar_model.specs.Terminal.{Terminal, Terminals, is_word, is_mark}
 
@@ -6,7 +6,7 @@ use Rattle.grammar_model.specs.Terminal.{Terminal, Terminals, is_word, is_mark}
 abbrev pub Language : Type 0 → Type 1
 Language A = A → Terminals → Terminals → Type 0
 
--- one terminal that stands for the value
+-- one terminal that represents the value
 abbrev pub one : {A : Type 0} → (A → Terminal → Type 0) → Language A
 one means value terminals rest = (terminal : Terminal) × (terminals ≡ terminal ∷ rest) × means value terminal
 

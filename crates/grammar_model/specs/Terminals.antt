@@ -5,7 +5,7 @@ use Rattle.sql_lex.specs.declared.token.TokenKind.TheVariants.{Mark}
 use Rattle.sql_lex.specs.Lexing.{Lexing, IsNext, IsAtEnd, IsFault}
 use Rattle.grammar_model.specs.Terminal.{Terminals, terminal_of}
 
--- what stands for a byte that begins no token, or for the quote of a text that isn't closed: a mark without bytes
+-- what represents a byte that begins no token, or for the quote of a text that isn't closed: a mark without bytes
 pub record IsLost (lexing : Lexing) (token : Token) : Type 0 where
   pub fault : IsFault lexing token.start
   pub kind : token.kind ≡ Mark

@@ -1,4 +1,4 @@
--- Which values a name, a number and a text stand for.
+-- Which values a name, a number and a text represent.
 use Rattle.std.specs.Prelude.{◌≡◌, ◌≤◌, ℕ, zero, suc, ◌+◌, ◌*◌, ◌-◌, ◌^◌, ℤ, pos, negsuc, Bool, true, false, if◌then◌else◌, IsTrue, List, [], ◌∷◌, length, map}
 use Rattle.std.specs.Char.{to_ascii_lowercase}
 use Rattle.own_base.specs.Name.{is_spelled}

@@ -57,7 +57,7 @@ fn is_graph_of(graph: &Graph, tables: u32, edges: &[Edge]) -> bool {
         && edges.iter().all(|edge| place_of(order, edge.upper) < place_of(order, edge.lower))
 }
 
-/// Edges over so many tables, and of a closed walk the two tables that are told.
+/// Edges over so many tables, and of a cycle the two tables that are told.
 type Case = (u32, &'static [(u32, u32)], Option<(u32, u32)>);
 
 const CASES: [Case; 15] = [
@@ -73,7 +73,7 @@ const CASES: [Case; 15] = [
     (2, &[(1, 0), (1, 0)], None),
     // a table that is above itself
     (3, &[(2, 0), (1, 1), (2, 1)], Some((1, 1))),
-    // closed walks over two, three and five tables
+    // cycles over two, three and five tables
     (2, &[(0, 1), (1, 0)], Some((1, 0))),
     (3, &[(0, 1), (1, 2), (2, 0)], Some((2, 0))),
     (5, &[(4, 2), (2, 0), (0, 3), (3, 1), (1, 4)], Some((4, 2))),
@@ -92,8 +92,8 @@ const CASES: [Case; 15] = [
     (4, &[(3, 3), (3, 2), (2, 3)], Some((3, 2))),
 ];
 
-/// What edges over so many tables come to: a graph where no closed walk is told, or else that walk.
-fn expect_told(
+/// What edges over so many tables come to: a graph where no cycle is reported, or else that walk.
+fn expect_reported(
     rt: &impl Abort,
     alloc: Global,
     tables: u32,
@@ -115,10 +115,10 @@ fn expect_told(
 }
 
 #[test]
-fn edges_have_a_graph_or_a_closed_walk(rt: HostRuntime) -> Result<(), Fail> {
+fn edges_have_a_graph_or_a_cycle(rt: HostRuntime) -> Result<(), Fail> {
     for (tables, pairs, told) in CASES {
         let edges = edges_of(rt.alloc(), pairs)?;
-        expect_told(&rt, rt.alloc(), tables, &edges, told)?;
+        expect_reported(&rt, rt.alloc(), tables, &edges, told)?;
     }
     Ok(())
 }
@@ -147,8 +147,8 @@ fn leads(edges: &[Edge], from: u32, to: u32) -> bool {
     reached & 1u32.wrapping_shl(to) != 0
 }
 
-/// The closed walk that is told, by the words that say which it is.
-fn told_slowly(tables: u32, edges: &[Edge]) -> Option<(u32, u32)> {
+/// The cycle that is reported, by the words that say which it is.
+fn reported_slowly(tables: u32, edges: &[Edge]) -> Option<(u32, u32)> {
     let table = (0..tables)
         .rev()
         .find(|table| leads(edges, *table, *table))?;
@@ -165,7 +165,7 @@ fn told_slowly(tables: u32, edges: &[Edge]) -> Option<(u32, u32)> {
 fn all_edges_over_three_tables(rt: HostRuntime) -> Result<(), Fail> {
     for bits in 0..512 {
         let edges = edges_in(rt.alloc(), bits)?;
-        expect_told(&rt, rt.alloc(), 3, &edges, told_slowly(3, &edges))?;
+        expect_reported(&rt, rt.alloc(), 3, &edges, reported_slowly(3, &edges))?;
     }
     Ok(())
 }

@@ -1,4 +1,4 @@
-//! Tests of the ownership graph and of what its edges rule, by the public calls, on edges whose orders, closed walks and
+//! Tests of the ownership graph and of what its edges rule, by the public calls, on edges whose orders, cycles and
 //! columns were worked out by hand.
 #![tactic(auto)]
 

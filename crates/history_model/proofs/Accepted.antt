@@ -9,7 +9,7 @@ use Rattle.own_model.specs.Db.{Db}
 use Rattle.state_model.specs.Fault.{fault}
 use Rattle.state_model.specs.Net.{net}
 use Rattle.state_model.specs.Payload.{payload_bytes}
-use Rattle.state_model.specs.Settle.{settle, settled, too_big}
+use Rattle.state_model.specs.CommitRefusal.{commit_refusal, first_refusal, too_big}
 use Rattle.history_model.specs.History.{is_conflict, is_failure}
 use Rattle.history_model.specs.Reply.{committed, committing, is_refusal, unless_down}
 
@@ -37,14 +37,14 @@ pub accepted-committing : (verdict : Verdict) (needed : Bool) (cause : Option Re
     → (is_refusal reply ≡ false) × (cause ≡ None)
 accepted-committing verdict needed cause reply accepted = commit_step verdict needed cause reply _ refl accepted
 
-settled_step : (why big : Option Refusal) → settled why big ≡ None → why ≡ None
-settled_step None big none = refl
-settled_step (Some why) big none = none
+first_refusal_step : (why big : Option Refusal) → first_refusal why big ≡ None → why ≡ None
+first_refusal_step None big none = refl
+first_refusal_step (Some why) big none = none
 
 -- and what is left has no fault
-pub settled-fault : (before after : Db) → settle before after ≡ None → fault after ≡ None
-unfolding settle
-settled-fault before after none = settled_step (fault after) (too_big (payload_bytes (net before after))) none
+pub commit_refusal-fault : (before after : Db) → commit_refusal before after ≡ None → fault after ≡ None
+unfolding commit_refusal
+commit_refusal-fault before after none = first_refusal_step (fault after) (too_big (payload_bytes (net before after))) none
 
 -- the disk hasn't failed
 pub accepted-down : (down : Option ℕ) (reply : Reply) → is_refusal (unless_down down reply) ≡ false → is_refusal reply ≡ false

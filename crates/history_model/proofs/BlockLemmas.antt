@@ -11,7 +11,7 @@ use Rattle.own_model.specs.declared.schema.Schema.{Schema}
 use Rattle.own_model.specs.declared.statement.Statement.{Statement}
 use Rattle.own_model.specs.Db.{Db}
 use Rattle.grammar_model.specs.Readable.{IsWritten}
-use Rattle.state_model.specs.Sound.{IsKept}
+use Rattle.state_model.specs.Sound.{IsWellFormed}
 use Rattle.run_model.specs.Agree.{Agree, AgreeOn, overlaps}
 use Rattle.run_model.specs.Items.{TakesRows, items_of, items_of_all}
 use Rattle.run_model.specs.Run.{run}
@@ -84,11 +84,11 @@ module _ (places : ℕ) where
   takes : (asked : Statement) → IsTaking asked → TakesRows asked
   takes asked is = is.takes
 
-  keeps : (db : Db) (asked : Statement) → IsTaking asked → IsKept db → IsKept (run db asked).db
+  keeps : (db : Db) (asked : Statement) → IsTaking asked → IsWellFormed db → IsWellFormed (run db asked).db
   keeps db asked is kept = kept-run db kept asked is.readable
 
   -- a block leaves a kept database
-  pub kept-block : (db : Db) (block : Block) → IsKept db → AreOfBlock places block → IsKept (after_block db block)
+  pub kept-block : (db : Db) (block : Block) → IsWellFormed db → AreOfBlock places block → IsWellFormed (after_block db block)
   unfolding after_all
   kept-block db block kept are = footprints.kept-block IsTaking takes keeps db (statements_of block) (taking_each block are) kept
 
@@ -103,7 +103,7 @@ module _ (places : ℕ) where
   creates-block db block are = (footprints.same_schema-block IsTaking takes keeps db (statements_of block) (taking_each block are)).creates
 
   -- an item that no item of a block overlaps keeps its rows
-  pub still-block : (db : Db) (block : Block) → IsKept db → AreOfBlock places block → (item : FootItem)
+  pub still-block : (db : Db) (block : Block) → IsWellFormed db → AreOfBlock places block → (item : FootItem)
       → list_any (λ own. overlaps own item) (items_of_all db.schema (statements_of block)) ≡ false → AgreeOn db (after_block db block) item
   unfolding after_all
   still-block db block kept are = footprints.still-block IsTaking takes keeps db (statements_of block) (taking_each block are) kept
@@ -116,13 +116,13 @@ module _ (places : ℕ) where
       (given.0 ∙ ap Some first, given_replies base history (run db stated.statement).db (run other stated.statement).db block (cc) given.1)
 
   -- a block's replies are the same where the rows of its items are
-  pub given-agree : (base : Db) (history : History) (db other : Db) (block : Block) → IsKept db → IsKept other → AreOfBlock places block
+  pub given-agree : (base : Db) (history : History) (db other : Db) (block : Block) → IsWellFormed db → IsWellFormed other → AreOfBlock places block
       → Agree (items_of_all db.schema (statements_of block)) db other → AreGiven base history db block → AreGiven base history other block
   given-agree base history db other block kept kept_other are agree =
       given_replies base history db other block (footprints.same_replies-block IsTaking takes keeps (statements_of block) db other (taking_each block are) kept kept_other agree)
 
   -- and the databases that it leaves agree on each item on which they agreed before
-  pub carries-block : (db other : Db) (block : Block) → IsKept db → IsKept other → AreOfBlock places block → Agree (items_of_all db.schema (statements_of block)) db other
+  pub carries-block : (db other : Db) (block : Block) → IsWellFormed db → IsWellFormed other → AreOfBlock places block → Agree (items_of_all db.schema (statements_of block)) db other
       → (item : FootItem) → AgreeOn db other item → AgreeOn (after_block db block) (after_block other block) item
   unfolding after_all
   carries-block db other block kept kept_other are agree =

@@ -19,7 +19,7 @@ use Rattle.owner_model.specs.Joins.{row_of}
 use Rattle.subject_model.proofs.NamedLemmas.{one_key}
 use Rattle.state_model.specs.Net.{change_unless_same, net}
 use Rattle.state_model.specs.Same.{is_same_row, is_same_state, is_same_value}
-use Rattle.state_model.specs.Sound.{IsKept}
+use Rattle.state_model.specs.Sound.{IsWellFormed}
 use Rattle.run_model.specs.Agree.{Agree, AgreeOn, overlaps}
 use Rattle.run_model.specs.Items.{items_of_all}
 use Rattle.history_model.specs.World.{Block, after_block, statements_of}
@@ -87,7 +87,7 @@ module _ (db other : Db) (schema : db.schema ≡ other.schema) (name : RowName) 
       by (inl here) more = on_item item.table item.key item.write here agree.0
       by (inr later) more = more later
 
-module _ (places : ℕ) (db other : Db) (block : Block) (kept : IsKept db) (kept_other : IsKept other) (are : AreOfBlock places block)
+module _ (places : ℕ) (db other : Db) (block : Block) (kept : IsWellFormed db) (kept_other : IsWellFormed other) (are : AreOfBlock places block)
     (agree : Agree (items_of_all db.schema (statements_of block)) db other) where
   abbrev left : Db
   left = after_block db block

@@ -21,7 +21,7 @@ use Rattle.query_model.specs.BoundStatement.{bound_statement, faults, meaning}
 use Rattle.query_model.specs.SelectMeaning.{table_number}
 use Rattle.subject_model.specs.Forget.{forget}
 use Rattle.state_model.specs.Fault.{fault}
-use Rattle.state_model.specs.Settle.{settle}
+use Rattle.state_model.specs.CommitRefusal.{commit_refusal}
 use Rattle.state_model.specs.Sound.{Sound}
 use Rattle.state_model.proofs.ForgetSound.{sound-forget}
 use Rattle.run_model.specs.Agree.{Agree, AgreeOn}
@@ -33,11 +33,11 @@ use Rattle.run_model.proofs.Overlaps.{each_weaker}
 use Rattle.run_model.proofs.StatementFootprints.{same_schema-taking, still-run}
 use Rattle.run_model.proofs.TableRows.{in_place}
 use Rattle.history_model.specs.Held.{held, is_open, lowest_other}
-use Rattle.history_model.specs.History.{History, dooms, is_struck_by, left_by, forgotten}
+use Rattle.history_model.specs.History.{History, dooms, is_doomed_by, left_by, forgotten}
 use Rattle.history_model.specs.Reply.{changes, commit_reply, create_reply, forget_reply, is_refusal, reply_in, reply_inside, reply_outside, taking, unless_busy, write_reply}
 use Rattle.history_model.specs.Sentences.{IsOther}
-use Rattle.history_model.specs.World.{Block, Standing, Outside, Open, Doomed, World, after_block, statements_of}
-use Rattle.history_model.proofs.Accepted.{accepted-committing, no_conflict, settled-fault}
+use Rattle.history_model.specs.World.{Block, SessionStanding, Outside, Open, Doomed, World, after_block, statements_of}
+use Rattle.history_model.proofs.Accepted.{accepted-committing, no_conflict, commit_refusal-fault}
 use Rattle.history_model.proofs.AgreeLemmas.{agree-same}
 use Rattle.history_model.proofs.ApartLemmas.{AreApart, IsFree, apart-back, free-back}
 use Rattle.history_model.proofs.BlockLemmas.{kept-block, schema-block, still-block}
@@ -58,10 +58,10 @@ undoomed_step refused struck subject found is accepted none = rw (accepted, is) 
 
 -- a session that an accepted FORGET doesn't doom
 undoomed : (world : World) (entry : Entry) (reply : Reply) (subject : RowName) (session : ℕ) → is_refusal reply ≡ false
-    → forgotten world.flat.schema entry.request ≡ Some subject → dooms world entry reply session ≡ false → is_struck_by world session subject ≡ false
+    → forgotten world.flat.schema entry.request ≡ Some subject → dooms world entry reply session ≡ false → is_doomed_by world session subject ≡ false
 unfolding dooms
 undoomed world entry reply subject session accepted is none =
-    undoomed_step (is_refusal reply) (is_struck_by world session) subject (forgotten world.flat.schema entry.request) is accepted none
+    undoomed_step (is_refusal reply) (is_doomed_by world session) subject (forgotten world.flat.schema entry.request) is accepted none
 
 module _ (base : Db) (history : History) (world : World) (is : IsSerialWorld base history world) (entry : Entry) (reply : Reply) where
   abbrev session : ℕ
@@ -74,7 +74,7 @@ module _ (base : Db) (history : History) (world : World) (is : IsSerialWorld bas
   pub change-same : IsChange world entry reply world.flat
   change-same = record { sound = is.sound; others = λ other differs open' none. agree-same (held world other) world.flat }
 
-  -- a write that is granted and settled
+  -- a write that is granted and granted_changes
   change-write : (verdict : Verdict) (asked : Statement) → TakesRows asked → IsWritten STATEMENT_BYTES asked
       → is_refusal (taking world session asked (write_reply verdict world.flat (run world.flat asked))) ≡ false → Changes (run world.flat asked).db
   change-write verdict asked takes readable accepted = by granted.goes
@@ -85,11 +85,11 @@ module _ (base : Db) (history : History) (world : World) (is : IsSerialWorld bas
       granted : IsGranted world session asked own
       granted = granted-taking world session asked own (no_conflict _ accepted)
 
-      settled : is_refusal own ≡ false → Changes (run world.flat asked).db
-      settled accepted =
-          let none = accepted-committing verdict (changes world.flat (run world.flat asked).db) (settle world.flat (run world.flat asked).db) (run world.flat asked).reply accepted in
+      granted_changes : is_refusal own ≡ false → Changes (run world.flat asked).db
+      granted_changes accepted =
+          let none = accepted-committing verdict (changes world.flat (run world.flat asked).db) (commit_refusal world.flat (run world.flat asked).db) (run world.flat asked).reply accepted in
           record {
-            sound = record { kept = kept-run world.flat is.sound.kept asked readable; faultless = settled-fault world.flat (run world.flat asked).db none.1 };
+            sound = record { kept = kept-run world.flat is.sound.kept asked readable; faultless = commit_refusal-fault world.flat (run world.flat asked).db none.1 };
             others = λ other differs open' none. record {
               schema = sym ((same_schema-taking world.flat asked takes).schema);
               on = each_weaker (IsFree (items_of world.flat.schema asked)) (AgreeOn world.flat (run world.flat asked).db)
@@ -101,7 +101,7 @@ module _ (base : Db) (history : History) (world : World) (is : IsSerialWorld bas
       by : (taking world session asked own ≡ own)
           ⊎ ((why : Refusal) × (bound_statement world.flat.schema asked ≡ Err why) × (taking world session asked own ≡ Refused why))
           → Changes (run world.flat asked).db
-      by (inl goes) = settled (ap is_refusal (sym goes) ∙ accepted)
+      by (inl goes) = granted_changes (ap is_refusal (sym goes) ∙ accepted)
       by (inr (why, refused, told)) = let never : true ≡ false = ap is_refusal (sym told) ∙ accepted in absurd (cc)
 
   -- a CREATE
@@ -156,9 +156,9 @@ module _ (base : Db) (history : History) (world : World) (is : IsSerialWorld bas
         → is_refusal (commit_reply verdict world.flat (after_block world.flat block)) ≡ false → Changes (after_block world.flat block)
     change-commit verdict begun block opened told =
         let own = open-block base history world is session begun block opened in
-        let none = accepted-committing verdict (changes world.flat (after_block world.flat block)) (settle world.flat (after_block world.flat block)) Done told in
+        let none = accepted-committing verdict (changes world.flat (after_block world.flat block)) (commit_refusal world.flat (after_block world.flat block)) Done told in
         record {
-          sound = record { kept = kept-block (length history) world.flat block is.sound.kept own.stated; faultless = settled-fault world.flat (after_block world.flat block) none.1 };
+          sound = record { kept = kept-block (length history) world.flat block is.sound.kept own.stated; faultless = commit_refusal-fault world.flat (after_block world.flat block) none.1 };
           others = λ other differs open' none. record {
             schema = sym (schema-block (length history) world.flat block own.stated);
             on = each_weaker (IsFree (items_of_all world.flat.schema (statements_of block))) (AgreeOn world.flat (after_block world.flat block))
@@ -174,7 +174,7 @@ module _ (base : Db) (history : History) (world : World) (is : IsSerialWorld bas
     change-inside verdict begun block _ opened told = change-same
 
     -- any request
-    pub change-accepted : (verdict : Verdict) (standing : Standing) (request : Request) → world.standing session ≡ standing → entry.request ≡ request → IsReadable request
+    pub change-accepted : (verdict : Verdict) (standing : SessionStanding) (request : Request) → world.standing session ≡ standing → entry.request ≡ request → IsReadable request
         → is_refusal (reply_in world session verdict standing request) ≡ false → Changes (left_by world.flat standing request)
     change-accepted verdict (Doomed by) request stands asks readable told = change-same
     change-accepted verdict Outside (Run asked) stands asks readable told = change-outside verdict asked asks readable told

@@ -16,7 +16,7 @@ use Rattle.owner_model.specs.Joins.{row_of}
 use Rattle.subject_model.specs.Forget.{changed, forget, removed}
 use Rattle.subject_model.specs.Named.{is_name}
 use Rattle.subject_model.proofs.ForgetSpared.{row_of-spared}
-use Rattle.state_model.specs.Sound.{IsKept}
+use Rattle.state_model.specs.Sound.{IsWellFormed}
 use Rattle.state_model.proofs.CreatedSchema.{owner_schema-created}
 use Rattle.run_model.specs.Agree.{Agree, AgreeOn, lies_on}
 use Rattle.run_model.proofs.Overlaps.{each_weaker}
@@ -61,7 +61,7 @@ pub row_of-table : (db : Db) (name : RowName) (table : TableDef) → slice_get d
 unfolding row_named
 row_of-table db name table is = rw is refl
 
-module _ (db : Db) (subject : RowName) (kept : IsKept db) (kept_left : IsKept (forget db subject)) where
+module _ (db : Db) (subject : RowName) (kept : IsWellFormed db) (kept_left : IsWellFormed (forget db subject)) where
   schema_left : db.schema ≡ (forget db subject).schema
   unfolding forget
   schema_left = refl

@@ -7,7 +7,7 @@ use Rattle.std.proofs.lemmas.List.{append-nil, take-append-drop}
 use Rattle.own_model.specs.declared.history.Entry.{Entry}
 use Rattle.own_model.specs.Db.{Db, empty}
 use Rattle.state_model.specs.Sound.{Sound}
-use Rattle.state_model.proofs.KeptLemmas.{sound-empty}
+use Rattle.state_model.proofs.WellFormedLemmas.{sound-empty}
 use Rattle.run_model.specs.Agree.{Agree}
 use Rattle.history_model.specs.Held.{held, is_open}
 use Rattle.history_model.specs.History.{History, dooms, flat, happens, standing, world}

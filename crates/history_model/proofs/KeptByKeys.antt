@@ -68,7 +68,7 @@ module _ {Y : Type 0} where
   tells_higher : (f : Key → Option Y) (low : Option Key) (first : Key) (keys : List Key) → IsAbove low first → TellsOf low f keys → TellsOf (Some first) f keys
   tells_higher f low first keys above tells key behind none = tells key (above_then low first key above behind) none
 
-  -- of the first of some keys nothing is told where it stands before all others
+  -- of the first of some keys nothing is reported where it stands before all others
   skipped : (f g : Key → Option Y) → ((key : Key) → f key ≡ g key) → (low : Option Key) (first : Key) (rest others : List Key) → AreTold f g low (first ∷ rest) others
       → AllByRecursion (λ own. key_cmp first own ≡ Less) others → filter_map f (first ∷ rest) ≡ filter_map f rest
   skipped f g same low first rest others are before =

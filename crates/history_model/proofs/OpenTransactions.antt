@@ -2,7 +2,7 @@
 use Rattle.std.proofs.Common.{◌≡◌, ℕ, length, subst}
 use Rattle.own_model.specs.Db.{Db}
 use Rattle.state_model.specs.Net.{net}
-use Rattle.state_model.specs.Sound.{IsKept, Sound}
+use Rattle.state_model.specs.Sound.{IsWellFormed, Sound}
 use Rattle.run_model.specs.Agree.{Agree}
 use Rattle.run_model.specs.Items.{items_of_all}
 use Rattle.history_model.specs.Held.{held}
@@ -15,12 +15,12 @@ use Rattle.history_model.proofs.EveryHistory.{serial-world}
 use Rattle.history_model.proofs.Worlds.{IsOpenBlock, held-open, open-block}
 
 module _ (base : Db) (history : History) (session begun : ℕ) (block : Block) (other : Db) (sound : Sound base) (entered : IsHistory history)
-    (opened : standing base history session ≡ Open begun block) (kept_other : IsKept other) (agree : Agree (held (world base history) session) (flat base history) other) where
+    (opened : standing base history session ≡ Open begun block) (kept_other : IsWellFormed other) (agree : Agree (held (world base history) session) (flat base history) other) where
   own : IsOpenBlock base history (flat base history) session block
   unfolding flat standing
   own = open-block base history (world base history) (serial-world base history sound entered) session begun block opened
 
-  kept : IsKept (flat base history)
+  kept : IsWellFormed (flat base history)
   unfolding flat
   kept = (serial-world base history sound entered).sound.kept
 

@@ -23,7 +23,7 @@ use Rattle.history_model.specs.Held.{held, is_open, items_held}
 use Rattle.history_model.specs.History.{History, after_request, flat_after, is_conflict, is_failure, left_by, own_after, reply, with_stated}
 use Rattle.history_model.specs.Reply.{is_refusal, reply_in, reply_inside, reply_within, taking, unless_down}
 use Rattle.history_model.specs.Sentences.{IsOther}
-use Rattle.history_model.specs.World.{Block, Stated, Standing, Outside, Open, Doomed, World, after_block, statements_of}
+use Rattle.history_model.specs.World.{Block, Stated, SessionStanding, Outside, Open, Doomed, World, after_block, statements_of}
 use Rattle.history_model.proofs.Accepted.{no_failure, working-down}
 use Rattle.history_model.proofs.ApartLemmas.{AreApart, apart-append}
 use Rattle.history_model.proofs.BlockLemmas.{IsOfBlock, given-later, given-push, items-push, later-of_block, schema-block}
@@ -46,7 +46,7 @@ outside-nothing place (Run statement.Begin) conflicts = refl
 outside-nothing place _ conflicts = tt
 
 -- A session whose transaction is open after its own request left the flat database.
-left-open : (db : Db) (place : ℕ) (standing : Standing) (request : Request) (conflicts : Bool) → is_open (after_request place standing request conflicts) ≡ true
+left-open : (db : Db) (place : ℕ) (standing : SessionStanding) (request : Request) (conflicts : Bool) → is_open (after_request place standing request conflicts) ≡ true
     → left_by db standing request ≡ db
 unfolding run
 left-open db place (Doomed by) request conflicts opened = refl
@@ -79,12 +79,12 @@ module _ (base : Db) (history : History) (world : World) (is : IsSerialWorld bas
   more = history ++ entry ∷ []
 
   -- how the session stands after the entry, over the database that the entry leaves
-  pub record IsOwn (db : Db) (standing : Standing) : Type 0 where
+  pub record IsOwn (db : Db) (standing : SessionStanding) : Type 0 where
     pub stands : IsStanding base (history ++ entry ∷ []) db entry.session.0 standing
     pub apart : (other : ℕ) → IsOther entry.session.0 other → AreApart (items_held db.schema standing) (held world other)
 
   -- it holds nothing
-  own-nothing : (db : Db) (standing : Standing) → HoldsNothing standing → IsOwn db standing
+  own-nothing : (db : Db) (standing : SessionStanding) → HoldsNothing standing → IsOwn db standing
   own-nothing db standing nothing = record {
     stands = stands-nothing base more db session standing first last nothing;
     apart = λ other differs. rw (items-nothing db.schema standing nothing) tt;
@@ -114,7 +114,7 @@ module _ (base : Db) (history : History) (world : World) (is : IsSerialWorld bas
         apart = own_apart begun block opened;
       }
 
-  own_step : (standing : Standing) → world.standing session ≡ standing → IsOwn world.flat standing
+  own_step : (standing : SessionStanding) → world.standing session ≡ standing → IsOwn world.flat standing
   own_step Outside stands = own-nothing world.flat Outside tt
   own_step (Open begun block) stands = own-open begun block stands
   own_step (Doomed by) stands = own-nothing world.flat (Doomed by) tt
@@ -174,7 +174,7 @@ module _ (base : Db) (history : History) (world : World) (is : IsSerialWorld bas
         let granted = granted-taking world session asked answered free in
         own-more granted (told ∙ ap Some (told_step granted))
 
-  own-either : (standing : Standing) → IsOwn world.flat standing → (refused : Bool) → IsOwn (if refused then world.flat else world.flat) standing
+  own-either : (standing : SessionStanding) → IsOwn world.flat standing → (refused : Bool) → IsOwn (if refused then world.flat else world.flat) standing
   own-either standing own true = own
   own-either standing own false = own
 
@@ -196,7 +196,7 @@ module _ (base : Db) (history : History) (world : World) (is : IsSerialWorld bas
   own-inside refused verdict begun block _ opened readable told = own-either _ (own-open begun block opened) refused
 
   -- any request
-  own-request : (refused : Bool) (verdict : Verdict) (standing : Standing) (request : Request) → world.standing session ≡ standing → IsReadable request
+  own-request : (refused : Bool) (verdict : Verdict) (standing : SessionStanding) (request : Request) → world.standing session ≡ standing → IsReadable request
       → reply base more (length history) ≡ Some (reply_in world session verdict standing request)
       → IsOwn (if refused then world.flat else left_by world.flat standing request)
       (after_request world.place standing request (is_conflict (reply_in world session verdict standing request)))

@@ -41,7 +41,7 @@ use Rattle.query_model.specs.WriteFaults.{assigned_kind, column_in, delete_fault
 use Rattle.subject_model.specs.Named.{is_there}
 use Rattle.state_model.specs.Fault.{fault, first_of, held_in, limit_faults, over_rows, owner_faults, owner_rule, reference_faults, reference_rule, unique_faults, unique_rule}
 use Rattle.state_model.specs.Weight.{row_count, weight}
-use Rattle.state_model.specs.Settle.{settle, settled}
+use Rattle.state_model.specs.CommitRefusal.{commit_refusal, first_refusal}
 use Rattle.run_model.specs.Run.{Outcome, add_view, create_table, create_unless, delete, forget_subject, insert, insert_into, put, run, run_bound, run_unless, show_subject, stored_unless, update, update_in, view_unless}
 use Rattle.run_model.specs.Update.{Sets, null_faults, range_faults, set_fault, update_faults as running_faults}
 use Rattle.history_model.specs.Reply.{changes, commit_reply, committed, committing, is_refusal}
@@ -255,17 +255,17 @@ module _ (db : Db) where
       first-of_statement _ (both (unique_faults db ++ reference_faults db ++ owner_faults db) _ (both (unique_faults db ++ reference_faults db) _
       (both (unique_faults db) _ unique-of_statement reference-of_statement) owner-of_statement) limits-of_statement)
 
-settled-of_statement : (why big : Option Refusal) → IfOfStatement why → IfOfStatement big → IfOfStatement (settled why big)
-settled-of_statement None big own more = more
-settled-of_statement (Some why) big own more = own
+first_refusal-of_statement : (why big : Option Refusal) → IfOfStatement why → IfOfStatement big → IfOfStatement (first_refusal why big)
+first_refusal-of_statement None big own more = more
+first_refusal-of_statement (Some why) big own more = own
 
 big-of_statement : (b : Bool) (bytes : ℕ) → IfOfStatement (if b then Some (refusal.TooBig bytes) else None)
 big-of_statement true bytes = refl
 big-of_statement false bytes = tt
 
-pub settle-of_statement : (before after : Db) → IfOfStatement (settle before after)
-unfolding settle
-settle-of_statement before after = settled-of_statement (fault after) _ (fault-of_statement after) (big-of_statement _ _)
+pub commit_refusal-of_statement : (before after : Db) → IfOfStatement (commit_refusal before after)
+unfolding commit_refusal
+commit_refusal-of_statement before after = first_refusal-of_statement (fault after) _ (fault-of_statement after) (big-of_statement _ _)
 
 -- what asks nothing of the disk, and what the disk takes, is refused by what a commit asks, or as it ran
 pub committing-of_statement : (needed : Bool) (cause : Option Refusal) (reply : Reply) → IfOfStatement cause → is_left_out reply ≡ false
@@ -281,4 +281,4 @@ committing-of_statement needed cause reply causes own = by (is_refusal reply) ne
 
 -- a COMMIT that the disk takes
 pub commit-of_statement : (db after : Db) → is_left_out (commit_reply Took db after) ≡ false
-commit-of_statement db after = committing-of_statement (changes db after) (settle db after) Done (settle-of_statement db after) refl
+commit-of_statement db after = committing-of_statement (changes db after) (commit_refusal db after) Done (commit_refusal-of_statement db after) refl

@@ -15,7 +15,7 @@ use Rattle.history_model.specs.History.{History, after_reply, doomed_at, dooms, 
 use Rattle.history_model.specs.Reply.{answer, is_refusal, reply_in, unless_down}
 use Rattle.history_model.specs.Sentences.{IsOther}
 use Rattle.history_model.specs.Serial.{IsEntry}
-use Rattle.history_model.specs.World.{Block, Standing, Outside, Open, Doomed, World, statements_of}
+use Rattle.history_model.specs.World.{Block, SessionStanding, Outside, Open, Doomed, World, statements_of}
 use Rattle.history_model.proofs.Accepted.{accepted-down}
 use Rattle.history_model.proofs.AgreeLemmas.{agree-same}
 use Rattle.history_model.proofs.ApartLemmas.{AreApart, apart-back, apart-none}
@@ -65,7 +65,7 @@ module _ (base : Db) (history : History) (world : World) (is : IsSerialWorld bas
         subst (λ items. Agree items world.flat db) (held-open world other begun block opened)
         (change.others other (other-open base history world is session other differs open') open' undoomed)
 
-    stands_so : (stands : Standing) → world.standing other ≡ stands → dooms world entry given other ≡ false → IsStanding base more db other stands
+    stands_so : (stands : SessionStanding) → world.standing other ≡ stands → dooms world entry given other ≡ false → IsStanding base more db other stands
     stands_so Outside so undoomed = tt
     stands_so (Doomed by) so undoomed = tt
     stands_so (Open begun block) so undoomed =
@@ -79,7 +79,7 @@ module _ (base : Db) (history : History) (world : World) (is : IsSerialWorld bas
               (given-agree (length history) base history world.flat db block is.sound.kept change.sound.kept own.stated (still_open begun block so undoomed) own.given);
         }
 
-    stands_doomed : (stands : Standing) → IsStanding base more db other (doomed_at world.place stands)
+    stands_doomed : (stands : SessionStanding) → IsStanding base more db other (doomed_at world.place stands)
     stands_doomed Outside = tt
     stands_doomed (Open begun block) = tt
     stands_doomed (Doomed by) = tt
@@ -89,10 +89,10 @@ module _ (base : Db) (history : History) (world : World) (is : IsSerialWorld bas
     stands_by false undoomed = stands_so (world.standing other) refl undoomed
 
     -- it holds nothing, or is one of the sessions and holds what it held
-    abbrev HoldsSo : Standing → Type 0
+    abbrev HoldsSo : SessionStanding → Type 0
     HoldsSo stands = (items_held db.schema stands ≡ []) ⊎ (IsOther entry.session.0 other × (items_held db.schema stands ≡ held world other))
 
-    holds_so : (stands : Standing) → world.standing other ≡ stands → dooms world entry given other ≡ false → HoldsSo stands
+    holds_so : (stands : SessionStanding) → world.standing other ≡ stands → dooms world entry given other ≡ false → HoldsSo stands
     holds_so Outside so undoomed = inl refl
     holds_so (Doomed by) so undoomed = inl refl
     holds_so (Open begun block) so undoomed =
@@ -102,7 +102,7 @@ module _ (base : Db) (history : History) (world : World) (is : IsSerialWorld bas
           ap (λ (schema : Schema). items_of_all schema (statements_of block)) (sym same) ∙ sym (held-open world other begun block so),
         )
 
-    holds_doomed : (stands : Standing) → HoldsSo (doomed_at world.place stands)
+    holds_doomed : (stands : SessionStanding) → HoldsSo (doomed_at world.place stands)
     holds_doomed Outside = inl refl
     holds_doomed (Open begun block) = inl refl
     holds_doomed (Doomed by) = inl refl
@@ -168,7 +168,7 @@ module _ (base : Db) (history : History) (world : World) (is : IsSerialWorld bas
       → is_open (if b then doomed_at world.place (world.standing other) else world.standing other) ≡ true → Agree (held world other) world.flat db
   other_kept other differs true doomed opened = absurd (no_doomed (world.standing other) opened)
     where
-      no_doomed : (stands : Standing) → is_open (doomed_at world.place stands) ≡ true → ⊥
+      no_doomed : (stands : SessionStanding) → is_open (doomed_at world.place stands) ≡ true → ⊥
       no_doomed Outside opened = cc
       no_doomed (Open begun block) opened = cc
       no_doomed (Doomed by) opened = cc

@@ -16,7 +16,7 @@ use Rattle.run_model.specs.Run.{run}
 use Rattle.history_model.specs.History.{History, after_request, doomed_at, after_stated, happens, is_conflict, is_failure, reply, standing, with_stated, world}
 use Rattle.history_model.specs.Reply.{answer}
 use Rattle.history_model.specs.Since.{IsBegun, is_left_out, is_of_block, row_statement, stated_at, stated_since}
-use Rattle.history_model.specs.World.{Block, Stated, Standing, Outside, Open, Doomed, World}
+use Rattle.history_model.specs.World.{Block, Stated, SessionStanding, Outside, Open, Doomed, World}
 use Rattle.history_model.proofs.HistoryLemmas.{place-world, reply-append, reply-last, slice_get-append, slice_get-last, standing-append, standing-world}
 
 -- numbered entries, one more
@@ -124,7 +124,7 @@ record IsTold (base : Db) (history : History) (session begun : ℕ) (block : Blo
   statements : block ≡ stated_since base history session begun
   begins : IsBegun base history session begun
 
-abbrev Told : Db → History → ℕ → Standing → Type 0
+abbrev Told : Db → History → ℕ → SessionStanding → Type 0
 Told base history session Outside = Unit {0}
 Told base history session (Open begun block) = IsTold base history session begun block
 Told base history session (Doomed by) = Unit {0}
@@ -247,7 +247,7 @@ module _ (base : Db) (history : History) (entry : Entry) (session : ℕ) (own : 
   told_outside statement.Explain is outside fine conflicts = tt
   told_outside statement.Checkpoint is outside fine conflicts = tt
 
-  told_request : (before : Standing) (request : Request) → (world base history).standing session ≡ before → entry.request ≡ request
+  told_request : (before : SessionStanding) (request : Request) → (world base history).standing session ≡ before → entry.request ≡ request
       → is_failure (answer (world base history) entry) ≡ false → Told base history session before
       → Told base (history ++ entry ∷ []) session (after_request (length history) before request (is_conflict (answer (world base history) entry)))
   told_request (Doomed by) request stands is fine told = tt
@@ -262,7 +262,7 @@ module _ (base : Db) (history : History) (entry : Entry) (session : ℕ) (own : 
 
 module _ (base : Db) (history : History) (entry : Entry) (session : ℕ) where
   -- after an entry of its own that failed
-  told_failed : (before : Standing) → (entry.session.0 == session) ≡ true → is_failure (answer (world base history) entry) ≡ true
+  told_failed : (before : SessionStanding) → (entry.session.0 == session) ≡ true → is_failure (answer (world base history) entry) ≡ true
       → Told base history session before → Told base (history ++ entry ∷ []) session before
   told_failed Outside own fails told = tt
   told_failed (Doomed by) own fails told = tt
@@ -270,7 +270,7 @@ module _ (base : Db) (history : History) (entry : Entry) (session : ℕ) where
       (stated-left_out session begun (length history) entry _ own (left_out-failure (answer (world base history) entry) _ refl fails))
 
   -- after an entry of another session
-  told_other : (before : Standing) (b : Bool) → (entry.session.0 == session) ≡ false → Told base history session before
+  told_other : (before : SessionStanding) (b : Bool) → (entry.session.0 == session) ≡ false → Told base history session before
       → Told base (history ++ entry ∷ []) session (if b then doomed_at (world base history).place before else before)
   told_other Outside true other told = tt
   told_other Outside false other told = tt

@@ -5,7 +5,7 @@ use Rattle.own_model.specs.declared.schema.Schema.{Schema}
 use Rattle.own_model.specs.declared.statement.Statement.{Statement}
 use Rattle.own_model.specs.declared.statement.Statement.TheVariants as statement
 use Rattle.history_model.specs.MayBeUnmade.{MayBeUnmade, MayBeUnmadeFrom, MayBeUnmadeInside}
-use Rattle.history_model.specs.World.{Block, Standing, Outside, Open, Doomed}
+use Rattle.history_model.specs.World.{Block, SessionStanding, Outside, Open, Doomed}
 
 module _ (schema : Schema) where
   -- a statement in a transaction
@@ -23,7 +23,7 @@ module _ (schema : Schema) where
   outside-unmade _ may = may
 
   -- any request
-  pub from-unmade : (standing : Standing) (request : Request) → MayBeUnmadeFrom schema standing request → MayBeUnmade request
+  pub from-unmade : (standing : SessionStanding) (request : Request) → MayBeUnmadeFrom schema standing request → MayBeUnmade request
   from-unmade (Doomed by) request may = absurd may
   from-unmade Outside (Run asked) may = outside-unmade asked may
   from-unmade (Open begun block) (Run asked) may = inside-unmade block asked may

@@ -20,8 +20,8 @@ use Rattle.history_model.specs.Held.{Holding, lowest_other}
 use Rattle.history_model.specs.History.{History, down_after, happens, is_disk, is_failure, world as world_of}
 use Rattle.history_model.specs.Reply.{answer, create_reply, granted, reply_in, reply_inside, reply_outside, taking, unless_busy, unless_down, unless_held, write_reply}
 use Rattle.history_model.specs.Since.{is_left_out}
-use Rattle.history_model.specs.World.{Block, Standing, Outside, Open, Doomed, World, after_block, start}
-use Rattle.history_model.proofs.RunReplies.{binding-of_statement, commit-of_statement, committing-of_statement, fault-of_statement, run-of_statement, settle-of_statement}
+use Rattle.history_model.specs.World.{Block, SessionStanding, Outside, Open, Doomed, World, after_block, start}
+use Rattle.history_model.proofs.RunReplies.{binding-of_statement, commit-of_statement, committing-of_statement, fault-of_statement, run-of_statement, commit_refusal-of_statement}
 
 -- what is the statement's own isn't for want of the disk
 own-works : (reply : Reply) → is_left_out reply ≡ false → is_failure reply ≡ false
@@ -56,7 +56,7 @@ module _ (world : World) (session : ℕ) where
 
   write-works : (asked : Statement) → is_failure (write_reply Took world.flat (run world.flat asked)) ≡ false
   write-works asked =
-      own-works _ (committing-of_statement _ _ (run world.flat asked).reply (settle-of_statement world.flat (run world.flat asked).db) (run-of_statement world.flat asked))
+      own-works _ (committing-of_statement _ _ (run world.flat asked).reply (commit_refusal-of_statement world.flat (run world.flat asked).db) (run-of_statement world.flat asked))
 
   -- a statement outside a transaction
   outside-works : (asked : Statement) → is_failure (reply_outside world session Took asked) ≡ false
@@ -91,7 +91,7 @@ module _ (world : World) (session : ℕ) where
   inside-works block _ = refl
 
   -- any request, however the session stands
-  standing-works : (standing : Standing) (request : Request) → is_failure (reply_in world session Took standing request) ≡ false
+  standing-works : (standing : SessionStanding) (request : Request) → is_failure (reply_in world session Took standing request) ≡ false
   standing-works (Doomed by) request = refl
   standing-works Outside (Run asked) = outside-works asked
   standing-works (Open begun block) (Run asked) = inside-works block asked

@@ -10,7 +10,7 @@ use Rattle.history_model.specs.Held.{held, is_open, items_held}
 use Rattle.history_model.specs.History.{History}
 use Rattle.history_model.specs.Sentences.{IsOther}
 use Rattle.history_model.specs.Serial.{AreGiven}
-use Rattle.history_model.specs.World.{Block, Standing, Outside, Open, Doomed, World, statements_of}
+use Rattle.history_model.specs.World.{Block, SessionStanding, Outside, Open, Doomed, World, statements_of}
 use Rattle.history_model.proofs.ApartLemmas.{AreApart}
 use Rattle.history_model.proofs.BlockLemmas.{AreOfBlock, items-nil}
 
@@ -21,7 +21,7 @@ pub record IsOpenBlock (base : Db) (history : History) (db : Db) (session : ℕ)
   pub stated : AreOfBlock (length history) block
   pub given : AreGiven base history db block
 
-abbrev pub IsStanding : Db → History → Db → ℕ → Standing → Type 0
+abbrev pub IsStanding : Db → History → Db → ℕ → SessionStanding → Type 0
 IsStanding base history db session Outside = Unit {0}
 IsStanding base history db session (Open begun block) = IsOpenBlock base history db session block
 IsStanding base history db session (Doomed by) = Unit {0}
@@ -44,17 +44,17 @@ pub open-block : (base : Db) (history : History) (world : World) → IsSerialWor
 open-block base history world is session begun block open' = subst (IsStanding base history world.flat session) open' (is.stands session)
 
 -- a session that stands so holds nothing
-abbrev pub HoldsNothing : Standing → Type 0
+abbrev pub HoldsNothing : SessionStanding → Type 0
 HoldsNothing Outside = Unit {0}
 HoldsNothing (Open begun block) = block ≡ []
 HoldsNothing (Doomed by) = Unit {0}
 
-pub items-nothing : (schema : Schema) (standing : Standing) → HoldsNothing standing → items_held schema standing ≡ []
+pub items-nothing : (schema : Schema) (standing : SessionStanding) → HoldsNothing standing → items_held schema standing ≡ []
 items-nothing schema Outside nothing = refl
 items-nothing schema (Open begun block) nothing = ap (λ block. items_of_all schema (statements_of block)) nothing ∙ items-nil schema
 items-nothing schema (Doomed by) nothing = refl
 
-pub stands-nothing : (base : Db) (history : History) (db : Db) (session : ℕ) (standing : Standing) → 1 ≤ session → session ≤ SESSIONS → HoldsNothing standing
+pub stands-nothing : (base : Db) (history : History) (db : Db) (session : ℕ) (standing : SessionStanding) → 1 ≤ session → session ≤ SESSIONS → HoldsNothing standing
     → IsStanding base history db session standing
 stands-nothing base history db session Outside first last nothing = tt
 stands-nothing base history db session (Open begun block) first last nothing =
@@ -62,7 +62,7 @@ stands-nothing base history db session (Open begun block) first last nothing =
 stands-nothing base history db session (Doomed by) first last nothing = tt
 
 -- another session whose transaction is open is one of the sessions
-open_step : (base : Db) (history : History) (db : Db) (session other : ℕ) → (other ≡ session → ⊥) → (standing : Standing) → is_open standing ≡ true
+open_step : (base : Db) (history : History) (db : Db) (session other : ℕ) → (other ≡ session → ⊥) → (standing : SessionStanding) → is_open standing ≡ true
     → IsStanding base history db other standing → IsOther session other
 open_step base history db session other differs Outside open' stands = absurd (cc)
 open_step base history db session other differs (Open begun block) open' stands = record { first = stands.first; last = stands.last; differs = differs }

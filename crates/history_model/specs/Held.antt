@@ -6,10 +6,10 @@ use Rattle.own_model.specs.declared.limit.TheConstants.{SESSIONS}
 use Rattle.own_model.specs.declared.schema.Schema.{Schema}
 use Rattle.run_model.specs.Agree.{overlaps}
 use Rattle.run_model.specs.Items.{items_of_all}
-use Rattle.history_model.specs.World.{Standing, Outside, Open, Doomed, World, statements_of}
+use Rattle.history_model.specs.World.{SessionStanding, Outside, Open, Doomed, World, statements_of}
 
 -- the footprints of a transaction's statements, those aside that binding refused
-abbrev pub items_held : Schema → Standing → List FootItem
+abbrev pub items_held : Schema → SessionStanding → List FootItem
 items_held schema Outside = []
 items_held schema (Open begun block) = items_of_all schema (statements_of block)
 items_held schema (Doomed by) = []
@@ -18,7 +18,7 @@ items_held schema (Doomed by) = []
 unfoldable pub held : World → ℕ → List FootItem
 held world session = items_held world.flat.schema (world.standing session)
 
-abbrev pub is_open : Standing → Bool
+abbrev pub is_open : SessionStanding → Bool
 is_open Outside = false
 is_open (Open begun block) = true
 is_open (Doomed by) = false

@@ -20,7 +20,7 @@ use Rattle.run_model.specs.Agree.{lies_on}
 use Rattle.run_model.specs.Run.{run}
 use Rattle.history_model.specs.Held.{held}
 use Rattle.history_model.specs.Reply.{answer, is_refusal}
-use Rattle.history_model.specs.World.{Block, Standing, Outside, Open, Doomed, World, after_block, start}
+use Rattle.history_model.specs.World.{Block, SessionStanding, Outside, Open, Doomed, World, after_block, start}
 
 -- entries in the order of their events
 abbrev pub History : Type 0
@@ -44,7 +44,7 @@ abbrev pub is_failure : Reply → Bool
 is_failure reply = is_disk reply || is_down reply
 
 -- the database that an accepted request leaves: a COMMIT runs the transaction's statements; outside, a statement runs
-abbrev pub left_by : Db → Standing → Request → Db
+abbrev pub left_by : Db → SessionStanding → Request → Db
 left_by db Outside (Run asked) = (run db asked).db
 left_by db (Open begun block) (Run statement.Commit) = after_block db block
 left_by db _ _ = db
@@ -53,12 +53,12 @@ left_by db _ _ = db
 abbrev pub flat_after : World → Entry → Reply → Db
 flat_after world entry reply = if is_refusal reply then world.flat else left_by world.flat (world.standing entry.session.0) entry.request
 
-abbrev pub with_stated : ℕ → ℕ → Block → Statement → Bool → Standing
+abbrev pub with_stated : ℕ → ℕ → Block → Statement → Bool → SessionStanding
 with_stated place begun block asked conflicts = if conflicts then Open begun block else Open begun (block ++ record { place = place; statement = asked } ∷ [])
 
 -- How a session stands after a statement in its transaction. A statement that conflicts isn't one of it; any other is, also
 -- one that is refused.
-abbrev pub after_stated : ℕ → ℕ → Block → Statement → Bool → Standing
+abbrev pub after_stated : ℕ → ℕ → Block → Statement → Bool → SessionStanding
 after_stated place begun block (statement.Select select) conflicts = with_stated place begun block (statement.Select select) conflicts
 after_stated place begun block (statement.Insert table columns rows) conflicts = with_stated place begun block (statement.Insert table columns rows) conflicts
 after_stated place begun block (statement.Update table sets cond) conflicts = with_stated place begun block (statement.Update table sets cond) conflicts
@@ -68,7 +68,7 @@ after_stated place begun block statement.Rollback conflicts = Outside
 after_stated place begun block asked conflicts = Open begun block
 
 -- how a session stands after a request of its own
-abbrev pub after_request : ℕ → Standing → Request → Bool → Standing
+abbrev pub after_request : ℕ → SessionStanding → Request → Bool → SessionStanding
 after_request place (Doomed by) request conflicts = Outside
 after_request place Outside (Run statement.Begin) conflicts = Open place []
 after_request place Outside request conflicts = Outside
@@ -77,7 +77,7 @@ after_request place (Open begun block) End conflicts = Outside
 after_request place (Open begun block) request conflicts = Open begun block
 
 -- and after its entry: an answer for want of the disk changes nothing
-abbrev pub own_after : World → Entry → Reply → Standing
+abbrev pub own_after : World → Entry → Reply → SessionStanding
 own_after world entry reply = if is_failure reply then world.standing entry.session.0
     else after_request world.place (world.standing entry.session.0) entry.request (is_conflict reply)
 
@@ -91,19 +91,19 @@ abbrev pub lie_on : List RowName → List FootItem → Bool
 lie_on names items = list_any (λ name. list_any (lies_on name) items) names
 
 -- whether a FORGET of this subject removes or changes a row on an item that a session holds
-abbrev pub is_struck_by : World → ℕ → RowName → Bool
-is_struck_by world session subject = lie_on (removed world.flat subject ++ changed world.flat subject) (held world session)
+abbrev pub is_doomed_by : World → ℕ → RowName → Bool
+is_doomed_by world session subject = lie_on (removed world.flat subject ++ changed world.flat subject) (held world session)
 
 -- whether an entry that was answered so ends the transaction of another session
 unfoldable pub dooms : World → Entry → Reply → ℕ → Bool
-dooms world entry reply session = not (is_refusal reply) && option_map_or (is_struck_by world session) (forgotten world.flat.schema entry.request) false
+dooms world entry reply session = not (is_refusal reply) && option_map_or (is_doomed_by world session) (forgotten world.flat.schema entry.request) false
 
-abbrev pub doomed_at : ℕ → Standing → Standing
+abbrev pub doomed_at : ℕ → SessionStanding → SessionStanding
 doomed_at place (Open begun block) = Doomed place
 doomed_at place standing = standing
 
 -- how another session stands after an entry
-abbrev pub other_after : World → Entry → Reply → ℕ → Standing
+abbrev pub other_after : World → Entry → Reply → ℕ → SessionStanding
 other_after world entry reply session = if dooms world entry reply session then doomed_at world.place (world.standing session) else world.standing session
 
 abbrev pub down_after : ℕ → Option ℕ → Bool → Option ℕ
@@ -132,7 +132,7 @@ unfoldable pub flat : Db → History → Db
 flat base history = (world base history).flat
 
 -- how a session stands after a history
-unfoldable pub standing : Db → History → ℕ → Standing
+unfoldable pub standing : Db → History → ℕ → SessionStanding
 standing base history session = (world base history).standing session
 
 -- the reply at a place of a history, where it has that place

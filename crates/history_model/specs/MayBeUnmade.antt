@@ -8,7 +8,7 @@ use Rattle.own_model.specs.declared.statement.Statement.{Statement}
 use Rattle.own_model.specs.declared.statement.Statement.TheVariants.{Begin, Commit, Delete, Insert, Rollback, Select, Update}
 use Rattle.history_model.specs.HasWritten.{has_written}
 use Rattle.history_model.specs.Made.{Called, Unmade, entry_of}
-use Rattle.history_model.specs.World.{Block, Standing, Outside, Open, Doomed}
+use Rattle.history_model.specs.World.{Block, SessionStanding, Outside, Open, Doomed}
 
 -- Memory may keep this request from being made: a statement, which takes memory to be bound, to run or to show what it
 -- reads. BEGIN and ROLLBACK take none; a text that is refused, and the end of a session, always leave their entry.
@@ -31,7 +31,7 @@ MayBeUnmadeInside schema block Commit = has_written schema block ≡ true
 MayBeUnmadeInside schema block statement = ⊥
 
 -- And of a request of a session that stands so. A doom is told without taking memory.
-abbrev pub MayBeUnmadeFrom : Schema → Standing → Request → Type 0
+abbrev pub MayBeUnmadeFrom : Schema → SessionStanding → Request → Type 0
 MayBeUnmadeFrom schema (Doomed by) request = ⊥
 MayBeUnmadeFrom schema Outside (Run Commit) = ⊥
 MayBeUnmadeFrom schema (Open begun block) (Run statement) = MayBeUnmadeInside schema block statement

@@ -19,10 +19,10 @@ use Rattle.query_model.specs.Footprints.{footprint_of}
 use Rattle.subject_model.specs.Get.{table_name}
 use Rattle.state_model.specs.Fault.{fault}
 use Rattle.state_model.specs.Net.{net}
-use Rattle.state_model.specs.Settle.{settle}
+use Rattle.state_model.specs.CommitRefusal.{commit_refusal}
 use Rattle.run_model.specs.Run.{Outcome, run}
 use Rattle.history_model.specs.Held.{Holding, holder, lowest_other}
-use Rattle.history_model.specs.World.{Block, Standing, Outside, Open, Doomed, World, after_block}
+use Rattle.history_model.specs.World.{Block, SessionStanding, Outside, Open, Doomed, World, after_block}
 
 -- a reply by which nothing was done
 abbrev pub is_refusal : Reply → Bool
@@ -58,7 +58,7 @@ committing verdict needed cause reply = if is_refusal reply then reply else comm
 
 -- a write outside a transaction, which commits by itself; a CREATE; a FORGET, which no constraint refuses; a COMMIT
 abbrev pub write_reply : Verdict → Db → Outcome → Reply
-write_reply verdict db outcome = committing verdict (changes db outcome.db) (settle db outcome.db) outcome.reply
+write_reply verdict db outcome = committing verdict (changes db outcome.db) (commit_refusal db outcome.db) outcome.reply
 
 abbrev pub create_reply : Verdict → Outcome → Reply
 create_reply verdict outcome = committing verdict true (fault outcome.db) outcome.reply
@@ -67,7 +67,7 @@ abbrev pub forget_reply : Verdict → Outcome → Reply
 forget_reply verdict outcome = committing verdict true None outcome.reply
 
 abbrev pub commit_reply : Verdict → Db → Db → Reply
-commit_reply verdict db after = committing verdict (changes db after) (settle db after) Done
+commit_reply verdict db after = committing verdict (changes db after) (commit_refusal db after) Done
 
 -- refused where another session holds a row of the footprint, with the lowest such session and the first such item
 abbrev pub conflict : World → Holding → Reply
@@ -124,7 +124,7 @@ reply_inside world session verdict block statement.Rollback = Done
 reply_inside world session verdict block asked = Refused refusal.Inside
 
 -- what a session that stands so is answered to a request
-abbrev pub reply_in : World → ℕ → Verdict → Standing → Request → Reply
+abbrev pub reply_in : World → ℕ → Verdict → SessionStanding → Request → Reply
 reply_in world session verdict (Doomed by) request = Refused (refusal.Doomed (record { 0 = by }))
 reply_in world session verdict standing (Syntax byte) = Refused (refusal.Syntax byte)
 reply_in world session verdict standing (Limit passed) = Refused (refusal.Limit passed)

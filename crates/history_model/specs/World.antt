@@ -15,16 +15,16 @@ Block = List Stated
 
 -- How a session stands: outside any transaction; in one that began at a place, with its block; or in none, since a FORGET at
 -- a place ended its transaction, which it hasn't been told.
-pub data Standing : Type 0 where
-  Outside : Standing
-  Open : ℕ → Block → Standing
-  Doomed : ℕ → Standing
+pub data SessionStanding : Type 0 where
+  Outside : SessionStanding
+  Open : ℕ → Block → SessionStanding
+  Doomed : ℕ → SessionStanding
 
 -- How many entries there are, the one flat database, how each session stands, and the place at which the disk failed.
 pub record World : Type 0 where
   pub place : ℕ
   pub flat : Db
-  pub standing : ℕ → Standing
+  pub standing : ℕ → SessionStanding
   pub down : Option ℕ
 
 -- before any entry

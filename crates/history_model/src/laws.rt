@@ -12,7 +12,7 @@ ghost use Rattle.own_model.specs.declared.refusal.Refusal.TheVariants as refusal
 ghost use Rattle.own_model.specs.declared.reply.Reply.TheVariants.{Refused};
 ghost use Rattle.own_model.specs.Db.{Db};
 ghost use Rattle.state_model.specs.Net.{net};
-ghost use Rattle.state_model.specs.Sound.{IsKept, Sound};
+ghost use Rattle.state_model.specs.Sound.{IsWellFormed, Sound};
 ghost use Rattle.run_model.specs.Agree.{Agree};
 ghost use Rattle.history_model.specs.Held.{Holding, held, holder, is_open, lowest_other};
 ghost use Rattle.history_model.specs.History.{History, flat, happens, is_failure, reply, standing, world};
@@ -34,10 +34,10 @@ pub fn every_history_is_serial()
 /// agrees on these its statements give the same replies, and its net is the same.
 pub fn open_transaction_depends_on_the_rows_it_holds()
     ensures replies { (base : Db) (history : History) (session begun : ℕ) (block : Block) (other : Db) → Sound base → IsHistory history
-        → standing base history session ≡ Open begun block → IsKept other → Agree (held (world base history) session) (flat base history) other
+        → standing base history session ≡ Open begun block → IsWellFormed other → Agree (held (world base history) session) (flat base history) other
         → AreGiven base history other block }
     ensures net { (base : Db) (history : History) (session begun : ℕ) (block : Block) (other : Db) → Sound base → IsHistory history
-        → standing base history session ≡ Open begun block → IsKept other → Agree (held (world base history) session) (flat base history) other
+        → standing base history session ≡ Open begun block → IsWellFormed other → Agree (held (world base history) session) (flat base history) other
         → net (flat base history) (after_block (flat base history) block) ≡ net other (after_block other block) }
 {}
 

@@ -22,7 +22,7 @@ use Rattle.run_model.specs.Run.{run}
 use Rattle.history_model.specs.Held.{Holding, first_holding, first_overlap, held, holder, holding, items_held}
 use Rattle.history_model.specs.History.{History, after_reply, doomed_at, dooms, forgotten, lie_on, other_after, own_after}
 use Rattle.history_model.specs.Reply.{answer, conflict, granted, is_refusal, reply_in, taking, unless_down, unless_held}
-use Rattle.history_model.specs.World.{Block, Open, Standing, World, after_block}
+use Rattle.history_model.specs.World.{Block, Open, SessionStanding, World, after_block}
 use Rattle.history_tests.specs.Told.{told_from}
 
 -- one entry that is answered so, from a world to the next
@@ -35,7 +35,7 @@ step world entry reply rest is goes_on =
     ∙ ap (λ more. reply_lines (Some world.place) entry.session.0 entry.call reply ++ more) goes_on
 
 -- the answer, where it is known how the session stands, and that the disk hasn't failed
-pub answer_in : (world : World) (entry : Entry) (standing : Standing) → world.down ≡ None → world.standing entry.session.0 ≡ standing
+pub answer_in : (world : World) (entry : Entry) (standing : SessionStanding) → world.down ≡ None → world.standing entry.session.0 ≡ standing
     → answer world entry ≡ reply_in world entry.session.0 entry.verdict standing entry.request
 unfolding answer
 answer_in world entry standing up stands =
@@ -80,7 +80,7 @@ unfolding dooms
 dooms_by world entry reply session items holds = ap (dooms_with world entry reply) holds
 
 -- how another session stands after an entry
-pub stands_after : (world : World) (entry : Entry) (reply : Reply) (session : ℕ) (doomed : Bool) (standing : Standing)
+pub stands_after : (world : World) (entry : Entry) (reply : Reply) (session : ℕ) (doomed : Bool) (standing : SessionStanding)
     → (session == entry.session.0) ≡ false → dooms world entry reply session ≡ doomed → world.standing session ≡ standing
     → (after_reply world entry reply).standing session ≡ (if doomed then doomed_at world.place standing else standing)
 stands_after world entry reply session doomed standing other dooms stands =

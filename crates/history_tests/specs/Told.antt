@@ -1,15 +1,18 @@
 -- Histories as calls session by session, and the lines of what is replied.
 use Prim.Native.String.{String}
-use Rattle.std.specs.Prelude.{ℕ, ◌+◌, List, [], ◌∷◌, ◌++◌, ◌==◌, Some, codes, filter, flat_map, length}
+use Rattle.std.specs.Prelude.{ℕ, ◌+◌, pos, List, [], ◌∷◌, ◌++◌, ◌==◌, Some, codes, filter, flat_map, length, map}
+use Rattle.own_base.specs.declared.change.Change.{Change}
+use Rattle.own_base.specs.declared.row_name.RowName.{RowName}
+use Rattle.own_base.specs.declared.value.Key.TheVariants as key
 use Rattle.own_model.specs.declared.history.Verdict.{Verdict}
 use Rattle.own_model.specs.declared.history.Verdict.TheVariants.{Took}
 use Rattle.own_model.specs.declared.request.Request.{Request}
 use Rattle.own_model.specs.declared.request.Request.TheVariants.{Run}
 use Rattle.own_model.specs.declared.statement.Statement.{Statement}
-use Rattle.own_model.specs.Db.{empty}
+use Rattle.own_model.specs.Db.{Db, empty}
 use Rattle.text_model.specs.Canonical.{canonical}
 use Rattle.text_model.specs.Lines.{reply_lines}
-use Rattle.history_model.specs.History.{History, happens, world}
+use Rattle.history_model.specs.History.{History, flat, happens, world}
 use Rattle.history_model.specs.Reply.{answer}
 use Rattle.history_model.specs.World.{World}
 
@@ -64,3 +67,14 @@ texts statements = flat_map (λ statement. canonical statement ++ 10 ∷ []) sta
 -- lines that are written out
 abbrev pub lines : List String → List ℕ
 lines written = flat_map (λ line. codes line ++ 10 ∷ []) written
+
+-- the database that calls leave, over the empty one
+abbrev pub left_by : List Asked → Db
+left_by asked = flat empty (entries [] asked)
+
+-- the rows that changes are of
+abbrev pub names_in : List Change → List RowName
+names_in changes = map (λ change. change.name) changes
+
+abbrev pub named : ℕ → ℕ → RowName
+named table number = record { table = record { 0 = table }; key = key.Int (pos number) }

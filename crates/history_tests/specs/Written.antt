@@ -65,6 +65,13 @@ refers kind table = attr.Refers (record { kind = kind; table = codes table; colu
 abbrev pub plain : String → Attr
 plain table = refers ref_kind.Plain table
 
+-- REFERENCES TABLE(COLUMN), and PRIMARY KEY REFERENCES TABLE(id)
+abbrev pub refers_to : String → String → Attr
+refers_to table column = attr.Refers (record { kind = ref_kind.Plain; table = codes table; column = codes column })
+
+abbrev pub key_that_refers : String → List Attr
+key_that_refers table = attr.Key ∷ plain table ∷ []
+
 abbrev pub owned_by : String → Attr
 owned_by table = refers ref_kind.OwnedBy table
 
@@ -116,6 +123,10 @@ select_key table number = statement.Select (selected items.Star table (equals "i
 
 abbrev pub select_ids : String → Statement
 select_ids table = statement.Select (selected (items.Listed (shown (what.Column (here "id")) ∷ [])) table None)
+
+-- SELECT COLUMN FROM TABLE
+abbrev pub select_one : String → String → Statement
+select_one name table = statement.Select (selected (items.Listed (shown (what.Column (here name)) ∷ [])) table None)
 
 -- SELECT COLUMN, COUNT(*) FROM TABLE GROUP BY COLUMN
 abbrev pub counted : String → String → Select

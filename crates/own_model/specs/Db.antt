@@ -1,4 +1,4 @@
--- A database as plain lists: what a store stands for.
+-- A database as plain lists: what a store represents.
 use Rattle.std.specs.Prelude.{ℕ, ◌+◌, pos, List, [], ◌∷◌, map, Option, None, Some, slice_index_or, if◌then◌else◌}
 use Rattle.std.specs.List.Sorted.{IsStrictlySortedBy}
 use Rattle.std.specs.Str.{bytes_eq}

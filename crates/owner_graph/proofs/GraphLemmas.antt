@@ -18,10 +18,10 @@ use Rattle.owner_model.proofs.CycleLemmas.{tables_within}
 use Rattle.owner_graph.specs.declared.end.End.TheVariants.{Lower}
 use Rattle.owner_graph.specs.Ends.{by_table, edges_at}
 use Rattle.owner_graph.specs.Graph.{IsGraphOf}
-use Rattle.owner_graph.specs.Placing.{AllPlaced}
+use Rattle.owner_graph.specs.TopologicalSort.{AllPlaced}
 use Rattle.owner_graph.proofs.EndsLemmas.{get_or-by_table, length-by_table}
 use Rattle.owner_graph.proofs.PlacedLemmas.{get-within, get_from_read, read_from_get}
-use Rattle.owner_graph.proofs.SettlingLemmas.{none_outside}
+use Rattle.owner_graph.proofs.ReleasedLemmas.{none_outside}
 
 -- each element differs from those after it
 abbrev Apart : List ℕ → Type 0
@@ -72,10 +72,10 @@ module _ (tables : ℕ) (edges : List Edge) (order : List TableNo) (waiting : Li
   none_waits : (table : TableNo) → table.0 < tables → IsPlaced order table
   none_waits table inside =
       elim (cases_eq (slice_index waiting table.0) 0) [
-        | inl none ↦ (all.placing.placed table (omega arith)).1 none
+        | inl none ↦ (all.sorting.placed table (omega arith)).1 none
         | inr some ↦
             let at : slice_get waiting table.0 ≡ Some (slice_index waiting table.0) = get_from_read waiting table.0 (slice_index waiting table.0) (omega arith) (get_or_default waiting table.0 (slice_index waiting table.0) 0 (omega arith)) in
-            absurd (omega (arith, all.placing.others, count_by-one (λ n. not (n == 0)) waiting table.0 (slice_index waiting table.0) at (ap not (ne_eqb (slice_index waiting table.0) 0 some))))
+            absurd (omega (arith, all.sorting.others, count_by-one (λ n. not (n == 0)) waiting table.0 (slice_index waiting table.0) at (ap not (ne_eqb (slice_index waiting table.0) 0 some))))
       ]
 
   numbers_placed : (first count : ℕ) → first + count ≤ tables → AllByRecursion (Contains (map (λ t. t.0) order)) (range_with_len first count)

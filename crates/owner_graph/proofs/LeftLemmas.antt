@@ -15,7 +15,7 @@ use Rattle.owner_model.proofs.CountLemmas.{count_by-fails, count_by-passes, coun
 use Rattle.owner_model.proofs.CycleLemmas.{tables_within}
 use Rattle.owner_model.proofs.LeadsLemmas.{leads-edge, leads-from_walk, leads-on, walk_from_leads}
 use Rattle.owner_model.proofs.OrderLemmas.{placed_has_no_cycle}
-use Rattle.owner_graph.specs.Placing.{AllPlaced, edges_past, is_among}
+use Rattle.owner_graph.specs.TopologicalSort.{AllPlaced, edges_past, is_among}
 use Rattle.owner_graph.specs.WayBack.{IsWayBack}
 use Rattle.owner_graph.proofs.PlacedLemmas.{get_from_read, is_among-placed, read_from_get}
 
@@ -68,7 +68,7 @@ range_at : (count n : ℕ) → n < count → slice_get (range_with_len 0 count) 
 range_at count n inside =
     get_from_read (range_with_len 0 count) n n (omega (arith, length-range_with_len 0 count)) (get_or-range_with_len 0 count n n inside ∙ omega arith)
 
--- tables that are left, each with an edge to another that is, and without closed walks
+-- tables that are left, each with an edge to another that is, and without cycles
 module _ (tables : ℕ) (edges : List Edge) (left : ℕ → Bool) (above : (table : ℕ) → left table ≡ true → (upper : ℕ) × (left upper ≡ true) × (upper < tables) × (leads edges table upper ≡ true)) (open' : (table : ℕ) → table < tables → leads edges table table ≡ false) where
   -- how many tables one leads to
   abbrev led_to : ℕ → ℕ
@@ -99,29 +99,29 @@ module _ (tables : ℕ) (edges : List Edge) (order : List TableNo) (waiting : Li
       let inside : edge.upper.0 < tables = (tables_within tables edges edge within among).1 in
       let unplaced : slice_index waiting edge.upper.0 ≢ 0 =
       (λ none.
-      let placed : IsPlaced order edge.upper = (all.placing.placed edge.upper (omega arith)).1 none in
+      let placed : IsPlaced order edge.upper = (all.sorting.placed edge.upper (omega arith)).1 none in
       let never : true ≡ false = sym (is_among-placed order edge.upper placed) ∙ not-true (is_among order edge.upper.0) both.1 in cc) in
       (edge.upper.0, ap not (ne_eqb (slice_index waiting edge.upper.0) 0 unplaced), inside, subst (λ n. leads edges n edge.upper.0 ≡ true) (eqb-true edge.lower.0 table both.0) (leads-edge edges edge among))
 
-  -- a placed table lies on no closed walk
+  -- a placed table lies on no cycle
   pub placed_open : (table : ℕ) → table < tables → slice_index waiting table ≡ 0 → leads edges table table ≡ false
   placed_open table inside none =
       false_from_ne_true (leads edges table table) (λ is.
-      placed_has_no_cycle edges order all.placing.once all.upward table ((all.placing.placed (record { 0 = table }) (omega arith)).1 none) (walk_from_leads edges table table is))
+      placed_has_no_cycle edges order all.sorting.once all.upward table ((all.sorting.placed (record { 0 = table }) (omega arith)).1 none) (walk_from_leads edges table table is))
 
-  -- where some table isn't placed, some table lies on a closed walk
+  -- where some table isn't placed, some table lies on a cycle
   pub left_on_walk : length order < tables → ((table : ℕ) → table < tables → leads edges table table ≡ false) → ⊥
   left_on_walk fewer none =
-      let some : 0 < count_by (λ n. not (n == 0)) waiting = omega (arith, all.placing.others) in
+      let some : 0 < count_by (λ n. not (n == 0)) waiting = omega (arith, all.sorting.others) in
       let waits = passing (λ n. not (n == 0)) waiting some in
       none_left tables edges (λ t. not (slice_index waiting t == 0)) waits_above none (count_by (leads edges waits.place) (range_with_len 0 tables)) waits.place (omega arith)
       (ap (λ n. not (n == 0)) (read_from_get waiting waits.place waits.found 0 waits.at_place) ∙ waits.passes)
 
--- a table on a closed walk is there
+-- a table on a cycle is there
 closed_within : (tables : ℕ) (edges : List Edge) (table : ℕ) → AreWithin tables edges → Leads edges table table → table < tables
 closed_within tables edges table within walk = subst (λ n. n < tables) walk.walk.0 (tables_within tables edges walk.first within walk.among.0).0
 
--- where no higher table lies on a closed walk, the way back to a table tells one
+-- where no higher table lies on a cycle, the way back to a table tells one
 pub IsCycle-way_back : (tables : ℕ) (edges : List Edge) (table through : ℕ) → AreWithin tables edges → IsWayBack edges table through
     → ((other : ℕ) → table < other → other < tables → leads edges other other ≡ false) → IsCycle edges table through
 IsCycle-way_back tables edges table through within back none =

@@ -1,9 +1,10 @@
 pub mod EndsLemmas
 pub mod GraphLemmas
+pub mod GraphThere
 pub mod LeftLemmas
 pub mod PlacedLemmas
-pub mod PlacingLemmas
-pub mod SettlingLemmas
+pub mod TopologicalSortLemmas
+pub mod ReleasedLemmas
 pub mod WaitingLemmas
 pub mod WalkedBackLemmas
 pub mod WayBackLemmas

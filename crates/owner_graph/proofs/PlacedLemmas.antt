@@ -8,7 +8,7 @@ use Rattle.std.proofs.Math.Bool.{or-false}
 use Rattle.own_base.specs.declared.number.TableNo.{TableNo}
 use Rattle.owner_model.specs.GraphOrder.{StandsBefore}
 use Rattle.owner_model.specs.Placed.{EachAtOnePlace, IsPlaced}
-use Rattle.owner_graph.specs.Placing.{GoesOn, is_among}
+use Rattle.owner_graph.specs.TopologicalSort.{GoesOn, is_among}
 
 module _ {X : Type 0} where
   -- what stands at a place stays there

@@ -5,13 +5,13 @@ use Rattle.std.proofs.lemmas.Bool.{cases_eq, cases_order, ne_eqb}
 use Rattle.std.proofs.lemmas.List.{get_or-set_other, get_or-set_same, get_or_past, length-set}
 use Rattle.std.proofs.lemmas.List.Sums.{count_by_more_no, count_by_more_yes, sum_by-take-le}
 use Rattle.own_model.specs.declared.schema.Edge.{Edge}
-use Rattle.owner_graph.specs.Placing.{WaitsForLess}
+use Rattle.owner_graph.specs.TopologicalSort.{WaitsForLess}
 
 -- how many of these edges go out of a table
 abbrev pub edges_of : List Edge → ℕ → ℕ
 edges_of edges table = count_by (λ edge. edge.lower.0 == table) edges
 
--- no edge settled, nothing changed
+-- no edge released, nothing changed
 pub WaitsForLess-nil : (waiting : List ℕ) → WaitsForLess [] waiting waiting
 WaitsForLess-nil waiting = record { fewer = λ table. omega arith; as_many = refl }
 
@@ -25,7 +25,7 @@ waits_within waiting table some =
     ]
 
 module _ (edges : List Edge) (place : ℕ) (d : Edge) (old mid : List ℕ) (inside : place < length edges) (so_far : WaitsForLess (take place edges) old mid) where
-  -- a table waits for an edge that isn't settled
+  -- a table waits for an edge that isn't released
   pub still_waits : ((table : ℕ) → edges_of edges table ≤ slice_index old table) → 0 < slice_index mid (get_or edges place d).lower.0
   still_waits enough =
       let table = (get_or edges place d).lower.0 in
@@ -37,7 +37,7 @@ module _ (edges : List Edge) (place : ℕ) (d : Edge) (old mid : List ℕ) (insi
         sum_by-take-le (λ edge. cond (edge.lower.0 == table) 1 0) edges (place + 1),
       )
 
-  -- and one edge more is settled
+  -- and one edge more is released
   pub WaitsForLess-more : (new : List ℕ) → 0 < slice_index mid (get_or edges place d).lower.0
       → new ≡ set mid (get_or edges place d).lower.0 (slice_index mid (get_or edges place d).lower.0 - 1)
       → WaitsForLess (take (place + 1) edges) old new

@@ -14,7 +14,7 @@ use Rattle.owner_graph.specs.declared.end.End.TheVariants.{Upper}
 use Rattle.owner_graph.specs.declared.marks.Marks.{Marks}
 use Rattle.owner_graph.specs.Ends.{edges_at}
 use Rattle.owner_graph.specs.Marking.{MarksMore, is_lower, is_marked}
-use Rattle.owner_graph.specs.Placing.{is_among}
+use Rattle.owner_graph.specs.TopologicalSort.{is_among}
 use Rattle.owner_graph.proofs.PlacedLemmas.{is_among-push}
 
 -- a table lies below another: an edge leads from the one to the other
@@ -90,10 +90,10 @@ pending_cases found old new more n now =
     ]
 
 -- what is marked and not pending wasn't pending, and was marked before
-settled_before : (found : ℕ → Bool) (old new : Marks) → MarksMore found old new → (n : ℕ) → is_marked new.marked.items n ≡ true → is_among new.pending.items n ≡ false
+marked_before : (found : ℕ → Bool) (old new : Marks) → MarksMore found old new → (n : ℕ) → is_marked new.marked.items n ≡ true → is_among new.pending.items n ≡ false
     → (is_marked old.marked.items n ≡ true) × (is_among old.pending.items n ≡ false)
-settled_before found old new more n now settled =
-    let both = or_parts (is_among old.pending.items n) (is_marked new.marked.items n && not (is_marked old.marked.items n)) (sym (more.pending n) ∙ settled) in
+marked_before found old new more n now released =
+    let both = or_parts (is_among old.pending.items n) (is_marked new.marked.items n && not (is_marked old.marked.items n)) (sym (more.pending n) ∙ released) in
     let was : (b : Bool) → (is_marked new.marked.items n && not b) ≡ false → b ≡ true =
     (λ b. elim b as (λ v. (is_marked new.marked.items n && not v) ≡ false → v ≡ true) [
       | true ↦ λ _. refl
@@ -115,8 +115,8 @@ module _ (edges : List Edge) (table : ℕ) where
       record {
         sound = λ from is. below_leads edges from table (is_lower_below edges from table (sym (all from) ∙ is));
         first = λ edge among is. all edge.lower.0 ∙ ap (λ n. is_lower (edges_at Upper edges n) edge.lower.0) (sym is) ∙ below_is_lower edges edge among;
-        further = λ edge among is settled.
-            let before = (settled_before (is_lower (edges_at Upper edges table)) old new more edge.upper.0 is settled).0 in
+        further = λ edge among is released.
+            let before = (marked_before (is_lower (edges_at Upper edges table)) old new more edge.upper.0 is released).0 in
             let never : true ≡ false = sym before ∙ none edge.upper.0 in cc;
         reached = λ n is.
             elim (pending_cases (is_lower (edges_at Upper edges table)) old new more n is) [
@@ -145,8 +145,8 @@ module _ (edges : List Edge) (table : ℕ) where
               | inr now ↦ leads-on edges from next.0 table (below_leads edges from next.0 (is_lower_below edges from next.0 now)) next_leads
             ];
         first = λ edge among is. kept edge.lower.0 (walked.first edge among is);
-        further = λ edge among is settled.
-            let before = settled_before found popped new more edge.upper.0 is settled in
+        further = λ edge among is released.
+            let before = marked_before found popped new more edge.upper.0 is released in
             elim (cases_eq next.0 edge.upper.0) [
               | inl here ↦ is_found found popped new more edge.lower.0 (ap (λ n. is_lower (edges_at Upper edges n) edge.lower.0) here ∙ below_is_lower edges edge among)
               | inr other ↦

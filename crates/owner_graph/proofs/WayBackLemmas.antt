@@ -105,7 +105,7 @@ module _ (edges : List Edge) (table : ℕ) (leading : List Bool) (says : (from :
         | inr walk ↦ or_right _ _ (says edge.upper.0 ∙ leads-from_walk edges edge.upper.0 table walk)
       ])
 
-  -- a closed walk goes along one
+  -- a cycle goes along one
   closed_passes : (first : Edge) (rest : List Edge) → AllByRecursion (Contains edges) (first ∷ rest) → IsWalk table (first ∷ rest) table → leads_back table leading first ≡ true
   closed_passes first [] among walk = arrives_passes first walk.0 (inl walk.1)
   closed_passes first (next ∷ rest) among walk = arrives_passes first walk.0 (inr (record { first = next; rest = rest; among = among.1; walk = walk.1 }))

@@ -1,4 +1,4 @@
--- What callers see of a graph.
+-- What contracts see of a graph.
 use Rattle.std.specs.Prelude.{◌≡◌, ℕ, ◌==◌, List, [], filter, slice_index_or}
 use Rattle.own_base.specs.declared.number.TableNo.{TableNo}
 use Rattle.own_model.specs.declared.schema.Edge.{Edge}

@@ -2,5 +2,5 @@ pub mod Ends
 pub mod Fault
 pub mod Graph
 pub mod Marking
-pub mod Placing
+pub mod TopologicalSort
 pub mod WayBack

@@ -3,7 +3,7 @@ use Rattle.std.specs.Prelude.{◌≡◌, ℕ, ◌+◌, Bool, false, not, ◌&&�
 use Rattle.std.specs.List.{list_any}
 use Rattle.own_model.specs.declared.schema.Edge.{Edge}
 use Rattle.owner_graph.specs.declared.marks.Marks.{Marks}
-use Rattle.owner_graph.specs.Placing.{is_among}
+use Rattle.owner_graph.specs.TopologicalSort.{is_among}
 
 -- whether the table of this number is marked
 abbrev pub is_marked : List Bool → ℕ → Bool

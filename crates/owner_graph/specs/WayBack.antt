@@ -1,4 +1,4 @@
--- By which table a closed walk comes back.
+-- By which table a cycle comes back.
 use Rattle.std.specs.Prelude.{◌≡◌, ℕ, ◌≤◌, Bool, false, ◌==◌, ◌&&◌, ◌||◌, List, Option, Contains, MatchOption}
 use Rattle.own_base.specs.declared.number.TableNo.{TableNo}
 use Rattle.own_model.specs.declared.schema.Edge.{Edge}
@@ -17,7 +17,7 @@ pub record IsWayBack (edges : List Edge) (table through : ℕ) : Type 0 where
   -- and none leads to a lower one from which a walk does
   pub lowest : (other : Edge) → Contains edges other → other.lower.0 ≡ table → Arrives edges other.upper.0 table → through ≤ other.upper.0
 
--- what is told of a table: that one, or nothing where the table lies on no closed walk
+-- what is told of a table: that one, or nothing where the table lies on no cycle
 abbrev pub TellsWayBack : List Edge → ℕ → Option TableNo → Type 0
 TellsWayBack edges table back = MatchOption back (leads edges table table ≡ false) (λ through. IsWayBack edges table through.0)
 

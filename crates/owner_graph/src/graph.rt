@@ -1,12 +1,12 @@
-ghost use Rattle.std.specs.Prelude.{◌≡◌, IfOk, IfErr};
+ghost use Rattle.std.specs.Prelude.{◌≡◌, [], IfOk, IfErr};
 ghost use Rattle.owner_model.specs.AreWithin.{AreWithin};
 
-use crate::closed_walk::ClosedWalk;
 use crate::end::End;
 use crate::fault::GraphFault;
+use crate::found_cycle::FoundCycle;
 use crate::grouped::grouped;
 use crate::incoming::Incoming;
-use crate::placing::Placing;
+use crate::topological_sort::TopologicalSort;
 use own_base::{List, TableNo};
 use own_model::Edge;
 use std::alloc::Global;
@@ -31,12 +31,22 @@ impl Graph {
     ghost use Rattle.owner_graph.specs.Fault.{TellsCycle};
     ghost use Rattle.owner_graph.specs.Graph.{IsGraphOf, edges_up};
 
+    /// The graph of no table. Takes no memory.
+    pub fn new(alloc: Global) -> Graph
+        ensures { IsGraphOf 0 [] result }
+    {
+        Graph {
+            order: List::new(alloc),
+            edges: List::new(alloc),
+        }
+    }
+
     /// The graph of so many tables and these edges. Where a walk over the edges comes back to its table there is none, and
     /// the fault tells of it.
     ///
     /// It takes time in proportion to the tables and the edges. Where there is no graph, it takes that time once more for each
-    /// table above the one that is told from which a walk leads to a closed one, though it lies on none itself. Where the
-    /// edges had a graph before the last table and its edges came there is no such table, since the last one is told.
+    /// table above the one that is reported from which a walk leads to a closed one, though it lies on none itself. Where the
+    /// edges had a graph before the last table and its edges came there is no such table, since the last one is reported.
     pub fn with_edges(alloc: Global, tables: u32, edges: &[Edge]) -> Result<Graph, GraphFault>
         requires { AreWithin tables edges.now }
         ensures graph { IfOk result (IsGraphOf tables edges.now) }
@@ -44,14 +54,14 @@ impl Graph {
     {
         let incoming = Incoming::with_edges(alloc, tables, edges)?;
         let up = grouped(alloc, tables, edges, End::Lower)?;
-        let placing = Placing::with_edges(alloc, &up, &incoming)?;
-        if placing.order.len() == tables as usize {
+        let sorting = TopologicalSort::with_edges(alloc, &up, &incoming)?;
+        if sorting.order.len() == tables as usize {
             Ok(Graph {
-                order: List::from_vec(placing.order),
+                order: List::from_vec(sorting.order),
                 edges: List::from_vec(up),
             })
         } else {
-            let ClosedWalk { table, through } = incoming.closed_walk(alloc, &placing)?;
+            let FoundCycle { table, through } = incoming.found_cycle(alloc, &sorting)?;
             Err(GraphFault::Cycle { table, through })
         }
     }

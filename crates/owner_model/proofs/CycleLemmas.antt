@@ -1,4 +1,4 @@
--- The closed walk that is told.
+-- The cycle that is reported.
 use Rattle.std.proofs.Common.{◌≡◌, ℕ, ◌<◌, ◌≤◌, List, [], true, sym, ap, ◌∙◌, subst, arith, eq-eqb}
 use Rattle.std.specs.Prelude.{◌==◌, ◌&&◌, Contains, Some, None, find, option_and_then, option_map}
 use Rattle.std.specs.List.{list_any, last_or, range_with_len}
@@ -18,7 +18,7 @@ use Rattle.owner_model.proofs.WalkLemmas.{edge_leads, leads_and_arrives}
 pub tables_within : (tables : ℕ) (edges : List Edge) (edge : Edge) → AreWithin tables edges → Contains edges edge → (edge.lower.0 < tables) × (edge.upper.0 < tables)
 tables_within tables edges edge within among = All-contains (λ e. (e.lower.0 < tables) × (e.upper.0 < tables)) edges edge (All-from_recursion (λ e. (e.lower.0 < tables) × (e.upper.0 < tables)) edges within) among
 
--- the table that is told lies on a closed walk
+-- the table that is told lies on a cycle
 pub cycle_leads : (edges : List Edge) (table through : ℕ) → IsCycle edges table through → Leads edges table table
 cycle_leads edges table through cycle =
     let back : Arrives edges cycle.edge.upper.0 table = subst (λ n. Arrives edges n table) (sym cycle.upper) cycle.back in
@@ -56,7 +56,7 @@ cycle_of-cycle tables edges table through within cycle =
     let told : ℕ → ℕ → Cycle = λ t u. record { table = t; through = u } in
     ap (option_and_then (λ t. option_map (told t) (find (comes_back edges t) (range_with_len 0 tables)))) last ∙ ap (option_map (told table)) first
 
--- where none lies on a closed walk, it gives none
+-- where none lies on a cycle, it gives none
 pub cycle_of-none : (tables : ℕ) (edges : List Edge) → ((table : ℕ) → Leads edges table table → ⊥) → cycle_of tables edges ≡ None
 unfolding cycle_of
 cycle_of-none tables edges none =

@@ -4,4 +4,5 @@ pub mod CycleLemmas
 pub mod LeadsLemmas
 pub mod OrderLemmas
 pub mod RangeLemmas
+pub mod ToldCycle
 pub mod WalkLemmas

@@ -71,7 +71,7 @@ order_is_upward tables edges order is =
           All-contains (λ e. StandsBefore order e.upper e.lower) edges edge (All-from_recursion (λ e. StandsBefore order e.upper e.lower) edges is.upward) among;
     }
 
--- a closed walk goes along an edge out of its table, which stands in the order
+-- a cycle goes along an edge out of its table, which stands in the order
 starts_placed : (tables : ℕ) (edges : List Edge) (order : List TableNo) (table : ℕ) → IsGraphOrder tables edges order → Leads edges table table → IsPlaced order (record { 0 = table })
 starts_placed tables edges order table is walk =
     let before : StandsBefore order walk.first.upper walk.first.lower =

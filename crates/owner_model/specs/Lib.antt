@@ -1,3 +1,4 @@
+pub mod Acyclic
 pub mod AreWithin
 pub mod ColumnSets
 pub mod Cycle

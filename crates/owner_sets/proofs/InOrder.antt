@@ -77,7 +77,7 @@ module _ (db : Db) (listed : RowName → List RowName) (order : List TableNo) (g
   -- with that one's they are one more
   pub Done-more : (place : ℕ) (sets new : Sets) (table : TableNo) (own : List (List Subject)) → Done db listed order place sets → slice_get order place ≡ Some table
       → AreSetsOfTable db listed table.0 own → new ≡ set sets table.0 own → Done db listed order (place + 1) new
-  Done-more place sets new table own done is settled put =
+  Done-more place sets new table own done is as_sorted put =
       record {
         tables = ap length put ∙ (length-set sets table.0 own ∙ done.tables);
         each = λ at other before found.
@@ -85,7 +85,7 @@ module _ (db : Db) (listed : RowName → List RowName) (order : List TableNo) (g
               | inl same ↦
                   let within : table.0 < length sets = omega (arith, order_within (length db.schema.tables) db.schema.edges order graph place table is, done.tables) in
                   let stands : get_or new other.0 [] ≡ own = ap (λ n. get_or new n []) same ∙ (ap (λ s. get_or s table.0 []) put ∙ get_or-set_same sets table.0 own [] within) in
-                  subst (λ list. AreSetsOfTable db listed other.0 list) (sym stands) (subst (λ n. AreSetsOfTable db listed n own) (sym same) settled)
+                  subst (λ list. AreSetsOfTable db listed other.0 list) (sym stands) (subst (λ n. AreSetsOfTable db listed n own) (sym same) as_sorted)
               | inr differ ↦
                   let stands : get_or new other.0 [] ≡ get_or sets other.0 [] = ap (λ s. get_or s other.0 []) put ∙ get_or-set_other sets table.0 other.0 own [] differ in
                   let earlier : at < place = elim (cases_lt at place) [

@@ -1,15 +1,12 @@
 pub mod AbsentColumns
 pub mod Ranges
 pub mod Searched
-pub mod SettledLists
+pub mod SortedSets
 pub mod DerivedOrder
 pub mod Standing
 pub mod LinkLemmas
 pub mod GatheredLemmas
 pub mod SetsLemmas
 pub mod InOrder
-pub mod AnyCreates
 pub mod LeadingLemmas
 pub mod MarkLemmas
-pub mod GraphThere
-pub mod SamePaths

@@ -20,7 +20,7 @@ use Rattle.subject_model.proofs.RisingNames.{name_order, same_rising}
 use Rattle.owner_sets.specs.declared.which.Which.{Which}
 use Rattle.owner_sets.specs.declared.which.Which.TheVariants.{Owners, Reach}
 use Rattle.owner_sets.specs.Gathered.{gathered}
-use Rattle.owner_sets.specs.Settled.{IsSettled}
+use Rattle.owner_sets.specs.IsSortedSet.{IsSortedSet}
 use Rattle.owner_sets.specs.SubjectOrder.{subject_cmp}
 use Rattle.owner_sets.specs.Sets.{AreSetsOfTable, Sets, as_subject}
 use Rattle.owner_sets.specs.WhichSets.{counts, listed}
@@ -63,28 +63,28 @@ names_of-subject set name = (
 module _ (which : Which) (db : Db) (done : Sets) (ordered : IsOrdered db) (owner : IsOwnerSchema db.schema) (table : TableNo) (edges : List Edge)
     (out : edges ≡ filter (λ edge. edge.lower.0 == table.0) db.schema.edges)
     (above : (edge : Edge) → Contains edges edge → AreSetsOfTable db (listed which db) edge.upper.0 (get_or done edge.upper.0 [])) where
-  settled_names : (name : RowName) (place : ℕ) (set : List Subject) → StandsAt db name place → name.table.0 ≡ table.0 → IsSettled (gathered which db.schema db.rows done name.table.0 edges place) set
+  sorted_names : (name : RowName) (place : ℕ) (set : List Subject) → StandsAt db name place → name.table.0 ≡ table.0 → IsSortedSet (gathered which db.schema db.rows done name.table.0 edges place) set
       → names_of set ≡ listed which db name
-  settled_names name place set stands of_table settled =
+  sorted_names name place set stands of_table as_sorted =
       let same_out : edges ≡ filter (λ edge. edge.lower.0 == name.table.0) db.schema.edges = out ∙ ap (λ n. filter (λ (edge : Edge). edge.lower.0 == n) db.schema.edges) (sym of_table) in
       let meets = listed_meet which db ordered owner in
-      same_rising name_order (names_of set) (listed which db name) (names_rise set settled.rising) (listed_rise which db name ordered)
+      same_rising name_order (names_of set) (listed which db name) (names_rise set as_sorted.rising) (listed_rise which db name ordered)
       (λ subject.
       let whose = gathered-iff_whose which db done ordered owner name place edges stands same_out above (as_subject subject) in
       let local = meets.local subject name (there-standing db name place ordered stands) in (
-        (λ among. local.1 (whose.0 ((settled.same (as_subject subject)).0 ((names_of-subject set subject).0 among)))),
-        (λ among. (names_of-subject set subject).1 ((settled.same (as_subject subject)).1 (whose.1 (local.0 among)))),
+        (λ among. local.1 (whose.0 ((as_sorted.same (as_subject subject)).0 ((names_of-subject set subject).0 among)))),
+        (λ among. (names_of-subject set subject).1 ((as_sorted.same (as_subject subject)).1 (whose.1 (local.0 among)))),
       ))
 
   -- what is gathered for each row of a table, as a set, is its set
-  pub settled_sets : (lists sets : List (List Subject)) → ((place : ℕ) (row : Row) → slice_get (rows_at db.rows table.0) place ≡ Some row → get_or lists place [] ≡ gathered which db.schema db.rows done table.0 edges place)
-      → ((place : ℕ) → IsSettled (get_or lists place []) (get_or sets place [])) → AreSetsOfTable db (listed which db) table.0 sets
-  settled_sets lists sets gathers settled =
+  pub sorted_sets : (lists sets : List (List Subject)) → ((place : ℕ) (row : Row) → slice_get (rows_at db.rows table.0) place ≡ Some row → get_or lists place [] ≡ gathered which db.schema db.rows done table.0 edges place)
+      → ((place : ℕ) → IsSortedSet (get_or lists place []) (get_or sets place [])) → AreSetsOfTable db (listed which db) table.0 sets
+  sorted_sets lists sets gathers as_sorted =
       record {
         at = λ place definition row table_is row_is.
             let name : RowName = name_of table.0 definition row in
             let stands : StandsAt db name place = standing_at db table place definition row table_is row_is in
             let set = get_or sets place [] in
-            let own : IsSettled (gathered which db.schema db.rows done table.0 edges place) set = subst (λ list. IsSettled list set) (gathers place row row_is) (settled place) in
-            sym (subjects-names_of set) ∙ ap (map as_subject) (settled_names name place set stands refl own);
+            let own : IsSortedSet (gathered which db.schema db.rows done table.0 edges place) set = subst (λ list. IsSortedSet list set) (gathers place row row_is) (as_sorted place) in
+            sym (subjects-names_of set) ∙ ap (map as_subject) (sorted_names name place set stands refl own);
       }

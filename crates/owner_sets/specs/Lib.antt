@@ -3,6 +3,6 @@ pub mod Gathered
 pub mod Leading
 pub mod Links
 pub mod Sets
-pub mod Settled
+pub mod IsSortedSet
 pub mod SubjectOrder
 pub mod WhichSets

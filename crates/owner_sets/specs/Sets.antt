@@ -2,7 +2,6 @@
 use Rattle.std.specs.Prelude.{◌≡◌, ℕ, List, [], Some, map, slice_get, slice_index_or}
 use Rattle.own_base.specs.declared.row_name.RowName.{RowName}
 use Rattle.own_base.specs.declared.row_name.Subject.{Subject}
-use Rattle.own_model.specs.declared.schema.Schema.{Schema}
 use Rattle.own_model.specs.declared.schema.TableDef.{TableDef}
 use Rattle.own_model.specs.Db.{Db, Row}
 use Rattle.own_model.specs.Stored.{rows_at}
@@ -16,14 +15,10 @@ Sets = List (List (List Subject))
 abbrev pub set_at : Sets → ℕ → ℕ → List Subject
 set_at sets table place = slice_index_or (slice_index_or sets table []) place []
 
--- what callers see: who owns each row, and who reaches it
+-- what contracts see: who owns each row, and who reaches it
 pub record OwnerSetsSeen : Type 0 where
   pub owners : Sets
   pub reach : Sets
-
--- a store's schema and rows as a database; how its tables were created has no part in whose a row is
-abbrev pub db_of : Schema → List (List Row) → Db
-db_of schema rows = record { creates = []; schema = schema; rows = rows }
 
 -- a row's name as a subject
 abbrev pub as_subject : RowName → Subject

@@ -1,7 +1,7 @@
 ghost use Rattle.std.specs.Prelude.{◌≡◌, ◌<◌, IfOk, length};
 ghost use Rattle.own_model.specs.Db.{IsOrdered};
 ghost use Rattle.owner_sets.specs.ByEdges.{AreEdgesOf, AreEdgesOfTable, edges_at};
-ghost use Rattle.owner_sets.specs.Sets.{AreSetsOf, db_of};
+ghost use Rattle.owner_sets.specs.Sets.{AreSetsOf};
 ghost use Rattle.schema_model.specs.OwnerSchema.{IsOwnerSchema};
 ghost use Rattle.schema_model.specs.WithinLimits.{IsWithinLimits};
 ghost use Rattle.subject_model.specs.Owners.{reach};
@@ -35,11 +35,10 @@ fn table_edges<V: StoreView>(
     subject: &Subject,
     table: TableNo,
 ) -> Result<List<List<EdgeNo>>, AllocError>
-    requires there { table.0 < length (V.schema_of view.now).tables }
-    requires ordered { IsOrdered (db_of (V.schema_of view.now) (V.rows view.now)) }
-    requires owner { IsOwnerSchema (V.schema_of view.now) }
-    requires reach { AreSetsOf (db_of (V.schema_of view.now) (V.rows view.now)) (reach (db_of (V.schema_of view.now) (V.rows view.now))) sets.now }
-    ensures { IfOk result (AreEdgesOfTable (db_of (V.schema_of view.now) (V.rows view.now)) subject.now.0 table.0) }
+    requires there { table.0 < length (V.db view.now).schema.tables }
+    requires owner { IsOwnerSchema (V.db view.now).schema }
+    requires reach { AreSetsOf (V.db view.now) (reach (V.db view.now)) sets.now }
+    ensures { IfOk result (AreEdgesOfTable (V.db view.now) subject.now.0 table.0) }
 {
     let lists = leading(alloc, view, sets, subject, table)?;
     Ok(List::from_vec(lists))
@@ -54,11 +53,10 @@ impl ByEdges {
         sets: &OwnerSets,
         subject: &Subject,
     ) -> Result<ByEdges, AllocError>
-        requires limits { IsWithinLimits (V.schema_of view.now) }
-        requires ordered { IsOrdered (db_of (V.schema_of view.now) (V.rows view.now)) }
-        requires owner { IsOwnerSchema (V.schema_of view.now) }
-        requires reach { AreSetsOf (db_of (V.schema_of view.now) (V.rows view.now)) (reach (db_of (V.schema_of view.now) (V.rows view.now))) sets.now.reach }
-        ensures { IfOk result (λ edges. AreEdgesOf (db_of (V.schema_of view.now) (V.rows view.now)) subject.now.0 edges) }
+        requires limits { IsWithinLimits (V.db view.now).schema }
+        requires owner { IsOwnerSchema (V.db view.now).schema }
+        requires reach { AreSetsOf (V.db view.now) (reach (V.db view.now)) sets.now.reach }
+        ensures { IfOk result (λ edges. AreEdgesOf (V.db view.now) subject.now.0 edges) }
     {
         let mut edges = List::new(alloc);
         for number in 0..view.schema().tables.items().len() {

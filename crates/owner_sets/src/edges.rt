@@ -2,7 +2,6 @@ ghost use Rattle.std.specs.Prelude.{◌≡◌, ◌<◌, ◌++◌, IfOk, OnOk, le
 ghost use Rattle.std.specs.Option.{option_to_list};
 ghost use Rattle.own_model.specs.Db.{IsOrdered};
 ghost use Rattle.owner_sets.specs.Links.{link, link_at, links};
-ghost use Rattle.owner_sets.specs.Sets.{db_of};
 ghost use Rattle.schema_model.specs.OwnerSchema.{named_table};
 
 use crate::link::Link;
@@ -42,10 +41,9 @@ fn link(edge: &Edge, holder: u64, named: u64) -> Link
 /// What an edge joins to the row at a place of the table that holds its column.
 #[tactic(auto, unfolding(crate::specs::Links::link_at))]
 fn link_at<V: StoreView>(view: &V, edge: &Edge, at: u64) -> Option<Link>
-    requires holder { edge.now.holder.0 < length (V.schema_of view.now).tables }
-    requires named { (named_table edge.now).0 < length (V.schema_of view.now).tables }
-    requires ordered { IsOrdered (db_of (V.schema_of view.now) (V.rows view.now)) }
-    ensures { result ≡ link_at (V.schema_of view.now) (V.rows view.now) edge.now at }
+    requires holder { edge.now.holder.0 < length (V.db view.now).schema.tables }
+    requires named { (named_table edge.now).0 < length (V.db view.now).schema.tables }
+    ensures { result ≡ link_at (V.db view.now).schema (V.db view.now).rows edge.now at }
 {
     let value = match view.row_at(edge.holder, at) {
         Some(row) => row.get(edge.column),
@@ -72,10 +70,9 @@ fn add_link(found: &mut Vec<Link>, link: Option<Link>) -> Result<(), AllocError>
 
 /// All that an edge joins. Each row that holds its column is looked at once, and the row that it names is looked up.
 pub fn links<V: StoreView>(alloc: Global, view: &V, edge: &Edge) -> Result<Vec<Link>, AllocError>
-    requires holder { edge.now.holder.0 < length (V.schema_of view.now).tables }
-    requires named { (named_table edge.now).0 < length (V.schema_of view.now).tables }
-    requires ordered { IsOrdered (db_of (V.schema_of view.now) (V.rows view.now)) }
-    ensures { IfOk result (λ found. found.items ≡ links (V.schema_of view.now) (V.rows view.now) edge.now) }
+    requires holder { edge.now.holder.0 < length (V.db view.now).schema.tables }
+    requires named { (named_table edge.now).0 < length (V.db view.now).schema.tables }
+    ensures { IfOk result (λ found. found.items ≡ links (V.db view.now).schema (V.db view.now).rows edge.now) }
 {
     let mut found = Vec::new(alloc);
     for at in 0..view.count(edge.holder) {

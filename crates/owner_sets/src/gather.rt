@@ -4,7 +4,6 @@ ghost use Rattle.std.specs.Option.{option_copied};
 ghost use Rattle.own_model.specs.Db.{IsOrdered, as_key};
 ghost use Rattle.own_model.specs.Stored.{rows_at};
 ghost use Rattle.owner_sets.specs.Gathered.{HasMore, IsWithin, gathered, handed_down, over_edge, over_link, own_set, row_alone};
-ghost use Rattle.owner_sets.specs.Sets.{db_of};
 ghost use Rattle.schema_model.specs.Tables as spec;
 ghost use Rattle.subject_model.specs.Named.{name_of};
 
@@ -60,8 +59,8 @@ fn add_row<V: StoreView>(
     at: u64,
     subjects: &mut List<Subject>,
 ) -> Result<(), AllocError>
-    requires { table.0 < length (V.schema_of view.now).tables }
-    ensures { OnOk result (subjects.new ≡ subjects.old ++ row_alone (V.schema_of view.now) (V.rows view.now) table.0 at) }
+    requires { table.0 < length (V.db view.now).schema.tables }
+    ensures { OnOk result (subjects.new ≡ subjects.old ++ row_alone (V.db view.now).schema (V.db view.now).rows table.0 at) }
 {
     let definition = &view.schema().tables.items()[table.0 as usize];
     match view.row_at(table, at) {
@@ -80,8 +79,8 @@ fn own_set<V: StoreView>(
     table: TableNo,
     at: u64,
 ) -> Result<List<Subject>, AllocError>
-    requires { table.0 < length (V.schema_of view.now).tables }
-    ensures { IfOk result (λ set. set ≡ own_set (V.schema_of view.now) (V.rows view.now) table.0 at) }
+    requires { table.0 < length (V.db view.now).schema.tables }
+    ensures { IfOk result (λ set. set ≡ own_set (V.db view.now).schema (V.db view.now).rows table.0 at) }
 {
     let mut set = List::new(alloc);
     if is_subject(view.schema(), table) {
@@ -96,9 +95,9 @@ fn own_sets<V: StoreView>(
     view: &V,
     table: TableNo,
 ) -> Result<Vec<List<Subject>>, AllocError>
-    requires { table.0 < length (V.schema_of view.now).tables }
-    ensures { IfOk result (λ sets. sets.items ≡ map (own_set (V.schema_of view.now) (V.rows view.now) table.0)
-        (range_with_len 0 (length (rows_at (V.rows view.now) table.0)))) }
+    requires { table.0 < length (V.db view.now).schema.tables }
+    ensures { IfOk result (λ sets. sets.items ≡ map (own_set (V.db view.now).schema (V.db view.now).rows table.0)
+        (range_with_len 0 (length (rows_at (V.db view.now).rows table.0)))) }
 {
     let mut sets = Vec::new(alloc);
     for at in 0..view.count(table) {
@@ -130,8 +129,8 @@ fn hand_down<V: StoreView>(
     at: u64,
     subjects: &mut List<Subject>,
 ) -> Result<(), AllocError>
-    requires { table.0 < length (V.schema_of view.now).tables }
-    ensures { OnOk result (subjects.new ≡ subjects.old ++ handed_down (V.schema_of view.now) (V.rows view.now) done.now table.0 at) }
+    requires { table.0 < length (V.db view.now).schema.tables }
+    ensures { OnOk result (subjects.new ≡ subjects.old ++ handed_down (V.db view.now).schema (V.db view.now).rows done.now table.0 at) }
 {
     if is_subject(view.schema(), table) {
         add_row(alloc, view, table, at, subjects)
@@ -149,8 +148,8 @@ fn gather_link<V: StoreView>(
     link: &Link,
     gathered: &mut Vec<List<Subject>>,
 ) -> Result<(), AllocError>
-    requires { edge.now.upper.0 < length (V.schema_of view.now).tables }
-    ensures { OnOk result (HasMore (λ place. over_link (V.schema_of view.now) (V.rows view.now) done.now edge.now place link.now) gathered.old.items gathered.new.items) }
+    requires { edge.now.upper.0 < length (V.db view.now).schema.tables }
+    ensures { OnOk result (HasMore (λ place. over_link (V.db view.now).schema (V.db view.now).rows done.now edge.now place link.now) gathered.old.items gathered.new.items) }
 {
     let lower = link.lower as usize;
     if lower < gathered.len() {
@@ -168,9 +167,8 @@ fn gather_edge<V: StoreView>(
     edge: &Edge,
     gathered: &mut Vec<List<Subject>>,
 ) -> Result<(), AllocError>
-    requires within { IsWithin (V.schema_of view.now) edge.now }
-    requires ordered { IsOrdered (db_of (V.schema_of view.now) (V.rows view.now)) }
-    ensures { OnOk result (HasMore (over_edge (V.schema_of view.now) (V.rows view.now) done.now edge.now) gathered.old.items gathered.new.items) }
+    requires within { IsWithin (V.db view.now).schema edge.now }
+    ensures { OnOk result (HasMore (over_edge (V.db view.now).schema (V.db view.now).rows done.now edge.now) gathered.old.items gathered.new.items) }
 {
     let links = links(alloc, view, edge)?;
     for link in &links {
@@ -189,11 +187,10 @@ pub(crate) fn gathered<V: StoreView>(
     table: TableNo,
     edges: &[Edge],
 ) -> Result<Vec<List<Subject>>, AllocError>
-    requires there { table.0 < length (V.schema_of view.now).tables }
-    requires within { AllByRecursion (IsWithin (V.schema_of view.now)) edges.now }
-    requires ordered { IsOrdered (db_of (V.schema_of view.now) (V.rows view.now)) }
-    ensures { IfOk result (λ lists. (place : ℕ) → place < length (rows_at (V.rows view.now) table.0)
-        → slice_index_or lists.items place [] ≡ gathered which (V.schema_of view.now) (V.rows view.now) done.now table.0 edges.now place) }
+    requires there { table.0 < length (V.db view.now).schema.tables }
+    requires within { AllByRecursion (IsWithin (V.db view.now).schema) edges.now }
+    ensures { IfOk result (λ lists. (place : ℕ) → place < length (rows_at (V.db view.now).rows table.0)
+        → slice_index_or lists.items place [] ≡ gathered which (V.db view.now).schema (V.db view.now).rows done.now table.0 edges.now place) }
 {
     let mut lists = own_sets(alloc, view, table)?;
     for edge in edges {

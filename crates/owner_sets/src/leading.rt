@@ -3,7 +3,6 @@ ghost use Rattle.own_model.specs.Db.{IsOrdered};
 ghost use Rattle.own_model.specs.Stored.{rows_at};
 ghost use Rattle.owner_sets.specs.Gathered.{IsWithin, handed_down, over_edge, over_link};
 ghost use Rattle.owner_sets.specs.Leading.{HasEdges, HasMarks, is_among, leading, number_where};
-ghost use Rattle.owner_sets.specs.Sets.{db_of};
 ghost use Rattle.schema_model.specs.OwnerSchema.{IsOwnerSchema};
 
 use crate::edges::links;
@@ -30,8 +29,8 @@ fn hands_down<V: StoreView>(
     at: u64,
     subject: &Subject,
 ) -> bool
-    requires { table.0 < length (V.schema_of view.now).tables }
-    ensures { result ≡ is_among subject.now (handed_down (V.schema_of view.now) (V.rows view.now) reach.now table.0 at) }
+    requires { table.0 < length (V.db view.now).schema.tables }
+    ensures { result ≡ is_among subject.now (handed_down (V.db view.now).schema (V.db view.now).rows reach.now table.0 at) }
 {
     if is_subject(view.schema(), table) {
         is_named(view, table, at, &subject.0)
@@ -49,8 +48,8 @@ fn mark<V: StoreView>(
     subject: &Subject,
     marks: &mut Vec<bool>,
 )
-    requires { edge.now.upper.0 < length (V.schema_of view.now).tables }
-    ensures { HasMarks (λ place. is_among subject.now (over_link (V.schema_of view.now) (V.rows view.now) reach.now edge.now place link.now)) marks.old.items marks.new.items }
+    requires { edge.now.upper.0 < length (V.db view.now).schema.tables }
+    ensures { HasMarks (λ place. is_among subject.now (over_link (V.db view.now).schema (V.db view.now).rows reach.now edge.now place link.now)) marks.old.items marks.new.items }
 {
     let lower = link.lower as usize;
     if lower < marks.len() && hands_down(view, reach, edge.upper, link.upper, subject) {
@@ -67,11 +66,10 @@ fn marked<V: StoreView>(
     subject: &Subject,
     rows: usize,
 ) -> Result<Vec<bool>, AllocError>
-    requires within { IsWithin (V.schema_of view.now) edge.now }
-    requires ordered { IsOrdered (db_of (V.schema_of view.now) (V.rows view.now)) }
+    requires within { IsWithin (V.db view.now).schema edge.now }
     ensures length { IfOk result (λ marks. length marks.items ≡ rows) }
     ensures each { IfOk result (λ marks. (place : ℕ) → place < rows
-        → slice_index_or marks.items place false ≡ is_among subject.now (over_edge (V.schema_of view.now) (V.rows view.now) reach.now edge.now place)) }
+        → slice_index_or marks.items place false ≡ is_among subject.now (over_edge (V.db view.now).schema (V.db view.now).rows reach.now edge.now place)) }
 {
     let mut marks = vec![in alloc; false; rows]?;
     let links = links(alloc, view, edge)?;
@@ -113,9 +111,8 @@ fn add_edge<V: StoreView>(
     table: TableNo,
     lists: &mut Vec<List<EdgeNo>>,
 ) -> Result<(), AllocError>
-    requires within { IsWithin (V.schema_of view.now) edge.now }
-    requires ordered { IsOrdered (db_of (V.schema_of view.now) (V.rows view.now)) }
-    ensures { OnOk result (HasEdges (leading (V.schema_of view.now) (V.rows view.now) reach.now subject.now table.0 (edge.now ∷ [])) lists.old.items lists.new.items) }
+    requires within { IsWithin (V.db view.now).schema edge.now }
+    ensures { OnOk result (HasEdges (leading (V.db view.now).schema (V.db view.now).rows reach.now subject.now table.0 (edge.now ∷ [])) lists.old.items lists.new.items) }
 {
     if edge.lower == table {
         let marks = marked(alloc, view, reach, edge, subject, lists.len())?;
@@ -143,11 +140,10 @@ pub(crate) fn leading<V: StoreView>(
     subject: &Subject,
     table: TableNo,
 ) -> Result<Vec<List<EdgeNo>>, AllocError>
-    requires there { table.0 < length (V.schema_of view.now).tables }
-    requires owner { IsOwnerSchema (V.schema_of view.now) }
-    requires ordered { IsOrdered (db_of (V.schema_of view.now) (V.rows view.now)) }
-    ensures { IfOk result (λ lists. (place : ℕ) → place < length (rows_at (V.rows view.now) table.0)
-        → slice_index_or lists.items place [] ≡ leading (V.schema_of view.now) (V.rows view.now) reach.now subject.now table.0 (V.schema_of view.now).edges place) }
+    requires there { table.0 < length (V.db view.now).schema.tables }
+    requires owner { IsOwnerSchema (V.db view.now).schema }
+    ensures { IfOk result (λ lists. (place : ℕ) → place < length (rows_at (V.db view.now).rows table.0)
+        → slice_index_or lists.items place [] ≡ leading (V.db view.now).schema (V.db view.now).rows reach.now subject.now table.0 (V.db view.now).schema.edges place) }
 {
     let mut lists = none_yet(alloc, view.count(table))?;
     for edge in view.schema().edges.items() {

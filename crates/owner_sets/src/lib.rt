@@ -8,15 +8,13 @@ mod leading;
 pub mod link;
 mod named_row;
 mod places;
-mod schema_graph;
 mod set_at;
 mod sets;
-mod settle;
+mod sorted_set;
 mod which;
 
 pub use by_edges::ByEdges;
 pub use edges::links;
 pub use named_row::is_named;
 pub use places::place_named;
-pub use schema_graph::graph_of;
 pub use sets::OwnerSets;

@@ -52,8 +52,8 @@ pub(crate) fn is_name(one: &RowName, other: &RowName) -> bool
 
 /// Whether there is a row at a place of a table, and it has this name. Takes no memory.
 pub fn is_named<V: StoreView>(view: &V, table: TableNo, at: u64, name: &RowName) -> bool
-    requires { table.0 < length (V.schema_of view.now).tables }
-    ensures { result ≡ is_named (V.schema_of view.now) (V.rows view.now) table.0 at name.now }
+    requires { table.0 < length (V.db view.now).schema.tables }
+    ensures { result ≡ is_named (V.db view.now).schema (V.db view.now).rows table.0 at name.now }
 {
     if table != name.table {
         return false;

@@ -5,7 +5,6 @@ ghost use Rattle.own_base.specs.declared.value.Key.TheVariants.{Int};
 ghost use Rattle.own_model.specs.Db.{IsOrdered, IsRising, as_key, key_of};
 ghost use Rattle.own_model.specs.Stored.{rows_at};
 ghost use Rattle.owner_sets.specs.Links.{place_named, place_of};
-ghost use Rattle.owner_sets.specs.Sets.{db_of};
 
 use own_base::{Row, TableNo, Value};
 use own_model::{StoreView, TableDef};
@@ -55,9 +54,9 @@ fn searched<V: StoreView>(
     definition: &TableDef,
     key: &Value,
 ) -> Option<u64>
-    requires there { slice_get (V.schema_of view.now).tables table.0 ≡ Some definition.now }
-    requires rising { IsRising definition.now (rows_at (V.rows view.now) table.0) }
-    ensures { result ≡ place_of (V.schema_of view.now) (V.rows view.now) table.0 (as_key key.now) }
+    requires there { slice_get (V.db view.now).schema.tables table.0 ≡ Some definition.now }
+    requires rising { IsRising definition.now (rows_at (V.db view.now).rows table.0) }
+    ensures { result ≡ place_of (V.db view.now).schema (V.db view.now).rows table.0 (as_key key.now) }
 {
     let mut low = 0;
     let mut high = view.count(table);
@@ -75,9 +74,8 @@ fn searched<V: StoreView>(
 
 /// The place of the row of a table that has this key, where there is one.
 fn place_of<V: StoreView>(view: &V, table: TableNo, key: &Value) -> Option<u64>
-    requires there { table.0 < length (V.schema_of view.now).tables }
-    requires ordered { IsOrdered (db_of (V.schema_of view.now) (V.rows view.now)) }
-    ensures { result ≡ place_of (V.schema_of view.now) (V.rows view.now) table.0 (as_key key.now) }
+    requires there { table.0 < length (V.db view.now).schema.tables }
+    ensures { result ≡ place_of (V.db view.now).schema (V.db view.now).rows table.0 (as_key key.now) }
 {
     let definition = &view.schema().tables.items()[table.0 as usize];
     searched(view, table, definition, key)
@@ -85,9 +83,8 @@ fn place_of<V: StoreView>(view: &V, table: TableNo, key: &Value) -> Option<u64>
 
 /// The place of the row of a table that a value names, where it is a key and there is one. Takes no memory.
 pub fn place_named<V: StoreView>(view: &V, table: TableNo, value: Option<&Value>) -> Option<u64>
-    requires there { table.0 < length (V.schema_of view.now).tables }
-    requires ordered { IsOrdered (db_of (V.schema_of view.now) (V.rows view.now)) }
-    ensures { result ≡ place_named (V.schema_of view.now) (V.rows view.now) table.0 (option_copied value.entry) }
+    requires there { table.0 < length (V.db view.now).schema.tables }
+    ensures { result ≡ place_named (V.db view.now).schema (V.db view.now).rows table.0 (option_copied value.entry) }
 {
     match value {
         Some(value) => match value {

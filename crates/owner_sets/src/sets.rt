@@ -3,7 +3,7 @@ ghost use Rattle.own_model.specs.declared.schema.Edge.{Edge as Held};
 ghost use Rattle.own_model.specs.Db.{IsOrdered};
 ghost use Rattle.owner_graph.specs.Graph.{IsGraphOf};
 ghost use Rattle.owner_sets.specs.Leading.{is_among};
-ghost use Rattle.owner_sets.specs.Sets.{AreSetsOf, AreSetsOfTable, db_of, set_at};
+ghost use Rattle.owner_sets.specs.Sets.{AreSetsOf, AreSetsOfTable, set_at};
 ghost use Rattle.owner_sets.specs.WhichSets.{listed};
 ghost use Rattle.schema_model.specs.OwnerSchema.{IsOwnerSchema};
 ghost use Rattle.subject_model.specs.Owners.{owners, reach};
@@ -11,7 +11,7 @@ ghost use Rattle.subject_model.specs.Owners.{owners, reach};
 use crate::gather::gathered;
 use crate::leading::is_among;
 use crate::set_at::set_at;
-use crate::settle::as_sets;
+use crate::sorted_set::as_sets;
 use crate::which::Which;
 use own_base::{List, Subject, TableNo};
 use own_model::{Edge, StoreView};
@@ -50,13 +50,12 @@ fn table_sets<V: StoreView>(
     table: TableNo,
     edges: &[Edge],
 ) -> Result<List<List<Subject>>, AllocError>
-    requires ordered { IsOrdered (db_of (V.schema_of view.now) (V.rows view.now)) }
-    requires owner { IsOwnerSchema (V.schema_of view.now) }
-    requires there { table.0 < length (V.schema_of view.now).tables }
-    requires edges { edges.now ≡ filter (λ edge. edge.lower.0 == table.0) (V.schema_of view.now).edges }
-    requires above { (edge : Held) → Contains edges.now edge → AreSetsOfTable (db_of (V.schema_of view.now) (V.rows view.now)) (listed which (db_of (V.schema_of view.now) (V.rows view.now)))
+    requires owner { IsOwnerSchema (V.db view.now).schema }
+    requires there { table.0 < length (V.db view.now).schema.tables }
+    requires edges { edges.now ≡ filter (λ edge. edge.lower.0 == table.0) (V.db view.now).schema.edges }
+    requires above { (edge : Held) → Contains edges.now edge → AreSetsOfTable (V.db view.now) (listed which (V.db view.now))
         edge.upper.0 (slice_index_or done.now edge.upper.0 []) }
-    ensures { IfOk result (AreSetsOfTable (db_of (V.schema_of view.now) (V.rows view.now)) (listed which (db_of (V.schema_of view.now) (V.rows view.now))) table.0) }
+    ensures { IfOk result (AreSetsOfTable (V.db view.now) (listed which (V.db view.now)) table.0) }
 {
     let lists = gathered(alloc, view, which, done, table, edges)?;
     as_sets(alloc, lists)
@@ -69,10 +68,9 @@ fn sets_of<V: StoreView>(
     graph: &Graph,
     which: Which,
 ) -> Result<List<List<List<Subject>>>, AllocError>
-    requires ordered { IsOrdered (db_of (V.schema_of view.now) (V.rows view.now)) }
-    requires owner { IsOwnerSchema (V.schema_of view.now) }
-    requires graph { IsGraphOf (length (V.schema_of view.now).tables) (V.schema_of view.now).edges graph.now }
-    ensures { IfOk result (AreSetsOf (db_of (V.schema_of view.now) (V.rows view.now)) (listed which (db_of (V.schema_of view.now) (V.rows view.now)))) }
+    requires owner { IsOwnerSchema (V.db view.now).schema }
+    requires graph { IsGraphOf (length (V.db view.now).schema.tables) (V.db view.now).schema.edges graph.now }
+    ensures { IfOk result (AreSetsOf (V.db view.now) (listed which (V.db view.now))) }
 {
     let mut sets = none_yet(alloc, view.schema().tables.items().len())?;
     for table in graph.order() {
@@ -87,11 +85,10 @@ impl OwnerSets {
     /// The sets of a store's rows, by the graph of its schema's edges. Each table's rows are gone through once for each edge
     /// whose column the table holds, and the rows that they name are looked up; no path is listed.
     pub fn of<V: StoreView>(alloc: Global, view: &V, graph: &Graph) -> Result<OwnerSets, AllocError>
-        requires ordered { IsOrdered (db_of (V.schema_of view.now) (V.rows view.now)) }
-        requires owner { IsOwnerSchema (V.schema_of view.now) }
-        requires graph { IsGraphOf (length (V.schema_of view.now).tables) (V.schema_of view.now).edges graph.now }
-        ensures owners { IfOk result (λ sets. AreSetsOf (db_of (V.schema_of view.now) (V.rows view.now)) (owners (db_of (V.schema_of view.now) (V.rows view.now))) sets.owners) }
-        ensures reach { IfOk result (λ sets. AreSetsOf (db_of (V.schema_of view.now) (V.rows view.now)) (reach (db_of (V.schema_of view.now) (V.rows view.now))) sets.reach) }
+        requires owner { IsOwnerSchema (V.db view.now).schema }
+        requires graph { IsGraphOf (length (V.db view.now).schema.tables) (V.db view.now).schema.edges graph.now }
+        ensures owners { IfOk result (λ sets. AreSetsOf (V.db view.now) (owners (V.db view.now)) sets.owners) }
+        ensures reach { IfOk result (λ sets. AreSetsOf (V.db view.now) (reach (V.db view.now)) sets.reach) }
     {
         let owners = sets_of(alloc, view, graph, Which::Owners)?;
         let reach = sets_of(alloc, view, graph, Which::Reach)?;

@@ -1,4 +1,4 @@
--- What a sequence in pages stands for.
+-- What a sequence in pages represents.
 use Rattle.std.specs.Prelude.{List}
 use Rattle.page_model.specs.Page.{joined}
 

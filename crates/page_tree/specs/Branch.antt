@@ -1,4 +1,4 @@
--- What a node stands for.
+-- What a node represents.
 use Rattle.std.specs.Prelude.{ℕ, List}
 
 -- its pages in their order, and how many nodes stand below it

@@ -19,7 +19,7 @@ use Rattle.schema_model.specs.rules.RepeatedColumns.{repeated_after}
 use Rattle.schema_model.proofs.Names.{distinct-unrepeated, same_name}
 use Rattle.bind_scope.specs.After.{after}
 use Rattle.plan_bind.specs.InsertTargets.{IsCounted}
-use Rattle.plan_bind.specs.Kept.{IsKept}
+use Rattle.plan_bind.specs.IsNoted.{IsNoted}
 use Rattle.plan_bind.proofs.Ranks.{kept_after, kept_new, kept_sooner_than}
 use Rattle.plan_bind.proofs.Twice.{after_unknown}
 
@@ -77,14 +77,14 @@ twice-repeated before (name ∷ names) = count_here (list_any (λ other. bytes_e
 
 -- where each name means a column
 all_found : (table : TableDef) (names : List NameBytes) (kept : Option Refusal) (again : List NameBytes) → repeated_after [] names ≡ again
-    → list_all is_some (map (column_in table) names) ≡ true → length table.columns < length names → IsKept 5 (after kept (twice [] names))
+    → list_all is_some (map (column_in table) names) ≡ true → length table.columns < length names → IsNoted 5 (after kept (twice [] names))
 all_found table names kept [] is each long = let few = few_names table names each is in absurd (omega arith)
 all_found table names kept (first ∷ rest) is each long =
     rw (twice-repeated [] names, is) (kept_after 5 (sooner kept (Count 2 1)) (map (λ again. Count 2 1) rest) (kept_new 5 kept (Count 2 1) (lit≤ tt)))
 
 -- whether each does
 long_list : (table : TableDef) (names : List NameBytes) (kept : Option Refusal) (found : Bool) → list_all is_some (map (column_in table) names) ≡ found
-    → length table.columns < length names → IsKept 5 (after kept (flat_map (not_a_column table) names ++ twice [] names))
+    → length table.columns < length names → IsNoted 5 (after kept (flat_map (not_a_column table) names ++ twice [] names))
 long_list table names kept true is long =
     rw fold-append (all_found table names (after kept (flat_map (not_a_column table) names)) (repeated_after [] names) refl is long)
 long_list table names kept false is long = rw fold-append (kept_after 5 _ (twice [] names) (kept_sooner_than 3 5 _ (lit≤ tt) (after_unknown table names kept is)))

@@ -16,7 +16,7 @@ use Rattle.bind_scope.proofs.Lookups.{drop_here}
 use Rattle.plan_bind.specs.ColumnList.{columns_meant}
 use Rattle.plan_bind.specs.declared.numbered_column.NumberedColumn.{NumberedColumn}
 use Rattle.plan_bind.proofs.ColumnLists.{list_all-columns_meant}
-use Rattle.plan_bind.specs.Kept.{IsKept}
+use Rattle.plan_bind.specs.IsNoted.{IsNoted}
 use Rattle.plan_bind.proofs.Ranks.{kept_after, kept_new, kept_sooner_than, sooner_stays}
 
 -- the names from one number on that stand before too: this one, and those behind it
@@ -26,13 +26,13 @@ pub twice_here : (names : List NameBytes) (i : ℕ) (name : NameBytes) → i < l
 twice_here names i name within is = rw (drop_here names i name within is, take_more names i name within, ← is)
 
 -- one fault of them, where one of its rank or sooner is kept
-passed_over : (kept : Option Refusal) (here : Bool) (faults : List Refusal) → IsKept 5 kept
+passed_over : (kept : Option Refusal) (here : Bool) (faults : List Refusal) → IsNoted 5 kept
     → after kept ((if here then Count 2 1 ∷ [] else []) ++ faults) ≡ after kept faults
 passed_over kept true faults is = rw (sooner_stays 5 kept (Count 2 1) is (lit≤ tt))
 passed_over kept false faults is = refl
 
 -- all of them
-pub after_twice : (kept : Option Refusal) (before names : List NameBytes) → IsKept 5 kept → after kept (twice before names) ≡ kept
+pub after_twice : (kept : Option Refusal) (before names : List NameBytes) → IsNoted 5 kept → after kept (twice before names) ≡ kept
 after_twice kept before [] is = refl
 after_twice kept before (name ∷ names) is =
     passed_over kept (list_any (λ other. bytes_eq other name) before) (twice (before ++ name ∷ []) names) is ∙ after_twice kept (before ++ name ∷ []) names is
@@ -43,14 +43,14 @@ twice_once kept before names = after_twice (sooner kept (Count 2 1)) before name
 
 -- one name that means no column is noted
 unknown_here : (kept : Option Refusal) (name : NameBytes) (found : Option (ℕ × Definition)) (others : Bool) (faults : List Refusal)
-    → (is_some found && others) ≡ false → (others ≡ false → IsKept 3 (after kept faults))
-    → IsKept 3 (after kept (option_map_or (λ column. []) found (NoColumn name ∷ []) ++ faults))
+    → (is_some found && others) ≡ false → (others ≡ false → IsNoted 3 (after kept faults))
+    → IsNoted 3 (after kept (option_map_or (λ column. []) found (NoColumn name ∷ []) ++ faults))
 unknown_here kept name None others faults some later = kept_after 3 (sooner kept (NoColumn name)) faults (kept_new 3 kept (NoColumn name) (lit≤ tt))
 unknown_here kept name (Some column) others faults some later = later some
 
 -- where some name means none
 pub after_unknown : (table : TableDef) (names : List NameBytes) (kept : Option Refusal) → list_all is_some (map (column_in table) names) ≡ false
-    → IsKept 3 (after kept (flat_map (not_a_column table) names))
+    → IsNoted 3 (after kept (flat_map (not_a_column table) names))
 after_unknown table [] kept some = absurd (cc)
 after_unknown table (name ∷ names) kept some =
     unknown_here kept name (column_in table name) (list_all is_some (map (column_in table) names)) (flat_map (not_a_column table) names) some (after_unknown table names kept)

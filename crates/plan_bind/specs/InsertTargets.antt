@@ -10,7 +10,7 @@ use Rattle.own_model.specs.declared.schema.TableDef.{TableDef}
 use Rattle.query_model.specs.Scope.{NameBytes}
 use Rattle.query_model.specs.WriteFaults.{columns_for, columns_left, numbered_columns}
 use Rattle.plan_bind.specs.ColumnList.{columns_meant, is_of_number}
-use Rattle.plan_bind.specs.Kept.{IsKept}
+use Rattle.plan_bind.specs.IsNoted.{IsNoted}
 use Rattle.plan_bind.specs.NumberedColumns.{column_of}
 use Rattle.plan_bind.specs.declared.numbered_column.NumberedColumn.{NumberedColumn}
 
@@ -39,4 +39,4 @@ pub record AreTargets (table : TableDef) (names : Option (List NameBytes)) (colu
 
 -- Where a list names more columns than a table can have, a fault of it is kept that is told before a count of values.
 abbrev pub IsCounted : Listed → Option Refusal → Type 0
-IsCounted listed kept = TABLE_COLUMNS < length (columns_for listed.table listed.names) → IsKept 5 kept
+IsCounted listed kept = TABLE_COLUMNS < length (columns_for listed.table listed.names) → IsNoted 5 kept

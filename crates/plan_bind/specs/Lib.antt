@@ -1,6 +1,6 @@
 pub mod ColumnList
 pub mod InsertTargets
-pub mod Kept
+pub mod IsNoted
 pub mod Literals
 pub mod NumberedColumns
 pub mod Repeats

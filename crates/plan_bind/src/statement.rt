@@ -49,7 +49,7 @@ fn bind_meaning<'a>(
     }
 }
 
-/// What a statement means, or the fault that is told.
+/// What a statement means, or the fault that is reported.
 #[tactic(auto, unfolding(query_model::specs::BoundStatement::bound_statement, query_model::specs::Refused::lowest))]
 fn meaning_or_fault(
     alloc: Global,

@@ -51,9 +51,9 @@ pub fn group<V: StoreView>(
     query: &BoundSelect,
 ) -> Result<Reply, AllocError>
     requires grouped { query.now.grouped ≡ true }
-    requires source { IsBaseOf (V.schema_of view.now) query.now.source }
-    requires tables { AreTables (V.schema_of view.now) (V.rows view.now) }
-    ensures { IfOk result (λ reply. reply ≡ reply_of (query_rows (V.schema_of view.now) (V.rows view.now) query.now)) }
+    requires source { IsBaseOf (V.db view.now).schema query.now.source }
+    requires tables { AreTables (V.db view.now).schema (V.db view.now).rows }
+    ensures { IfOk result (λ reply. reply ≡ reply_of (query_rows (V.db view.now).schema (V.db view.now).rows query.now)) }
 {
     let kept = kept_in_source(alloc, view, &query.source, query.cond.as_ref())?;
     grouped_reply(alloc, &kept, query)

@@ -12,9 +12,9 @@ use std::alloc::{AllocError, Global};
 #[tactic(auto, unfolding(query_model::specs::Query::query_rows, query_model::specs::Query::selected))]
 pub fn join<V: StoreView>(alloc: Global, view: &V, query: &BoundSelect) -> Result<Reply, AllocError>
     requires plain { query.now.grouped ≡ false }
-    requires source { IsPairOf (V.schema_of view.now) query.now.source }
-    requires tables { AreTables (V.schema_of view.now) (V.rows view.now) }
-    ensures { IfOk result (λ reply. reply ≡ reply_of (query_rows (V.schema_of view.now) (V.rows view.now) query.now)) }
+    requires source { IsPairOf (V.db view.now).schema query.now.source }
+    requires tables { AreTables (V.db view.now).schema (V.db view.now).rows }
+    ensures { IfOk result (λ reply. reply ≡ reply_of (query_rows (V.db view.now).schema (V.db view.now).rows query.now)) }
 {
     match &query.source {
         Source1::Pair { .. } => {

@@ -54,8 +54,8 @@ pub fn kept_rows<'a>(
 
 /// The column of a table's primary key.
 pub(crate) fn key_column<V: StoreView>(view: &V, table: TableNo) -> ColNo
-    requires { table.0 < length (V.schema_of view.now).tables }
-    ensures { result.0 ≡ key_column (V.schema_of view.now) table }
+    requires { table.0 < length (V.db view.now).schema.tables }
+    ensures { result.0 ≡ key_column (V.db view.now).schema table }
 {
     view.schema().tables.items()[table.0 as usize].key
 }
@@ -67,8 +67,8 @@ fn kept_by_key<'a, V: StoreView>(
     name: &RowName,
     cond: Option<&BoundCond>,
 ) -> Result<LentRows<'a>, AllocError>
-    requires { name.now.table.0 < length (V.schema_of view.now).tables }
-    ensures { IfOk result (λ kept. kept ≡ filter (keeps (option_copied cond.entry)) (option_to_list (row_named (V.schema_of view.now) (V.rows view.now) name.now))) }
+    requires { name.now.table.0 < length (V.db view.now).schema.tables }
+    ensures { IfOk result (λ kept. kept ≡ filter (keeps (option_copied cond.entry)) (option_to_list (row_named (V.db view.now).schema (V.db view.now).rows name.now))) }
 {
     let mut kept = LentRows::new(alloc);
     if let Some(row) = view.row(name) {
@@ -84,8 +84,8 @@ fn kept_by_runs<'a, V: StoreView>(
     table: TableNo,
     cond: Option<&BoundCond>,
 ) -> Result<LentRows<'a>, AllocError>
-    requires { table.0 < length (V.schema_of view.now).tables }
-    ensures { IfOk result (λ kept. kept ≡ filter (keeps (option_copied cond.entry)) (rows_at (V.rows view.now) table.0)) }
+    requires { table.0 < length (V.db view.now).schema.tables }
+    ensures { IfOk result (λ kept. kept ≡ filter (keeps (option_copied cond.entry)) (rows_at (V.db view.now).rows table.0)) }
 {
     let mut kept = LentRows::new(alloc);
     let count = view.count(table);
@@ -106,9 +106,9 @@ pub fn kept_in_table<'a, V: StoreView>(
     table: TableNo,
     cond: Option<&BoundCond>,
 ) -> Result<LentRows<'a>, AllocError>
-    requires there { table.0 < length (V.schema_of view.now).tables }
-    requires tables { AreTables (V.schema_of view.now) (V.rows view.now) }
-    ensures { IfOk result (λ kept. kept ≡ filter (keeps (option_copied cond.entry)) (rows_at (V.rows view.now) table.0)) }
+    requires there { table.0 < length (V.db view.now).schema.tables }
+    requires tables { AreTables (V.db view.now).schema (V.db view.now).rows }
+    ensures { IfOk result (λ kept. kept ≡ filter (keeps (option_copied cond.entry)) (rows_at (V.db view.now).rows table.0)) }
 {
     match pinned_key(alloc, cond, key_column(view, table))? {
         Some(key) => kept_by_key(alloc, view, &RowName { table, key }, cond),

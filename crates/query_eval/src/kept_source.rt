@@ -18,9 +18,9 @@ pub(crate) fn kept_in_source<'a, V: StoreView>(
     source: &Source1,
     cond: Option<&BoundCond>,
 ) -> Result<LentRows<'a>, AllocError>
-    requires source { IsBaseOf (V.schema_of view.now) source.now }
-    requires tables { AreTables (V.schema_of view.now) (V.rows view.now) }
-    ensures { IfOk result (λ kept. kept ≡ filter (keeps (option_copied cond.entry)) (base_rows (V.rows view.now) source.now)) }
+    requires source { IsBaseOf (V.db view.now).schema source.now }
+    requires tables { AreTables (V.db view.now).schema (V.db view.now).rows }
+    ensures { IfOk result (λ kept. kept ≡ filter (keeps (option_copied cond.entry)) (base_rows (V.db view.now).rows source.now)) }
 {
     match source {
         Source1::Table(table) => kept_in_table(alloc, view, *table, cond),

@@ -58,11 +58,11 @@ pub(crate) fn meeting_row<'a, V: StoreView>(
     column: ColNo,
     value: Option<&Value>,
 ) -> Result<Option<&'a Row>, AllocError>
-    requires there { table.0 < length (V.schema_of view.now).tables }
-    requires tables { AreTables (V.schema_of view.now) (V.rows view.now) }
-    requires key { column.0 ≡ key_column (V.schema_of view.now) table }
+    requires there { table.0 < length (V.db view.now).schema.tables }
+    requires tables { AreTables (V.db view.now).schema (V.db view.now).rows }
+    requires key { column.0 ≡ key_column (V.db view.now).schema table }
     requires stored { IsStored (unwrap_or (option_copied value) Value.Null) }
-    ensures { IfOk result (λ row. option_to_list (option_copied row) ≡ meeting (unwrap_or (option_copied value.entry) Value.Null) column.0 (rows_at (V.rows view.now) table.0)) }
+    ensures { IfOk result (λ row. option_to_list (option_copied row) ≡ meeting (unwrap_or (option_copied value.entry) Value.Null) column.0 (rows_at (V.db view.now).rows table.0)) }
 {
     match key_of(alloc, value)? {
         Some(key) => {

@@ -80,12 +80,12 @@ fn kept_by_key<'a, V: StoreView>(
     tables: Joined,
     cond: Option<&BoundCond>,
 ) -> Result<LentRows<'a>, AllocError>
-    requires left { tables.left.0 < length (V.schema_of view.now).tables }
-    requires right { tables.right.0 < length (V.schema_of view.now).tables }
-    requires tables { AreTables (V.schema_of view.now) (V.rows view.now) }
-    requires key { tables.right_column.0 ≡ key_column (V.schema_of view.now) tables.right }
+    requires left { tables.left.0 < length (V.db view.now).schema.tables }
+    requires right { tables.right.0 < length (V.db view.now).schema.tables }
+    requires tables { AreTables (V.db view.now).schema (V.db view.now).rows }
+    requires key { tables.right_column.0 ≡ key_column (V.db view.now).schema tables.right }
     ensures { IfOk result (λ kept. kept ≡ filter (keeps (option_copied cond.entry))
-        (joined tables.left_column.0 tables.right_column.0 (rows_at (V.rows view.now) tables.left.0) (rows_at (V.rows view.now) tables.right.0))) }
+        (joined tables.left_column.0 tables.right_column.0 (rows_at (V.db view.now).rows tables.left.0) (rows_at (V.db view.now).rows tables.right.0))) }
 {
     let mut kept = LentRows::new(alloc);
     for left in TableRows::new(view, tables.left) {
@@ -103,10 +103,10 @@ fn kept_by_value<'a, V: StoreView>(
     tables: Joined,
     cond: Option<&BoundCond>,
 ) -> Result<LentRows<'a>, AllocError>
-    requires left { tables.left.0 < length (V.schema_of view.now).tables }
-    requires right { tables.right.0 < length (V.schema_of view.now).tables }
+    requires left { tables.left.0 < length (V.db view.now).schema.tables }
+    requires right { tables.right.0 < length (V.db view.now).schema.tables }
     ensures { IfOk result (λ kept. kept ≡ filter (keeps (option_copied cond.entry))
-        (joined tables.left_column.0 tables.right_column.0 (rows_at (V.rows view.now) tables.left.0) (rows_at (V.rows view.now) tables.right.0))) }
+        (joined tables.left_column.0 tables.right_column.0 (rows_at (V.db view.now).rows tables.left.0) (rows_at (V.db view.now).rows tables.right.0))) }
 {
     let index = ValueIndex::of_table(alloc, view, tables.right, tables.right_column)?;
     let mut kept = LentRows::new(alloc);
@@ -124,11 +124,11 @@ pub(crate) fn kept_pairs<'a, V: StoreView>(
     tables: Joined,
     cond: Option<&BoundCond>,
 ) -> Result<LentRows<'a>, AllocError>
-    requires left { tables.left.0 < length (V.schema_of view.now).tables }
-    requires right { tables.right.0 < length (V.schema_of view.now).tables }
-    requires tables { AreTables (V.schema_of view.now) (V.rows view.now) }
+    requires left { tables.left.0 < length (V.db view.now).schema.tables }
+    requires right { tables.right.0 < length (V.db view.now).schema.tables }
+    requires tables { AreTables (V.db view.now).schema (V.db view.now).rows }
     ensures { IfOk result (λ kept. kept ≡ filter (keeps (option_copied cond.entry))
-        (joined tables.left_column.0 tables.right_column.0 (rows_at (V.rows view.now) tables.left.0) (rows_at (V.rows view.now) tables.right.0))) }
+        (joined tables.left_column.0 tables.right_column.0 (rows_at (V.db view.now).rows tables.left.0) (rows_at (V.db view.now).rows tables.right.0))) }
 {
     if key_column(view, tables.right) == tables.right_column {
         kept_by_key(alloc, view, tables, cond)

@@ -46,9 +46,9 @@ pub fn select<V: StoreView>(
     query: &BoundSelect,
 ) -> Result<Reply, AllocError>
     requires plain { query.now.grouped ≡ false }
-    requires source { IsTableOf (V.schema_of view.now) query.now.source }
-    requires tables { AreTables (V.schema_of view.now) (V.rows view.now) }
-    ensures { IfOk result (λ reply. reply ≡ reply_of (query_rows (V.schema_of view.now) (V.rows view.now) query.now)) }
+    requires source { IsTableOf (V.db view.now).schema query.now.source }
+    requires tables { AreTables (V.db view.now).schema (V.db view.now).rows }
+    ensures { IfOk result (λ reply. reply ≡ reply_of (query_rows (V.db view.now).schema (V.db view.now).rows query.now)) }
 {
     match &query.source {
         Source1::Table(table) => {

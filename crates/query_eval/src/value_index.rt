@@ -40,9 +40,9 @@ impl<'a> ValueIndex<'a> {
         table: TableNo,
         column: ColNo,
     ) -> Result<ValueIndex<'a>, AllocError>
-        requires { table.0 < length (V.schema_of view.now).tables }
+        requires { table.0 < length (V.db view.now).schema.tables }
         ensures column { IfOk result (λ index. index.column ≡ column) }
-        ensures rows { IfOk result (λ index. index.rows.entries ≡ by_value (λ rows. rows) column.0 (rows_at (V.rows view.now) table.0)) }
+        ensures rows { IfOk result (λ index. index.rows.entries ≡ by_value (λ rows. rows) column.0 (rows_at (V.db view.now).rows table.0)) }
     {
         let mut index = ValueIndex::new(alloc, column);
         for row in TableRows::new(view, table) {

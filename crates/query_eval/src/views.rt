@@ -18,9 +18,9 @@ pub fn view_rows<V: StoreView>(
     view: &V,
     definition: &ViewDef,
 ) -> Result<List<Row>, AllocError>
-    requires source { IsBaseOf (V.schema_of view.now) definition.now.query.source }
-    requires tables { AreTables (V.schema_of view.now) (V.rows view.now) }
-    ensures { IfOk result (λ rows. rows ≡ view_rows (V.rows view.now) definition.now) }
+    requires source { IsBaseOf (V.db view.now).schema definition.now.query.source }
+    requires tables { AreTables (V.db view.now).schema (V.db view.now).rows }
+    ensures { IfOk result (λ rows. rows ≡ view_rows (V.db view.now).rows definition.now) }
 {
     let query = &definition.query;
     let mut kept = kept_in_source(alloc, view, &query.source, query.cond.as_ref())?;

@@ -1,3 +1,4 @@
+pub mod GroupValues
 pub mod KeptByKey
 pub mod PinnedRow
 pub mod RowOfKey

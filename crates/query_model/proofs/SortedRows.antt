@@ -1,10 +1,12 @@
 -- Rows in order: a stable sort gives the rows that are put one after another at their place.
-use Rattle.std.proofs.Common.{◌≡◌, ℕ, suc, ◌+◌, ◌<◌, ◌≤◌, List, [], ◌∷◌, ◌++◌, Bool, true, false, cond, fold, length, get_or, refl, sym, ap, ◌∙◌, subst, arith, append-nil, append_assoc}
+use Rattle.std.proofs.Common.{◌≡◌, ℕ, zero, suc, ◌+◌, ◌<◌, ◌≤◌, List, [], ◌∷◌, ◌++◌, Bool, true, false, cond, fold, length, get_or, refl, sym, ap, ◌∙◌, subst, arith, append-nil, append_assoc}
+use Rattle.std.specs.Prelude.{IsPermutation, Option, Some, None, slice_get}
 use Rattle.std.specs.Cmp.{IsStrictWeakOrder}
 use Rattle.std.specs.List.{AllByRecursion as Each, filter}
 use Rattle.std.specs.List.Sorted.{IsSortedBy, IsStableBy, ties}
-use Rattle.std.proofs.lemmas.List.Sorted.{sorted_far}
+use Rattle.std.proofs.lemmas.List.Sorted.{IsPermutation-append_left, IsPermutation-cons, IsPermutation-middle, IsPermutation-refl, IsPermutation-sym, IsPermutation-trans, sorted_far}
 use Rattle.own_model.specs.Db.{Row}
+use Rattle.query_model.specs.InOrder.{ArePutInOrder}
 use Rattle.query_model.specs.Order.{placed, sorted}
 
 -- no row comes before one that stands before it
@@ -114,6 +116,33 @@ each_placed before P row this (first ∷ rest) all = by (each_placed before P ro
     by more true = (this, all)
     by more false = (all.0, more)
 
+-- what holds of each holds at each place
+each_at : (P : Row → Type 0) (rows : List Row) (place : ℕ) (row : Row) → Each P rows → slice_get rows place ≡ Some row → P row
+each_at P [] place row all at = let never : ◌≡◌ {A = Option Row} None (Some row) = at in cc
+each_at P (first ∷ rest) zero row all at = let same : first ≡ row = cc in subst P same all.0
+each_at P (first ∷ rest) (suc place) row all at = each_at P rest place row all.1 at
+
+-- a row at its place is one among the others
+permuted_placed : (before : Row → Row → Bool) (row : Row) (rows : List Row) → IsPermutation (row ∷ rows) (placed before row rows)
+permuted_placed before row [] = IsPermutation-refl (row ∷ [])
+permuted_placed before row (first ∷ rest) = by (permuted_placed before row rest) (before row first)
+  where
+    by : IsPermutation (row ∷ rest) (placed before row rest) → (b : Bool) → IsPermutation (row ∷ first ∷ rest) (cond b (row ∷ first ∷ rest) (first ∷ placed before row rest))
+    by more true = IsPermutation-refl (row ∷ first ∷ rest)
+    by more false =
+        IsPermutation-trans (row ∷ first ∷ rest) (first ∷ row ∷ rest) (first ∷ placed before row rest)
+        (IsPermutation-sym (first ∷ row ∷ rest) (row ∷ first ∷ rest) (IsPermutation-middle (first ∷ []) row rest))
+        (IsPermutation-cons first (row ∷ rest) (placed before row rest) more)
+
+-- and rows put one after another are those and these
+permuted : (before : Row → Row → Bool) (rows more : List Row) → IsPermutation (rows ++ more) (fold (λ ordered row. placed before row ordered) rows more)
+permuted before rows [] = subst (λ l. IsPermutation l rows) (sym (append-nil rows)) (IsPermutation-refl rows)
+permuted before rows (first ∷ rest) =
+    IsPermutation-trans (rows ++ first ∷ rest) (first ∷ (rows ++ rest)) _ (IsPermutation-middle rows first rest)
+    (IsPermutation-trans (first ∷ (rows ++ rest)) (placed before first rows ++ rest) _
+    (IsPermutation-append_left rest (first ∷ rows) (placed before first rows) (permuted_placed before first rows))
+    (permuted before (placed before first rows) rest))
+
 module _ (before : Row → Row → Bool) (order : IsStrictWeakOrder before) where
   -- a row at its place among rising rows
   rises_placed : (row : Row) (rows : List Row) → Rises before rows → Rises before (placed before row rows)
@@ -185,6 +214,24 @@ module _ (before : Row → Row → Bool) (order : IsStrictWeakOrder before) wher
   sorted_by_stable_sort rows ordered up stable =
       same_from_ties before order ordered (sorted before rows) (rises_from_sorted before order ordered up) (rises_sorted [] rows tt)
       (λ x. stable x ∙ sym (ties_sorted x [] rows tt))
+
+  rises_places : (rows : List Row) → Rises before rows → (place behind : ℕ) (row later : Row) → place < behind → slice_get rows place ≡ Some row → slice_get rows behind ≡ Some later
+      → before later row ≡ false
+  unfolding Rises
+  rises_places [] up place behind row later follows at_place at_behind = let never : ◌≡◌ {A = Option Row} None (Some row) = at_place in cc
+  rises_places (first ∷ rest) up place zero row later follows at_place at_behind = absurd (omega arith)
+  rises_places (first ∷ rest) up zero (suc behind) row later follows at_place at_behind =
+      let same : first ≡ row = cc in subst (λ r. before later r ≡ false) same (each_at (λ other. before other first ≡ false) rest behind later up.0 at_behind)
+  rises_places (first ∷ rest) up (suc place) (suc behind) row later follows at_place at_behind = rises_places rest up.1 place behind row later (omega arith) at_place at_behind
+
+  -- rows in order are the same rows in that order, and stable
+  pub sorted_in_order : (rows : List Row) → ArePutInOrder before rows (sorted before rows)
+  unfolding sorted Rises
+  sorted_in_order rows = record {
+    same_rows = permuted before [] rows;
+    in_order = rises_places (sorted before rows) (rises_sorted [] rows tt);
+    stable = λ x. ties_sorted x [] rows tt;
+  }
 
 -- a row more at its place is a row more
 length-placed : (before : Row → Row → Bool) (row : Row) (rows : List Row) → length (placed before row rows) ≡ suc (length rows)

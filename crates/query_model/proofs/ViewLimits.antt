@@ -1,5 +1,5 @@
 -- A CREATE VIEW that isn't refused leaves views within the limits.
-use Rattle.std.proofs.Common.{◌≡◌, ℕ, ◌+◌, ◌≤◌, List, [], ◌∷◌, ◌++◌, Bool, true, false, cond, Option, None, Some, Result, Ok, Err, length, map, nat_lt, if◌then◌else◌, bytes_eq, ap, refl, arith, subst}
+use Rattle.std.proofs.Common.{◌≡◌, ℕ, ◌+◌, ◌≤◌, List, [], ◌∷◌, ◌++◌, Bool, true, false, cond, Option, None, Some, Ok, length, nat_lt, if◌then◌else◌, bytes_eq, ap, refl, arith, subst}
 use Rattle.std.specs.List.{AllByRecursion, enumerate_from, find, fold}
 use Rattle.std.specs.Option.{option_map_or}
 use Rattle.std.proofs.lemmas.Bool.Decides.{nat_tests}
@@ -110,7 +110,7 @@ length-output_names : (scope : Scope) (items : Items) → length scope ≤ SELEC
 length-output_names scope Star named listed = omega (arith, length-map scope (λ named. named.column))
 length-output_names scope (Listed items) named listed = omega (arith, length-map items output_name)
 
--- where no fault is told there is none
+-- where no fault is reported there is none
 told-step : (one other : Refusal) (lower : Bool) (later : Option Refusal → Option Refusal)
     → ((kept : Refusal) → later (Some kept) ≡ None → ⊥) → later (cond lower (Some one) (Some other)) ≡ None → ⊥
 told-step one other true later tells none = tells one none

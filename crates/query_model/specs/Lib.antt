@@ -3,6 +3,8 @@ pub mod BoundView
 pub mod ConditionFaults
 pub mod Expression
 pub mod Footprints
+pub mod GroupRows
+pub mod InOrder
 pub mod Kinds
 pub mod Order
 pub mod Query

@@ -71,7 +71,7 @@ id = 5 AND (n = 1 OR n = 2) => Some(Int(5))
 n = 1 AND (id = 5) => Some(Int(5))
 id IS NULL => None";
 
-/// The derived text that a row stands for.
+/// The derived text that a row represents.
 fn written_out(alloc: Global, row: &str) -> Result<String, Fail> {
     let mut text = String::new(alloc);
     for letter in row.chars() {
@@ -96,15 +96,15 @@ fn meant(rt: &(impl Abort + AllocGlobal), small: &Small, text: &str) -> Result<B
 }
 
 /// A footprint as a row has it.
-fn told(alloc: Global, items: &[FootItem]) -> Result<String, Fail> {
+fn reported(alloc: Global, items: &[FootItem]) -> Result<String, Fail> {
     if items.is_empty() {
         return Ok(format!(in alloc; "none")?);
     }
     let mut text = String::new(alloc);
     for item in items {
         let sign = if item.write { "w" } else { "r" };
-        let told = format!(in alloc; "{sign}{} {:?};", item.table.0, item.key)?;
-        text.push_str(told.as_str())?;
+        let reported = format!(in alloc; "{sign}{} {:?};", item.table.0, item.key)?;
+        text.push_str(reported.as_str())?;
     }
     Ok(text)
 }
@@ -117,11 +117,11 @@ fn check_meaning(
     wanted: &str,
 ) -> Result<(), Fail> {
     let bound = meant(rt, small, text)?;
-    let told = format!(in rt.alloc(); "{bound:?}");
+    let reported = format!(in rt.alloc(); "{bound:?}");
     drop(bound);
-    let told = told?;
+    let reported = reported?;
     let wanted = written_out(rt.alloc(), wanted)?;
-    assert_eq!(rt; told.as_str(), wanted.as_str(), "{text}");
+    assert_eq!(rt; reported.as_str(), wanted.as_str(), "{text}");
     Ok(())
 }
 
@@ -147,8 +147,8 @@ fn check_footprint(
     let bound = meant(rt, small, text)?;
     let items = footprint(rt.alloc(), &small.schema, &bound);
     drop(bound);
-    let told = told(rt.alloc(), items?.items())?;
-    assert_eq!(rt; told.as_str(), wanted, "{text}");
+    let reported = reported(rt.alloc(), items?.items())?;
+    assert_eq!(rt; reported.as_str(), wanted, "{text}");
     Ok(())
 }
 
@@ -178,8 +178,8 @@ fn check_pin(
     let key = pinned_key(rt.alloc(), cond.as_ref(), ColNo(0));
     drop(cond);
     let key = key?;
-    let told = format!(in rt.alloc(); "{key:?}")?;
-    assert_eq!(rt; told.as_str(), wanted, "{text}");
+    let reported = format!(in rt.alloc(); "{key:?}")?;
+    assert_eq!(rt; reported.as_str(), wanted, "{text}");
     Ok(())
 }
 

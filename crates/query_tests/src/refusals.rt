@@ -1,4 +1,4 @@
-//! What binding refuses. Where two faults stand in a statement, the one of the lower number is told, and of one number
+//! What binding refuses. Where two faults stand in a statement, the one of the lower number is reported, and of one number
 //! the first in the text.
 
 use crate::calls::check_calls;
@@ -71,7 +71,7 @@ SELECT * FROM t JOIN p ON t.n = mail WHERE s = 1 => refused kind n
 SELECT * FROM t JOIN p ON mail = t.n WHERE s = 1 => refused kind mail
 SELECT * FROM w WHERE n = 1 AND total = 'x' => refused kind total
 SELECT * FROM w WHERE total > n AND count < total => rows 0
--- a column that isn't there is told before a kind
+-- a column that isn't there is reported before a kind
 SELECT * FROM t WHERE s = 1 AND a2 = 1 => refused column a2
 SELECT SUM(s) FROM t GROUP BY a2 => refused column a2
 SELECT SUM(s), n FROM t ORDER BY a3 => refused column n
@@ -213,7 +213,7 @@ const TABLE: &str =
     "CREATE TABLE t (id INT PRIMARY KEY, n INT, s TEXT, r TEXT, q INT NOT NULL) => ok";
 
 #[test]
-fn the_first_fault_of_the_lowest_number_is_told(rt: HostRuntime) -> Result<(), Fail> {
+fn the_first_fault_of_the_lowest_number_is_reported(rt: HostRuntime) -> Result<(), Fail> {
     let mut small = Small::new(rt.alloc());
     for lines in [CREATES, SELECTS, INSERTS, UPDATES, OTHERS, VIEWS] {
         check_calls(&rt, &mut small, lines)?;

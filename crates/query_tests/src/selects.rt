@@ -3,7 +3,7 @@
 ghost use Rattle.std.specs.Prelude.{◌<◌, length, MatchBool, ⊤};
 ghost use Rattle.query_eval.specs.Sources.{IsBaseOf};
 
-use crate::small::Small;
+use crate::small::{Shown, Small};
 use crate::tables::are_tables;
 use own_base::{TableNo, ViewNo};
 use own_model::{BoundSelect, Reply, Schema, Source1};
@@ -39,7 +39,8 @@ fn from_view(
     let view = views.get(view.0 as usize).ok_or("no view")?;
     assert!(rt; is_base_of(&small.schema, &view.query.source));
     assert!(rt; are_tables(small) && !query.grouped);
-    let rows = view_rows(rt.alloc(), small, view)?;
+    let shown = Shown { small };
+    let rows = view_rows(rt.alloc(), &shown, view)?;
     Ok(select_rows(rt.alloc(), rows.items(), query)?)
 }
 
@@ -51,12 +52,13 @@ fn from_base(
 ) -> Result<Reply, Fail> {
     assert!(rt; is_base_of(&small.schema, &query.source));
     assert!(rt; are_tables(small));
+    let shown = Shown { small };
     if query.grouped {
-        return Ok(group(rt.alloc(), small, query)?);
+        return Ok(group(rt.alloc(), &shown, query)?);
     }
     match &query.source {
-        Source1::Pair { .. } => Ok(join(rt.alloc(), small, query)?),
-        _ => Ok(select(rt.alloc(), small, query)?),
+        Source1::Pair { .. } => Ok(join(rt.alloc(), &shown, query)?),
+        _ => Ok(select(rt.alloc(), &shown, query)?),
     }
 }
 

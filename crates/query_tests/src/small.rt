@@ -1,6 +1,8 @@
-ghost use Rattle.std.specs.Prelude.{◌≡◌, find};
+ghost use Rattle.std.specs.Prelude.{◌≡◌, [], find};
 ghost use Rattle.std.specs.Option.{option_copied};
+ghost use Rattle.own_model.specs.Db.{IsOrdered};
 ghost use Rattle.own_model.specs.Stored.{has_key, rows_at};
+ghost use Rattle.own_model.proofs.OneOrder.{ordered-prop};
 
 use crate::key_ref::{compare, key_of, lent};
 use own_base::{Key, List, Row, RowName, TableNo};
@@ -51,35 +53,42 @@ fn row_of_key<'a>(table: &TableDef, rows: &'a [Row], key: &Key) -> Option<&'a Ro
     rows.iter().find(|row| has_key(table, key, row))
 }
 
-impl StoreView for Small {
-    ghost schema_of = { λ small. small.schema };
+/// The rows of a small store, lent, whose keys rise in each table.
+#[derive(Drop)]
+pub struct Shown<'a> {
+    pub small: &'a Small,
+    pub ghost ordered: { IsOrdered (record { creates = []; schema = small.now.schema; rows = small.now.rows.items }) } by { ordered-prop (record { creates = []; schema = small.now.schema; rows = small.now.rows.items }) },
+}
 
-    ghost rows = { λ small. small.rows.items };
+impl<'a> StoreView for Shown<'a> {
+    ghost db = { λ shown. record { creates = []; schema = shown.small.now.schema; rows = shown.small.now.rows.items } };
 
     fn schema(&self) -> &Schema {
-        &self.schema
+        &self.small.schema
     }
 
     fn count(&self, table: TableNo) -> u64 {
-        self.rows_of(table).len() as u64
+        self.small.rows_of(table).len() as u64
     }
 
     fn row_at(&self, table: TableNo, at: u64) -> Option<&Row> {
-        self.rows_of(table).get(at as usize)
+        self.small.rows_of(table).get(at as usize)
     }
 
     #[tactic(auto, unfolding(own_model::specs::Stored::row_named))]
     fn row(&self, name: &RowName) -> Option<&Row> {
-        let table = self.schema.tables.items().get(name.table.0 as usize)?;
-        row_of_key(table, self.rows_of(name.table), &name.key)
+        let table = self.small.schema.tables.items().get(name.table.0 as usize)?;
+        row_of_key(table, self.small.rows_of(name.table), &name.key)
     }
 
     fn rows_from(&self, table: TableNo, at: u64) -> &[Row] {
-        let rows = self.rows_of(table);
+        let rows = self.small.rows_of(table);
         if at < rows.len() as u64 {
             &rows[at as usize..]
         } else {
             &[]
         }
     }
+
+    ghost ordered = { λ shown. shown.ordered };
 }

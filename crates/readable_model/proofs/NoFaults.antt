@@ -1,10 +1,10 @@
--- Where no fault is told there is none, of no part of a statement.
+-- Where no fault is reported there is none, of no part of a statement.
 use Rattle.std.proofs.Common.{◌≡◌, List, [], ◌∷◌, ◌++◌, Bool, true, false, cond, Option, None, Some, nat_lt, if◌then◌else◌, refl}
 use Rattle.std.specs.List.{fold}
 use Rattle.own_model.specs.declared.refusal.Refusal.{Refusal}
 use Rattle.query_model.specs.Refused.{lowest, rank, sooner}
 
--- a fault that is told stays told, or a lower one is
+-- a fault that is reported stays told, or a lower one is
 told-step : (one other : Refusal) (lower : Bool) (later : Option Refusal → Option Refusal)
     → ((kept : Refusal) → later (Some kept) ≡ None → ⊥) → later (cond lower (Some one) (Some other)) ≡ None → ⊥
 told-step one other true later tells none = tells one none
@@ -14,7 +14,7 @@ fold-sooner : (faults : List Refusal) (kept : Refusal) → fold sooner (Some kep
 fold-sooner [] kept none = cc
 fold-sooner (fault ∷ faults) kept none = told-step fault kept (nat_lt (rank fault) (rank kept)) (λ o. fold sooner o faults) (fold-sooner faults) none
 
--- where no fault is told there is none
+-- where no fault is reported there is none
 pub none-lowest : (faults : List Refusal) → lowest faults ≡ None → faults ≡ []
 unfolding lowest
 none-lowest [] none = refl

@@ -32,7 +32,7 @@ pub fn answer_of(alloc: Global, text: &str) -> Answer
     }
 }
 
-/// The text of a row, where `{64 a}` stands for 64 times `a`.
+/// The text of a row, where `{64 a}` represents 64 times `a`.
 pub fn spelled_out(alloc: Global, row: &str) -> Result<String, Fail> {
     let mut text = String::new(alloc);
     for (at, piece) in row.split('{').enumerate() {

@@ -1,5 +1,5 @@
 //! The reader's limits, and which fault stands where two meet: the first in the text; at one byte Syntax before a
-//! limit, and Items before Name. In a row `{64 a}` stands for 64 times `a`, and a `^` is the place of a fault of
+//! limit, and Items before Name. In a row `{64 a}` represents 64 times `a`, and a `^` is the place of a fault of
 //! syntax.
 
 use crate::check::{check_limit, check_rows};

@@ -167,7 +167,7 @@ const OTHERS: &str = "q COUNT SUM 7 'q' ( ) , . = <> != < <= > >= + - * ; !";
 /// Those that are tried with the rest of the statement after them, and with comments between all tokens.
 const FEW: &str = "; q 7 , )";
 
-/// The tokens that a word of a row stands for.
+/// The tokens that a word of a row represents.
 fn several(word: &str) -> &str {
     match word {
         "begin" => {

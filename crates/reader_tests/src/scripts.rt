@@ -1,5 +1,5 @@
 //! Scripts: where calls begin and end, to which session they belong, and which inputs are refused. In a row `{64 a}`
-//! stands for 64 times `a`.
+//! represents 64 times `a`.
 
 use crate::check::spelled_out;
 use own_model::{Request, Script, ScriptCall, SessionCalls};
@@ -155,7 +155,7 @@ fn scripts_are_read(rt: HostRuntime) -> Result<(), Fail> {
 }
 
 #[test]
-fn the_first_fault_is_told(rt: HostRuntime) -> Result<(), Fail> {
+fn the_first_fault_is_reported(rt: HostRuntime) -> Result<(), Fail> {
     check_scripts(&rt, &FAULTS)?;
     Ok(())
 }

@@ -278,7 +278,7 @@ fn copy_told(alloc: Global, text: &str) -> Result<String, Fail>
     }
 }
 
-/// The derived text that a row stands for.
+/// The derived text that a row represents.
 fn written_out(alloc: Global, row: &str) -> Result<String, Fail> {
     let mut text = String::new(alloc);
     for letter in row.chars() {

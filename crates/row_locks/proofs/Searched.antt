@@ -8,7 +8,7 @@ use Rattle.own_model.specs.declared.limit.TheConstants.{SESSIONS}
 use Rattle.history_model.specs.Held.{Holding, first_holding, first_overlap}
 use Rattle.row_locks.specs.declared.held_item.HeldItem.{HeldItem}
 use Rattle.row_locks.specs.Kept.{kept_by}
-use Rattle.row_locks.specs.Stands.{AreHeld, holder_among, holding_among, holding_of_other, told}
+use Rattle.row_locks.specs.RepresentsItems.{AreHeld, holder_among, holding_among, holding_of_other, told}
 use Rattle.row_locks.proofs.Holders.{holder-alike}
 
 -- nothing overlaps a session's items where it has none

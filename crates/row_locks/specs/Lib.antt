@@ -1,4 +1,4 @@
 pub mod Hold
 pub mod Kept
 pub mod Locks
-pub mod Stands
+pub mod RepresentsItems

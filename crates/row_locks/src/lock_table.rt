@@ -2,7 +2,7 @@ ghost use Rattle.std.specs.Prelude.{◌≡◌, ◌≢◌, ◌++◌, ℕ, List as
 ghost use Rattle.own_model.specs.declared.footprint.FootItem.{FootItem as Item};
 ghost use Rattle.history_model.specs.History.{lie_on};
 ghost use Rattle.row_locks.specs.Kept.{items_of, kept_by};
-ghost use Rattle.row_locks.specs.Stands.{AreHeld, StandFor, holder_among, holding_among, holding_of_other, told};
+ghost use Rattle.row_locks.specs.RepresentsItems.{AreHeld, RepresentsItems, holder_among, holding_among, holding_of_other, told};
 
 use crate::held_item::HeldItem;
 use crate::session_locks::SessionLocks;
@@ -102,7 +102,7 @@ impl LockTable {
         session: SessionNo,
         footprint: Footprint,
     ) -> Result<(), AllocError>
-        ensures held { OnOk result ((items : Seq Item) → StandFor (kept_by self.old session.0) items → StandFor (kept_by self.new session.0) (items ++ footprint)) }
+        ensures held { OnOk result ((items : Seq Item) → RepresentsItems (kept_by self.old session.0) items → RepresentsItems (kept_by self.new session.0) (items ++ footprint)) }
         ensures others { (other : ℕ) → other ≢ session.0 → kept_by self.new other ≡ kept_by self.old other }
         ensures unchanged { OnErr result ((number : ℕ) → kept_by self.new number ≡ kept_by self.old number) }
     {
@@ -119,7 +119,7 @@ impl LockTable {
 
     /// Whether one of the names lies on an item that a session holds. Takes no memory.
     pub fn overlaps(&self, session: SessionNo, names: &[RowName]) -> bool
-        ensures { (items : Seq Item) → StandFor (kept_by self.now session.0) items → result ≡ lie_on names.now items }
+        ensures { (items : Seq Item) → RepresentsItems (kept_by self.now session.0) items → result ≡ lie_on names.now items }
     {
         match self.locks(session) {
             None => false,

@@ -7,7 +7,7 @@ use Rattle.own_model.specs.declared.footprint.FootItem.{FootItem}
 use Rattle.own_model.specs.declared.reply.Reply.{Reply}
 use Rattle.own_model.specs.declared.statement.Statement.{Statement}
 use Rattle.own_model.specs.Db.{Db}
-use Rattle.state_model.specs.Sound.{IsKept}
+use Rattle.state_model.specs.Sound.{IsWellFormed}
 use Rattle.run_model.specs.Agree.{Agree, AgreeOn, overlaps}
 use Rattle.run_model.specs.Items.{TakesRows, items_of, items_of_all}
 use Rattle.run_model.specs.Run.{run}
@@ -55,7 +55,7 @@ none_of_both p (x ∷ xs) ys none = by (none_of_both p xs ys) (p x) none
 
 -- Statements that have footprints and keep databases kept.
 module _ (P : Statement → Type 0) (taking : (statement : Statement) → P statement → TakesRows statement)
-    (keeps : (db : Db) (statement : Statement) → P statement → IsKept db → IsKept (run db statement).db) where
+    (keeps : (db : Db) (statement : Statement) → P statement → IsWellFormed db → IsWellFormed (run db statement).db) where
   -- they leave the schema and the creates
   pub same_schema-block : (db : Db) (statements : List Statement) → Each P statements → IsSameSchema db (block_left db statements)
   same_schema-block db [] all = record { schema = refl; creates = refl }
@@ -65,12 +65,12 @@ module _ (P : Statement → Type 0) (taking : (statement : Statement) → P stat
       record { schema = rest.schema ∙ first.schema; creates = rest.creates ∙ first.creates }
 
   -- and a kept database
-  pub kept-block : (db : Db) (statements : List Statement) → Each P statements → IsKept db → IsKept (block_left db statements)
+  pub kept-block : (db : Db) (statements : List Statement) → Each P statements → IsWellFormed db → IsWellFormed (block_left db statements)
   kept-block db [] all kept = kept
   kept-block db (statement ∷ statements) all kept = kept-block (left_after db statement) statements all.1 (keeps db statement all.0 kept)
 
   -- An item that none of their items overlaps stays as it was.
-  pub still-block : (db : Db) (statements : List Statement) → Each P statements → IsKept db
+  pub still-block : (db : Db) (statements : List Statement) → Each P statements → IsWellFormed db
       → (other : FootItem) → list_any (λ own. overlaps own other) (items_of_all db.schema statements) ≡ false → AgreeOn db (block_left db statements) other
   unfolding items_of_all
   still-block db [] all kept other apart = agree_itself db other
@@ -82,7 +82,7 @@ module _ (P : Statement → Type 0) (taking : (statement : Statement) → P stat
       (still-block (left_after db statement) statements all.1 (keeps db statement all.0 kept) other
       (subst (λ schema. list_any (λ own. overlaps own other) (items_of_all schema statements) ≡ false) same both.1))
 
-  module _ (statement : Statement) (statements : List Statement) (db other : Db) (has : P statement) (kept : IsKept db) (others : IsKept other)
+  module _ (statement : Statement) (statements : List Statement) (db other : Db) (has : P statement) (kept : IsWellFormed db) (others : IsWellFormed other)
       (agree : Agree (items_of_all db.schema (statement ∷ statements)) db other) where
     -- the first statement, and what it leaves for the others
     first_agree : Agree (items_of db.schema statement) db other
@@ -98,7 +98,7 @@ module _ (P : Statement → Type 0) (taking : (statement : Statement) → P stat
         (same_items-run db other (in_place db kept) (in_place other others) statement (taking statement has) first_agree (items_of_all db.schema statements) rest)
 
   -- Databases that agree on all their items give the same replies.
-  pub same_replies-block : (statements : List Statement) (db other : Db) → Each P statements → IsKept db → IsKept other
+  pub same_replies-block : (statements : List Statement) (db other : Db) → Each P statements → IsWellFormed db → IsWellFormed other
       → Agree (items_of_all db.schema statements) db other → block_replies db statements ≡ block_replies other statements
   same_replies-block [] db other all kept others agree = refl
   same_replies-block (statement ∷ statements) db other all kept others agree =
@@ -109,7 +109,7 @@ module _ (P : Statement → Type 0) (taking : (statement : Statement) → P stat
       rw (first, rest) refl
 
   -- They agree behind them on each item on which they agreed before.
-  pub same_left-block : (statements : List Statement) (db other : Db) → Each P statements → IsKept db → IsKept other
+  pub same_left-block : (statements : List Statement) (db other : Db) → Each P statements → IsWellFormed db → IsWellFormed other
       → Agree (items_of_all db.schema statements) db other → (own : FootItem) → AgreeOn db other own → AgreeOn (block_left db statements) (block_left other statements) own
   same_left-block [] db other all kept others agree own before = before
   same_left-block (statement ∷ statements) db other all kept others agree own before =
@@ -117,7 +117,7 @@ module _ (P : Statement → Type 0) (taking : (statement : Statement) → P stat
       (rest_agree statement statements db other all.0 kept others agree) own
       (same_left-run db other (in_place db kept) (in_place other others) statement (taking statement all.0) (first_agree statement statements db other all.0 kept others agree) own before)
 
-  left_each : (statements : List Statement) (db other : Db) → Each P statements → IsKept db → IsKept other
+  left_each : (statements : List Statement) (db other : Db) → Each P statements → IsWellFormed db → IsWellFormed other
       → Agree (items_of_all db.schema statements) db other → (items : List FootItem) → Each (AgreeOn db other) items
       → Each (AgreeOn (block_left db statements) (block_left other statements)) items
   left_each statements db other all kept others agree [] before = tt
@@ -125,7 +125,7 @@ module _ (P : Statement → Type 0) (taking : (statement : Statement) → P stat
       (same_left-block statements db other all kept others agree first before.0, left_each statements db other all kept others agree rest before.1)
 
   -- and so on all of some, their own among them
-  pub same_items-block : (statements : List Statement) (db other : Db) → Each P statements → IsKept db → IsKept other
+  pub same_items-block : (statements : List Statement) (db other : Db) → Each P statements → IsWellFormed db → IsWellFormed other
       → Agree (items_of_all db.schema statements) db other → (items : List FootItem) → Agree items db other
       → Agree items (block_left db statements) (block_left other statements)
   same_items-block statements db other all kept others agree items before = record {

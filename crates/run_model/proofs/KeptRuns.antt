@@ -19,16 +19,18 @@ use Rattle.query_model.specs.Refused.{lowest}
 use Rattle.query_model.specs.Scope.{NameBytes}
 use Rattle.query_model.specs.SelectFaults.{no_table}
 use Rattle.query_model.specs.WriteFaults.{insert_faults, list_faults, tuple_faults, update_faults}
+use Rattle.schema_model.specs.OwnerSchema.{ColumnsDiffer}
 use Rattle.schema_model.proofs.Places.{all-at, append-none, flat_map-none}
 use Rattle.grammar_model.specs.Readable.{IsReadable}
 use Rattle.readable_model.proofs.Literals.{no_sums}
 use Rattle.readable_model.proofs.NoFaults.{none-lowest}
 use Rattle.state_model.specs.Rows.{AreRowsOf, IsRowOf}
-use Rattle.state_model.specs.Sound.{IsKept}
+use Rattle.state_model.specs.Sound.{IsWellFormed}
 use Rattle.state_model.proofs.CreatedLemmas.{created-rows}
-use Rattle.state_model.proofs.CreatedSchema.{plain-created}
+use Rattle.state_model.proofs.CreatedSchema.{owner_schema-created, plain-created}
 use Rattle.state_model.proofs.ForgetKept.{kept-forget}
-use Rattle.state_model.proofs.KeptLemmas.{kept-create, kept-create_view}
+use Rattle.state_model.proofs.KeyColumns.{HasKey, keyed-created}
+use Rattle.state_model.proofs.WellFormedLemmas.{kept-create, kept-create_view}
 use Rattle.state_model.proofs.PlainKinds.{IsPlainTable}
 use Rattle.run_model.specs.Insert.{with_tuples}
 use Rattle.run_model.specs.Run.{Outcome, answered, run, run_bound}
@@ -45,9 +47,9 @@ use Rattle.run_model.proofs.ShortTexts.{written-short}
 use Rattle.run_model.proofs.TableLemmas.{AreTogether, IfRows, rows-at, rows-change, rows-set, together-with_tuples}
 use Rattle.run_model.proofs.UpdatedRows.{AreSetsOf, all-rows_left, rows-updated}
 
-module _ (db : Db) (kept : IsKept db) where
+module _ (db : Db) (kept : IsWellFormed db) where
   abbrev Left : Outcome → Type 0
-  Left outcome = IsKept outcome.db
+  Left outcome = IsWellFormed outcome.db
 
   same : (reply : Reply) → Left (answered db reply)
   same reply = kept
@@ -60,7 +62,7 @@ module _ (db : Db) (kept : IsKept db) where
   rows-of number table at = rows-at db.schema.tables db.rows number table kept.rows at
 
   -- other rows that rise and may stand there
-  kept-stored : (rows : List (List Row)) → IsOrdered (record db { rows = rows }) → AreRowsOf db.schema.tables rows → IsKept (record db { rows = rows })
+  kept-stored : (rows : List (List Row)) → IsOrdered (record db { rows = rows }) → AreRowsOf db.schema.tables rows → IsWellFormed (record db { rows = rows })
   kept-stored rows ordered are = record { created = created-rows db rows kept.created; ordered = ordered; rows = are }
 
   -- tuples that may stand in a table are put
@@ -78,7 +80,7 @@ module _ (db : Db) (kept : IsKept db) where
       → IfUpdated db Left number sets cond
   kept-updated number sets cond are table at none =
       kept-stored _ (ordered-updated db kept.ordered number sets cond (λ table at. (are table at).0) table at none)
-      (rows-set db.schema.tables db.rows number table _ kept.rows at (rows-updated table sets cond (rows_at db.rows number) (are table at).1 (rows-of number table at)))
+      (rows-set db.schema.tables db.rows number table _ kept.rows at (rows-updated table sets cond (rows_at db.rows number) (are table at).0 (are table at).1 (rows-of number table at)))
 
   -- rows are deleted
   pub kept-deleted : (number : ℕ) (cond : Option BoundCond) → IfDeleted db Left number cond
@@ -90,6 +92,13 @@ module _ (db : Db) (kept : IsKept db) where
   plain-table : (number : ℕ) (table : TableDef) → slice_get db.schema.tables number ≡ Some table → IsPlainTable table
   plain-table number table at = all-at IsPlainTable db.schema.tables (plain-created db kept.created) number table at
 
+  -- each table has its primary key among its columns, whose names differ
+  key-table : (number : ℕ) (table : TableDef) → slice_get db.schema.tables number ≡ Some table → HasKey table
+  key-table number table at = all-at HasKey db.schema.tables (keyed-created db kept.created) number table at
+
+  names-table : (number : ℕ) (table : TableDef) → slice_get db.schema.tables number ≡ Some table → ColumnsDiffer table
+  names-table number table at = all-at ColumnsDiffer db.schema.tables (owner_schema-created db kept.created).names number table at
+
   -- an INSERT that can be read and has no fault
   kept-insert : (name : NameBytes) (names : Option (List NameBytes)) (tuples : List (List Value)) → IsReadable (Run (statement.Insert name names tuples))
       → lowest (insert_faults db.schema name names tuples) ≡ None → IfBound db Left (meaning db.schema (statement.Insert name names tuples))
@@ -100,7 +109,7 @@ module _ (db : Db) (kept : IsKept db) where
       let named = named-at db.schema name table parts.0 at in
       let own : list_faults table names ++ flat_map (tuple_faults table names) tuples ≡ [] = rw named at parts.1 in
       let none = flat_map-none (tuple_faults table names) tuples (append-none (list_faults table names) _ own).1 in
-      rw named (rows-put table names tuples (plain-table _ table at) (written-short STATEMENT_BYTES name names tuples readable) (no_sums name names tuples readable) none))
+      rw named (rows-put table names tuples (key-table _ table at) (names-table _ table at) (plain-table _ table at) (written-short STATEMENT_BYTES name names tuples readable) (no_sums name names tuples readable) none))
 
   -- an UPDATE
   kept-update : (name : NameBytes) (sets : Written) (cond : Option Cond) → IsReadable (Run (statement.Update name sets cond))
@@ -133,11 +142,11 @@ module _ (db : Db) (kept : IsKept db) where
   runs _ readable = tt
 
   -- a statement that can be read keeps the database one that is kept
-  pub kept-run : (found : Statement) → IsReadable (Run found) → IsKept (run db found).db
+  pub kept-run : (found : Statement) → IsReadable (Run found) → IsWellFormed (run db found).db
   kept-run found readable = of-statement db Left same found (runs found readable)
 
   -- so does what binding gives for it
-  pub kept-run_bound : (found : Statement) (meant : Bound) → IsReadable (Run found) → bound_statement db.schema found ≡ Ok meant → IsKept (run_bound db meant).db
+  pub kept-run_bound : (found : Statement) (meant : Bound) → IsReadable (Run found) → bound_statement db.schema found ≡ Ok meant → IsWellFormed (run_bound db meant).db
   kept-run_bound found meant readable is =
       let own = bound-ok db.schema found meant is in
       rw (← own.1) (of-bound db Left same (meaning db.schema found) (kept-binds found readable own.0))

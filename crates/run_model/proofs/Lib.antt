@@ -8,6 +8,7 @@ pub mod InsertFootprint
 pub mod InsertItems
 pub mod InsertLookups
 pub mod KeptRuns
+pub mod KeyedRows
 pub mod KeylessSets
 pub mod Numbered
 pub mod OrderedRuns

@@ -19,7 +19,7 @@ use Rattle.schema_model.specs.NewTable.{new_table}
 use Rattle.schema_model.specs.OwnerSchema.{IsOwnerSchema}
 use Rattle.schema_model.specs.WithTable.{with_table}
 use Rattle.state_model.specs.Create.{create, create_view, with_view}
-use Rattle.state_model.proofs.KeptLemmas.{rising-append}
+use Rattle.state_model.proofs.WellFormedLemmas.{rising-append}
 use Rattle.subject_model.proofs.ForgetOrder.{ordered-forget}
 use Rattle.run_model.specs.Insert.{with_tuples}
 use Rattle.run_model.specs.Run.{Outcome, answered, delete, insert, run, update}

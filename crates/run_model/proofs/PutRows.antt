@@ -13,12 +13,15 @@ use Rattle.own_model.specs.declared.schema.Kind.TheVariants as kind
 use Rattle.own_model.specs.declared.schema.TableDef.{TableDef}
 use Rattle.own_model.specs.TextBytes.{text_bytes, tuple_bytes}
 use Rattle.schema_model.proofs.Places.{all-at, append-none, flat_map-none}
+use Rattle.schema_model.specs.OwnerSchema.{ColumnsDiffer}
 use Rattle.query_model.specs.Kinds.{goes_with}
 use Rattle.query_model.specs.Scope.{NameBytes}
 use Rattle.query_model.specs.WriteFaults.{column_in, columns_for, columns_left, left_faults, numbered_columns, tuple_faults, value_faults, wrong_count}
 use Rattle.query_model.specs.WriteMeaning.{given, is_for, put_row}
 use Rattle.state_model.specs.Rows.{AreOfKinds, IsOfKind, IsRowOf, IsShort}
+use Rattle.state_model.proofs.KeyColumns.{HasKey}
 use Rattle.state_model.proofs.PlainKinds.{IsPlain, IsPlainColumn, IsPlainTable}
+use Rattle.run_model.proofs.KeyedRows.{keyed-put}
 use Rattle.run_model.proofs.Numbered.{IfNumbered, IsNumbered, numbered-each, numbered-found}
 use Rattle.run_model.proofs.ShortTexts.{AreShort}
 
@@ -125,10 +128,10 @@ given_row table pairs number (column ∷ columns) good at =
     ((first.fits, rest.0), (first.short, rest.1))
 
 -- the row that a tuple without faults puts
-row-put : (table : TableDef) (names : Option (List NameBytes)) (tuple : List Value) → IsPlainTable table → AllByRecursion IsShort tuple → AllByRecursion IsNoSum tuple
+row-put : (table : TableDef) (names : Option (List NameBytes)) (tuple : List Value) → HasKey table → ColumnsDiffer table → IsPlainTable table → AllByRecursion IsShort tuple → AllByRecursion IsNoSum tuple
     → tuple_faults table names tuple ≡ [] → IsRowOf table (put_row table names tuple)
 unfolding put_row
-row-put table names tuple plain short no_sums none =
+row-put table names tuple key differ plain short no_sums none =
     let pairs = zip (columns_for table names) tuple in
     let counted = append-none (wrong_count (length tuple) (length (columns_for table names)) ++ flat_map (λ pair. value_faults table pair.0 pair.1) pairs)
     (left_faults table (columns_left table names)) none in
@@ -136,15 +139,15 @@ row-put table names tuple plain short no_sums none =
     let good = good_pairs table (columns_for table names) tuple plain (targets table names) short no_sums
     (flat_map-none (λ pair. value_faults table pair.0 pair.1) pairs faultless.1) in
     let row = given_row table pairs 0 table.columns good (numbered-each table.columns) in
-    record { kinds = row.0; short = row.1 }
+    record { kinds = row.0; short = row.1; keyed = keyed-put table key differ names tuple none }
 
 -- the rows of tuples without faults
-pub rows-put : (table : TableDef) (names : Option (List NameBytes)) (tuples : List (List Value)) → IsPlainTable table → AreShort tuples
+pub rows-put : (table : TableDef) (names : Option (List NameBytes)) (tuples : List (List Value)) → HasKey table → ColumnsDiffer table → IsPlainTable table → AreShort tuples
     → AllByRecursion (AllByRecursion IsNoSum) tuples → AllByRecursion (λ tuple. tuple_faults table names tuple ≡ []) tuples
     → AllByRecursion (IsRowOf table) (map (put_row table names) tuples)
-rows-put table names [] plain short no_sums none = tt
-rows-put table names (tuple ∷ tuples) plain short no_sums none =
-    (row-put table names tuple plain short.0 no_sums.0 none.0, rows-put table names tuples plain short.1 no_sums.1 none.1)
+rows-put table names [] key differ plain short no_sums none = tt
+rows-put table names (tuple ∷ tuples) key differ plain short no_sums none =
+    (row-put table names tuple key differ plain short.0 no_sums.0 none.0, rows-put table names tuples key differ plain short.1 no_sums.1 none.1)
 
 -- the bytes that columns from a number on are given
 abbrev given_bytes : Pairs → ℕ → List Column → ℕ

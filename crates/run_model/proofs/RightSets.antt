@@ -1,8 +1,10 @@
 -- What an UPDATE sets a column to may stand there, where the UPDATE can be read and binding lets it through.
-use Rattle.std.proofs.Common.{◌≡◌, ℕ, zero, suc, ℤ, List, [], ◌∷◌, ◌++◌, Bool, true, false, refl}
-use Rattle.std.specs.Prelude.{Option, Some, None, slice_get, unwrap_or, neg_ℤ, if◌then◌else◌}
+use Rattle.std.proofs.Common.{◌≡◌, ℕ, zero, suc, ℤ, List, [], ◌∷◌, ◌++◌, Bool, true, false, refl, arith}
+use Rattle.std.specs.Prelude.{Option, Some, None, slice_get, unwrap_or, ◌^◌, ◌&&◌, ◌+ℤ◌, pos, neg_ℤ, int_le, int_lt, if◌then◌else◌}
 use Rattle.std.specs.List.{AllByRecursion}
 use Rattle.std.specs.Option.{option_map_or}
+use Rattle.std.proofs.lemmas.Bool.{and_parts}
+use Rattle.std.proofs.lemmas.Int.{ints}
 use Rattle.own_base.specs.declared.value.Value.{Value}
 use Rattle.own_base.specs.declared.value.Value.TheVariants as value
 use Rattle.own_base.specs.declared.value.Value.TheVariants.{Null}
@@ -63,14 +65,19 @@ kind_of_numbers kind.Int plain is = refl
 kind_of_numbers kind.Text plain is = cc
 kind_of_numbers kind.Sum plain is = absurd plain
 
--- a sum is a number, or NULL
-sum_step : (column : Column) (number : ℤ) → column.kind ≡ kind.Int → (b : Bool) → IsGiven column (unwrap_or (if b then Some (value.Int number) else None) Null)
-sum_step column number is true = record { fits = is; short = tt }
-sum_step column number is false = record { fits = tt; short = tt }
+-- a sum is a number of 64 bits, or NULL
+sum_step : (column : Column) (number : ℤ) → column.kind ≡ kind.Int → (b : Bool) → (int_le (neg_ℤ (pos (2 ^ 63))) number && int_lt number (pos (2 ^ 63))) ≡ b
+    → IsGiven column (unwrap_or (if b then Some (value.Int number) else None) Null)
+sum_step column number is true within =
+    let both = and_parts (int_le (neg_ℤ (pos (2 ^ 63))) number) (int_lt number (pos (2 ^ 63))) within in
+    let least = both.0 in
+    let most = both.1 in
+    record { fits = is; short = record { least = omega (arith, ints); most = omega (arith, ints) } }
+sum_step column number is false past = record { fits = tt; short = tt }
 
 sum-given : (column : Column) (found : Value) (number : ℤ) → column.kind ≡ kind.Int → IsGiven column (unwrap_or (increased found number) Null)
 sum-given column value.Null number is = record { fits = tt; short = tt }
-sum-given column (value.Int found) number is = sum_step column _ is _
+sum-given column (value.Int found) number is = sum_step column (found +ℤ number) is _ refl
 sum-given column (value.Text bytes) number is = record { fits = tt; short = tt }
 sum-given column (value.Sum found) number is = record { fits = tt; short = tt }
 

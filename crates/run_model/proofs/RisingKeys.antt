@@ -16,7 +16,7 @@ use Rattle.own_model.specs.declared.schema.TableDef.{TableDef}
 use Rattle.own_model.specs.Db.{Row, AreRising, IsRising, as_key, key_of}
 use Rattle.own_model.specs.Stored.{has_key, rows_at}
 use Rattle.own_model.proofs.KeyOrder.{key_order}
-use Rattle.query_model.specs.Truth.{keeps}
+use Rattle.query_model.specs.Truth.{cell, keeps}
 use Rattle.run_model.specs.Insert.{and_tuple, with_row, with_tuple, with_tuples}
 use Rattle.run_model.specs.Update.{Sets, rows_left, set_value, updated, updated_rows}
 use Rattle.run_model.proofs.TableLemmas.{IfRows}
@@ -172,12 +172,17 @@ none_found table [] keyless = refl
 none_found table (set ∷ sets) keyless = rw (keyless.0) (none_found table sets keyless.1)
 
 module _ (table : TableDef) (sets : Sets) (keyless : AreKeyless table sets) where
-  -- an UPDATE leaves the key of a row
+  -- an UPDATE leaves what stands in the key's column
+  pub cell-updated : (row : Row) → cell (updated sets row) table.key.0 ≡ cell row table.key.0
+  unfolding updated
+  cell-updated row =
+      kept_place (set_value sets row) 0 row table.key.0
+      (λ value. let same : 0 + table.key.0 ≡ table.key.0 = omega arith in rw same (rw (none_found table sets keyless) refl))
+
+  -- and so the key of a row
   pub key-updated : (row : Row) → key_of table (updated sets row) ≡ key_of table row
-  unfolding key_of updated
-  key-updated row =
-      ap as_key (kept_place (set_value sets row) 0 row table.key.0
-      (λ value. let same : 0 + table.key.0 ≡ table.key.0 = omega arith in rw same (rw (none_found table sets keyless) refl)))
+  unfolding key_of
+  key-updated row = ap as_key (cell-updated row)
 
   keys_step : (cond : Option BoundCond) (row : Row) → (b : Bool) → keeps cond row ≡ b
       → key_of table (if keeps cond row then updated sets row else row) ≡ key_of table row

@@ -18,7 +18,7 @@ use Rattle.own_model.specs.Stored.{has_key, row_named, rows_at}
 use Rattle.query_model.specs.Stored.{IsStored}
 use Rattle.query_model.specs.Truth.{cell}
 use Rattle.state_model.specs.Rows.{AreOfKinds, AreRowsOf, IsOfKind, IsRowOf}
-use Rattle.state_model.specs.Sound.{IsKept}
+use Rattle.state_model.specs.Sound.{IsWellFormed}
 use Rattle.run_model.specs.Agree.{AgreeOn}
 use Rattle.run_model.specs.Run.{stored}
 use Rattle.run_model.proofs.TableLemmas.{rows-at}
@@ -29,7 +29,7 @@ pub record AreInPlace (db : Db) : Type 0 where
   pub rows : AreRowsOf db.schema.tables db.rows
 
 -- those of a kept database are in place
-pub in_place : (db : Db) → IsKept db → AreInPlace db
+pub in_place : (db : Db) → IsWellFormed db → AreInPlace db
 in_place db kept = record { ordered = kept.ordered; rows = kept.rows }
 
 -- what is found is one

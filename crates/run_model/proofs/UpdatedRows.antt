@@ -1,5 +1,5 @@
 -- The rows that an UPDATE and a DELETE leave may stand in their table.
-use Rattle.std.proofs.Common.{◌≡◌, ℕ, ◌+◌, List, [], ◌∷◌, map, filter, Bool, true, false, ◌==◌, refl}
+use Rattle.std.proofs.Common.{◌≡◌, ℕ, ◌+◌, List, [], ◌∷◌, map, filter, Bool, true, false, ◌==◌, refl, sym, ◌∙◌}
 use Rattle.std.specs.Prelude.{Option, Some, slice_get, unwrap_or, if◌then◌else◌}
 use Rattle.std.specs.List.{AllByRecursion, enumerate_from}
 use Rattle.std.proofs.lemmas.Bool.{eqb-true}
@@ -17,6 +17,7 @@ use Rattle.state_model.specs.Rows.{AreOfKinds, IsRowOf, IsShort}
 use Rattle.run_model.specs.Update.{Sets, rows_left, set_value, updated, updated_rows}
 use Rattle.run_model.proofs.Numbered.{IsNumbered, numbered-each}
 use Rattle.run_model.proofs.PutRows.{IsGiven}
+use Rattle.run_model.proofs.RisingKeys.{AreKeyless, cell-updated}
 
 -- over each row of the table, what a set gives may stand in its column
 abbrev pub IsSetOf : TableDef → ColNo × BoundExpr → Type 0
@@ -54,24 +55,24 @@ module _ (table : TableDef) (row : Row) (is : IsRowOf table row) where
       ((first.fits, rest.0), (first.short, rest.1))
 
   -- a row after an UPDATE of it
-  pub row-updated : (sets : Sets) → AreSetsOf table sets → IsRowOf table (updated sets row)
+  pub row-updated : (sets : Sets) → AreKeyless table sets → AreSetsOf table sets → IsRowOf table (updated sets row)
   unfolding updated
-  row-updated sets are =
+  row-updated sets keyless are =
       let values = values_updated sets 0 table.columns row are (numbered-each table.columns) is.kinds is.short in
-      record { kinds = values.0; short = values.1 }
+      record { kinds = values.0; short = values.1; keyed = λ null. is.keyed (sym (cell-updated table sets keyless row) ∙ null) }
 
 module _ (table : TableDef) where
-  row_step : (sets : Sets) (cond : Option BoundCond) (row : Row) → AreSetsOf table sets → IsRowOf table row → (b : Bool) → keeps cond row ≡ b
+  row_step : (sets : Sets) (cond : Option BoundCond) (row : Row) → AreKeyless table sets → AreSetsOf table sets → IsRowOf table row → (b : Bool) → keeps cond row ≡ b
       → IsRowOf table (if keeps cond row then updated sets row else row)
-  row_step sets cond row are is true kept = rw kept (row-updated table row is sets are)
-  row_step sets cond row are is false kept = rw kept is
+  row_step sets cond row keyless are is true kept = rw kept (row-updated table row is sets keyless are)
+  row_step sets cond row keyless are is false kept = rw kept is
 
   -- the rows of a table after an UPDATE
-  pub rows-updated : (sets : Sets) (cond : Option BoundCond) (rows : List Row) → AreSetsOf table sets → AllByRecursion (IsRowOf table) rows
+  pub rows-updated : (sets : Sets) (cond : Option BoundCond) (rows : List Row) → AreKeyless table sets → AreSetsOf table sets → AllByRecursion (IsRowOf table) rows
       → AllByRecursion (IsRowOf table) (updated_rows sets cond rows)
   unfolding updated_rows
-  rows-updated sets cond [] are all = tt
-  rows-updated sets cond (row ∷ rows) are all = (row_step sets cond row are all.0 _ refl, rows-updated sets cond rows are all.1)
+  rows-updated sets cond [] keyless are all = tt
+  rows-updated sets cond (row ∷ rows) keyless are all = (row_step sets cond row keyless are all.0 _ refl, rows-updated sets cond rows keyless are all.1)
 
 -- what holds of each row holds of each that is left
 left_step : (P : Row → Type 0) (test : Row → Bool) (row : Row) (rows : List Row) → P row → AllByRecursion P (filter test rows) → (b : Bool) → test row ≡ b

@@ -1,4 +1,4 @@
--- The tables that names stand for, among tables.
+-- The tables that names represent, among tables.
 use Rattle.std.proofs.Common.{◌≡◌, ℕ, Bool, true, false, cond, List, [], ◌∷◌, ◌++◌, length, slice_get, nat_lt, Option, None, Some, refl, sym, ap, ◌∙◌, bytes_eq, arith}
 use Rattle.std.specs.List.{find, position, position_or_len}
 use Rattle.std.specs.Option.{option_and_then, option_or, option_map}

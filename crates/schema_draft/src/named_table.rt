@@ -1,4 +1,4 @@
-//! The tables that names and numbers stand for, over a schema and the table that a CREATE adds.
+//! The tables that names and numbers represent, over a schema and the table that a CREATE adds.
 ghost use Rattle.std.specs.Prelude.{◌≡◌, ◌<◌, ◌^◌, ◌++◌, ◌∷◌, [], bytes_eq, find, length, slice_get, if◌then◌else◌};
 ghost use Rattle.std.specs.Option.{option_copied};
 ghost use Rattle.own_model.specs.declared.create.CreateTable.{CreateTable};

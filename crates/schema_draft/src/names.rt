@@ -40,7 +40,7 @@ impl Names {
         }
     }
 
-    /// The names of a schema. Where one stands for more than one table or view, it stands for the first table, or else
+    /// The names of a schema. Where one represents more than one table or view, it represents the first table, or else
     /// for the first view.
     pub fn of(alloc: Global, schema: &Schema) -> Result<Names, AllocError>
         requires tables { length schema.now.tables < 2 ^ 32 }

@@ -1,6 +1,7 @@
 pub mod Admitted
-pub mod ClosedWalks
+pub mod Cycles
 pub mod EdgeEnds
+pub mod EdgeOrder
 pub mod Found
 pub mod KeyLemmas
 pub mod LimitLemmas

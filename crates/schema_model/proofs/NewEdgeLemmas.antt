@@ -1,5 +1,5 @@
 -- The edges that a CREATE TABLE adds, each of a column of the new table.
-use Rattle.std.proofs.Common.{◌≡◌, ℕ, zero, suc, ◌+◌, ◌≤◌, List, [], ◌∷◌, length, Bool, true, false, cond, refl, ap, sym, ◌∙◌, arith}
+use Rattle.std.proofs.Common.{◌≡◌, ℕ, zero, suc, ◌+◌, ◌<◌, ◌≤◌, List, [], ◌∷◌, length, Bool, true, false, cond, refl, ap, sym, ◌∙◌, arith}
 use Rattle.std.specs.Prelude.{Option, Some, None, slice_get, filter_map}
 use Rattle.std.specs.List.{cons_option, enumerate_from}
 use Rattle.own_base.specs.declared.number.TableNo.{TableNo}
@@ -8,7 +8,7 @@ use Rattle.own_model.specs.declared.schema.Column.{Column}
 use Rattle.own_model.specs.declared.schema.Edge.{Edge}
 use Rattle.own_model.specs.declared.schema.RefKind.{RefKind}
 use Rattle.own_model.specs.declared.schema.Schema.{Schema}
-use Rattle.schema_model.specs.Kinds.{gives_edge, is_upward}
+use Rattle.schema_model.specs.Kinds.{gives_edge, gives_ownership, is_upward}
 use Rattle.schema_model.specs.NewEdges.{EdgeColumn, edge_column, edge_columns, new_edge, new_edges}
 use Rattle.schema_model.specs.NewTable.{new_table}
 use Rattle.schema_model.proofs.Places.{IsIn, of_filter_map, slice_get-enumerate_from, slice_get-of_map}
@@ -71,6 +71,11 @@ new_edge-made schema create edge (at, is) =
       gives = record { number_is = refl; name = given.name; refers = given.refers; gives = given.gives };
     }
 
+-- by the column at its own place
+pub new_edge-place : (schema : Schema) (create : CreateTable) (edge : Edge) (at : ℕ) (is : slice_get (new_edges schema create) at ≡ Some edge) → (new_edge-made schema create edge (at, is)).place ≡ at
+unfolding new_edge-made
+new_edge-place schema create edge at is = refl
+
 -- the columns that give edges, from a number on
 columns_from : ℕ → List Column → List EdgeColumn
 columns_from number columns = filter_map (λ numbered. edge_column numbered.0 numbered.1) (enumerate_from number columns)
@@ -109,6 +114,32 @@ one_from number [] from also equal one other at there = cc
 one_from number (column ∷ columns) from also equal one other at there =
     one_step number column columns one other from also (edge_column number column) refl (one_from (number + 1) columns from also equal) equal at there
 
+-- those that stand later have greater ones
+rising_step : (number : ℕ) (column : Column) (columns : List Column) (one other : ℕ) (from also : EdgeColumn) → (o : Option EdgeColumn) → edge_column number column ≡ o
+    → ((one other : ℕ) → one < other → slice_get (columns_from (number + 1) columns) one ≡ Some from → slice_get (columns_from (number + 1) columns) other ≡ Some also → from.column < also.column)
+    → one < other
+    → slice_get (cons_option o (columns_from (number + 1) columns)) one ≡ Some from → slice_get (cons_option o (columns_from (number + 1) columns)) other ≡ Some also → from.column < also.column
+rising_step number column columns one other from also None is more before at there = more one other before at there
+rising_step number column columns one zero from also (Some first) is more before at there = absurd (omega arith)
+rising_step number column columns zero (suc other) from also (Some first) is more before at there =
+    let same : first ≡ from = cc in
+    let own = (gives number column first is).number_is in
+    let later = least (number + 1) columns also (other, there) in
+    let n : first.column ≡ from.column = ap (λ from. from.column) same in omega arith
+rising_step number column columns (suc one) (suc other) from also (Some first) is more before at there = more one other (omega arith) at there
+
+rising_from : (number : ℕ) (columns : List Column) (from also : EdgeColumn) (one other : ℕ) → one < other
+    → slice_get (columns_from number columns) one ≡ Some from → slice_get (columns_from number columns) other ≡ Some also → from.column < also.column
+unfolding columns_from
+rising_from number [] from also one other before at there = cc
+rising_from number (column ∷ columns) from also one other before at there =
+    rising_step number column columns one other from also (edge_column number column) refl (rising_from (number + 1) columns from also) before at there
+
+pub rising_columns : (schema : Schema) (create : CreateTable) (from also : EdgeColumn) (one other : ℕ) → one < other
+    → slice_get (edge_columns schema create) one ≡ Some from → slice_get (edge_columns schema create) other ≡ Some also → from.column < also.column
+unfolding columns_from
+rising_columns schema create = rising_from 0 (new_table schema create).columns
+
 -- a column gives one edge
 pub one_new_edge : (schema : Schema) (create : CreateTable) (one other : Edge) (by : IsNewEdge schema create one) (too : IsNewEdge schema create other)
     → by.from.column ≡ too.from.column → one ≡ other
@@ -132,6 +163,11 @@ module _ (schema : Schema) (create : CreateTable) (edge : Edge) (by : IsNewEdge 
   pub new_column_no : edge.column.0 ≡ by.from.column
   unfolding new_edge
   new_column_no = ap (λ edge. edge.column.0) by.edge_is
+
+  -- whether it is one of owners its kind says
+  pub new_owner : edge.owner ≡ gives_ownership by.from.kind
+  unfolding new_edge
+  new_owner = ap (λ edge. edge.owner) by.edge_is
 
   -- an edge up from the new table has it as the lower one
   pub lower_up : is_upward by.from.kind ≡ true → edge.lower ≡ record { 0 = length schema.tables }

@@ -1,6 +1,6 @@
 -- The edges of the schema that an admitted CREATE TABLE gives, and that no walk over them is closed.
 use Rattle.std.proofs.Common.{◌≡◌, ◌≢◌, ℕ, ◌+◌, ◌<◌, ◌≤◌, [], ◌∷◌, ◌++◌, length, Bool, true, false, inl, inr, refl, ap, sym, ◌∙◌, arith}
-use Rattle.std.specs.Prelude.{◌⊎◌, Some, slice_get}
+use Rattle.std.specs.Prelude.{◌⊎◌, Some, slice_get, if◌then◌else◌}
 use Rattle.std.specs.List.{AllByRecursion}
 use Rattle.std.proofs.lemmas.Bool.{cases_lt, cond-false, cond-true, eq-eqb, ne_eqb}
 use Rattle.own_model.specs.declared.create.CreateTable.{CreateTable}
@@ -13,9 +13,9 @@ use Rattle.schema_model.specs.NewTable.{new_table}
 use Rattle.schema_model.specs.OwnerSchema.{IsOwnerEdge, IsOwnerSchema, named_table}
 use Rattle.schema_model.specs.WithTable.{with_table}
 use Rattle.schema_model.proofs.Admitted.{IsAdmitted}
-use Rattle.schema_model.proofs.ClosedWalks.{leads-edge, leads-none, leads-unclosed}
+use Rattle.schema_model.proofs.Cycles.{leads-edge, leads-none, leads-unclosed}
 use Rattle.schema_model.proofs.EdgeEnds.{ends-all}
-use Rattle.schema_model.proofs.NewEdgeLemmas.{IsNewEdge, lower_down, lower_up, new_column_no, new_edge-made, new_holder, upper_down, upper_up}
+use Rattle.schema_model.proofs.NewEdgeLemmas.{IsNewEdge, lower_down, lower_up, new_column_no, new_edge-made, new_holder, new_owner, upper_down, upper_up}
 use Rattle.schema_model.proofs.Places.{all-append, all-from_places, all-weaker, slice_get-append, slice_get-append_after, slice_get-push}
 
 module _ (schema : Schema) (create : CreateTable) (owner : IsOwnerSchema schema) (admitted : IsAdmitted schema create) where
@@ -55,6 +55,10 @@ module _ (schema : Schema) (create : CreateTable) (owner : IsOwnerSchema schema)
         let same : edge.holder ≡ edge.upper = new_holder schema create edge by ∙ sym (upper_down schema create edge by down) in
         cond-false _ edge.upper edge.lower (ne_eqb edge.holder.0 edge.lower.0 (λ equal. differ (sym equal ∙ ap (λ table. table.0) same))) ∙ lower_down schema create edge by down
 
+    side_case : (b : Bool) → is_upward by.from.kind ≡ b → edge.holder ≡ (if b then edge.lower else edge.upper)
+    side_case true up = new_holder schema create edge by ∙ sym (lower_up schema create edge by up)
+    side_case false down = new_holder schema create edge by ∙ sym (upper_down schema create edge by down)
+
     new_is_edge : IsOwnerEdge (with_table schema create) edge
     unfolding with_table
     new_is_edge =
@@ -70,6 +74,8 @@ module _ (schema : Schema) (create : CreateTable) (owner : IsOwnerSchema schema)
           kind = by.from.kind;
           refers = rw named by.gives.refers;
           edges = by.gives.gives;
+          side = side_case _ refl;
+          owner = new_owner schema create edge by;
         }
 
   old_is_edge : (edge : Edge) → IsOwnerEdge schema edge → IsOwnerEdge (with_table schema create) edge
@@ -84,6 +90,8 @@ module _ (schema : Schema) (create : CreateTable) (owner : IsOwnerSchema schema)
     kind = own.kind;
     refers = own.refers;
     edges = own.edges;
+    side = own.side;
+    owner = own.owner;
   }
 
   -- each edge is one of an owner schema

@@ -45,7 +45,7 @@ names_in columns set = filter_map (λ numbered. if has_column set numbered.0 the
 abbrev pub bracketed_names : List NameBytes → List ℕ
 bracketed_names names = codes "(" ++ join_by (λ name. name) (codes ", ") names ++ codes ")"
 
--- what stands for a rule that names these columns, where it names any
+-- what represents a rule that names these columns, where it names any
 abbrev pub rule_text : List ℕ → List NameBytes → List ℕ
 rule_text word [] = []
 rule_text word (name ∷ names) = codes " " ++ word ++ codes " " ++ bracketed_names (name ∷ names)

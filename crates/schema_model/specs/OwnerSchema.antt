@@ -1,5 +1,5 @@
 -- What holds of the schema that admitted creates give.
-use Rattle.std.specs.Prelude.{◌≡◌, ◌≢◌, ◌⊎◌, ℕ, true, false, ◌==◌, Some, length, map, slice_get, bytes_eq, IsTrue, if◌then◌else◌}
+use Rattle.std.specs.Prelude.{◌≡◌, ◌≢◌, ◌⊎◌, ◌<◌, ℕ, List, true, false, ◌==◌, Some, length, map, slice_get, bytes_eq, IsTrue, if◌then◌else◌}
 use Rattle.std.specs.List.{AllByRecursion, IsDistinct, range_with_len}
 use Rattle.own_base.specs.declared.number.TableNo.{TableNo}
 use Rattle.own_model.specs.declared.schema.Column.{Column}
@@ -9,7 +9,7 @@ use Rattle.own_model.specs.declared.schema.Schema.{Schema}
 use Rattle.own_model.specs.declared.schema.TableDef.{TableDef}
 use Rattle.owner_model.specs.ColumnSets.{has_column}
 use Rattle.owner_model.specs.Leads.{leads}
-use Rattle.schema_model.specs.Kinds.{gives_edge}
+use Rattle.schema_model.specs.Kinds.{gives_edge, gives_ownership, is_upward}
 use Rattle.schema_model.specs.Tables.{is_private, is_subject}
 
 -- no two columns of a table have one name
@@ -34,6 +34,8 @@ abbrev pub named_table : Edge → TableNo
 named_table edge = if edge.holder.0 == edge.lower.0 then edge.upper else edge.lower
 
 -- An edge joins two tables that differ. One of them holds its column, which refers to the other by a kind that gives an edge.
+-- The kind says which: the lower one with OWNED_BY and ACCESSED_BY, the upper one with OWNS and ACCESSES; and whether the edge
+-- is one of owners.
 pub record IsOwnerEdge (schema : Schema) (edge : Edge) : Type 0 where
   pub differ : edge.lower.0 ≢ edge.upper.0
   pub held : (edge.holder ≡ edge.lower) ⊎ (edge.holder ≡ edge.upper)
@@ -44,6 +46,28 @@ pub record IsOwnerEdge (schema : Schema) (edge : Edge) : Type 0 where
   pub kind : RefKind
   pub refers : column.refers ≡ Some (kind, named_table edge)
   pub edges : IsTrue (gives_edge kind)
+  pub side : edge.holder ≡ (if is_upward kind then edge.lower else edge.upper)
+  pub owner : edge.owner ≡ gives_ownership kind
+
+-- the edge of a column: that of a number, of the table of a number
+pub record HasEdge (edges : List Edge) (table column : ℕ) : Type 0 where
+  pub place : ℕ
+  pub edge : Edge
+  pub edge_is : slice_get edges place ≡ Some edge
+  pub holder_is : edge.holder.0 ≡ table
+  pub column_is : edge.column.0 ≡ column
+
+-- each column that refers by a kind that gives an edge has it
+abbrev pub ColumnsHaveEdges : List Edge → List TableDef → Type 0
+ColumnsHaveEdges edges tables = (number place : ℕ) (table : TableDef) (column : Column) (link : RefKind × TableNo) → slice_get tables number ≡ Some table
+    → slice_get table.columns place ≡ Some column → column.refers ≡ Some link → IsTrue (gives_edge link.0) → HasEdge edges number place
+
+-- edges stand by the table that holds the column, then by column, each column once
+abbrev pub ComesBefore : Edge → Edge → Type 0
+ComesBefore edge other = (edge.holder.0 < other.holder.0) ⊎ ((edge.holder ≡ other.holder) × (edge.column.0 < other.column.0))
+
+abbrev pub EdgesRise : List Edge → Type 0
+EdgesRise edges = (place behind : ℕ) (edge other : Edge) → place < behind → slice_get edges place ≡ Some edge → slice_get edges behind ≡ Some other → ComesBefore edge other
 
 -- What one edge rules ON DEL is neither a key of the lower table nor a column of an edge, unless it is its own column and
 -- the edge leads up to a table of data subjects.
@@ -59,6 +83,8 @@ pub record IsOwnerSchema (schema : Schema) : Type 0 where
   pub names : AllByRecursion ColumnsDiffer schema.tables
   pub columns : AllByRecursion (ColumnsRefer schema) schema.tables
   pub edges : AllByRecursion (IsOwnerEdge schema) schema.edges
+  pub each : ColumnsHaveEdges schema.edges schema.tables
+  pub rise : EdgesRise schema.edges
   pub rules : AllByRecursion (RulesWell schema) schema.edges
   -- no walk leads from a table back to it
   pub acyclic : (table : ℕ) → leads schema.edges table table ≡ false

@@ -62,7 +62,7 @@ first_broken rule ((name ∷ names) ∷ rules) = Some (BadSchema rule name)
 abbrev pub name_of : Schema → CreateTable → ℕ → NameBytes
 name_of schema create table = option_map_or (λ definition. definition.name) (slice_get (tables_with schema create) table) []
 
--- the closed walk that the edges would have with the new ones
+-- the cycle that the edges would have with the new ones
 abbrev pub closed : Schema → CreateTable → Option Why
 closed schema create = option_map (λ cycle. Cycle (name_of schema create cycle.table) (name_of schema create cycle.through))
     (cycle_of (length schema.tables + 1) (schema.edges ++ new_edges schema create))

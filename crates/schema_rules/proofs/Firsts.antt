@@ -43,9 +43,9 @@ filter-map {A} {B} passes make (item ∷ items) = by (passes (make item)) (filte
     by true made kept e = ap (λ rest. make item ∷ rest) e
     by false made kept e = e
 
--- where what is told of all the items up to the last is nothing, nothing is
-pub none_of_all : {A : Type 0} (told : List A → List NameBytes) (items : List A) (index : ℕ) → length items ≤ index → told (take index items) ≡ [] → None ≡ slice_get (told items) 0
-none_of_all told items index past none = sym (ap (λ names. slice_get names 0) (ap told (sym (take_all index items past)) ∙ none))
+-- where what is reported of all the items up to the last is nothing, nothing is
+pub none_of_all : {A : Type 0} (reported : List A → List NameBytes) (items : List A) (index : ℕ) → length items ≤ index → reported (take index items) ≡ [] → None ≡ slice_get (reported items) 0
+none_of_all reported items index past none = sym (ap (λ names. slice_get names 0) (ap reported (sym (take_all index items past)) ∙ none))
 
 -- a list without a first is empty
 empty-from_none : {A : Type 0} (items : List A) → None ≡ slice_get items 0 → items ≡ []
@@ -71,21 +71,21 @@ first-append : (name : NameBytes) (names others : List NameBytes) → Some name 
 first-append name [] others first = cc
 first-append name (other ∷ names) others first = first
 
-module _ {A : Type 0} (told : A → List NameBytes) (items : List A) (index : ℕ) (item : A) (within : index < length items) (here : item ≡ get_or items index item)
-    (none : flat_map told (take index items) ≡ []) where
-  -- an item of which nothing is told adds nothing
-  pub flat_map_none : None ≡ slice_get (told item) 0 → flat_map told (take (index + 1) items) ≡ []
+module _ {A : Type 0} (reported : A → List NameBytes) (items : List A) (index : ℕ) (item : A) (within : index < length items) (here : item ≡ get_or items index item)
+    (none : flat_map reported (take index items) ≡ []) where
+  -- an item of which nothing is reported adds nothing
+  pub flat_map_none : None ≡ slice_get (reported item) 0 → flat_map reported (take (index + 1) items) ≡ []
   flat_map_none empty =
-      ap (flat_map told) (take_more items index item within ∙ ap (λ found. take index items ++ found ∷ []) (sym here))
-      ∙ flat_map-append told (take index items) (item ∷ [])
-      ∙ ap (λ before. before ++ (told item ++ [])) none
-      ∙ append-nil (told item) ∙ empty-from_none (told item) empty
+      ap (flat_map reported) (take_more items index item within ∙ ap (λ found. take index items ++ found ∷ []) (sym here))
+      ∙ flat_map-append reported (take index items) (item ∷ [])
+      ∙ ap (λ before. before ++ (reported item ++ [])) none
+      ∙ append-nil (reported item) ∙ empty-from_none (reported item) empty
 
-  -- the first name of an item of which one is told is the first of all
-  pub flat_map_first : (name : NameBytes) → Some name ≡ slice_get (told item) 0 → Some name ≡ slice_get (flat_map told items) 0
+  -- the first name of an item of which one is reported is the first of all
+  pub flat_map_first : (name : NameBytes) → Some name ≡ slice_get (reported item) 0 → Some name ≡ slice_get (flat_map reported items) 0
   flat_map_first name first =
-      first-append name (told item) (flat_map told (drop (index + 1) items)) first
+      first-append name (reported item) (flat_map reported (drop (index + 1) items)) first
       ∙ sym (ap (λ names. slice_get names 0)
-      (ap (flat_map told) (sym (take-append-drop index items) ∙ ap (λ rest. take index items ++ rest) (drop_more items index item within ∙ ap (λ found. found ∷ drop (index + 1) items) (sym here)))
-      ∙ flat_map-append told (take index items) (item ∷ drop (index + 1) items)
-      ∙ ap (λ before. before ++ (told item ++ flat_map told (drop (index + 1) items))) none))
+      (ap (flat_map reported) (sym (take-append-drop index items) ∙ ap (λ rest. take index items ++ rest) (drop_more items index item within ∙ ap (λ found. found ∷ drop (index + 1) items) (sym here)))
+      ∙ flat_map-append reported (take index items) (item ∷ drop (index + 1) items)
+      ∙ ap (λ before. before ++ (reported item ++ flat_map reported (drop (index + 1) items))) none))

@@ -1,4 +1,4 @@
 pub mod FirstBroken
 pub mod Firsts
 pub mod Repeats
-pub mod Told
+pub mod Reported

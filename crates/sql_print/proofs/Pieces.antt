@@ -29,7 +29,7 @@ last_piece write begun rest all so_far same = ap (λ l. begun ++ l) (sym (flat_m
 abbrev pub double_quote : ℕ → List ℕ
 double_quote byte = if byte == 39 then 39 ∷ 39 ∷ [] else byte ∷ []
 
--- a byte that is no quote stands for itself
+-- a byte that is no quote represents itself
 pub no_quote-same : (bytes : List ℕ) → All (λ byte. byte ≢ 39) bytes → All (λ byte. double_quote byte ≡ byte ∷ []) bytes
 no_quote-same bytes plain = λ k d within.
     elim (eqb_tells (get_or bytes k d) 39) [

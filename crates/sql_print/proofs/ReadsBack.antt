@@ -33,7 +33,7 @@ token-sound Number bytes start spelled = tt
 token-sound Quoted bytes start spelled = tt
 token-sound Mark bytes start spelled = tt
 
--- what stands for a byte that begins no token is sound
+-- what represents a byte that begins no token is sound
 lost-sound : (lexing : Lexing) (token : Token) → IsLost lexing token → IsSound (terminal_of token)
 lost-sound lexing token lost = subst (λ kind. IsSound (Written kind token.text.now token.start)) (sym lost.kind) tt
 

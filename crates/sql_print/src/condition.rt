@@ -5,7 +5,7 @@ ghost use Rattle.sql_print.specs.Parts.{null_test_words};
 ghost use Rattle.sql_print.specs.Spaces.{after_spaces};
 ghost use Rattle.sql_print.specs.Within.{has_brackets, part_words, separator_of};
 
-use crate::draft::Draft;
+use crate::text_buffer::TextBuffer;
 use crate::word::Worded;
 use own_model::{Cmp, ColRef, Cond, Operand};
 use std::alloc::AllocError;
@@ -29,10 +29,10 @@ impl Worded for Operand {
     ghost words = { operand_words };
 
     #[tactic(auto, unfolding(text_model::specs::Condition::operand_words))]
-    fn push_words(&self, draft: &mut Draft) -> Result<(), AllocError> {
+    fn push_words(&self, buffer: &mut TextBuffer) -> Result<(), AllocError> {
         match self {
-            Operand::Column(column) => column.push_words(draft),
-            Operand::Literal(value) => value.push_words(draft),
+            Operand::Column(column) => column.push_words(buffer),
+            Operand::Literal(value) => value.push_words(buffer),
         }
     }
 }
@@ -70,59 +70,59 @@ impl Within {
 
 /// Writes a comparison.
 fn push_comparison(
-    draft: &mut Draft,
+    buffer: &mut TextBuffer,
     left: &ColRef,
     comparison: Cmp,
     right: &Operand,
 ) -> Result<(), AllocError>
-    ensures { OnOk result (draft.new ≡ draft.old ++ after_spaces (column_words left.now ++ cmp_word comparison ∷ operand_words right.now)) }
+    ensures { OnOk result (buffer.new ≡ buffer.old ++ after_spaces (column_words left.now ++ cmp_word comparison ∷ operand_words right.now)) }
 {
-    left.push_words(draft)?;
-    draft.push(" ")?;
-    draft.push(sign_of(comparison))?;
-    right.push_words(draft)?;
+    left.push_words(buffer)?;
+    buffer.push(" ")?;
+    buffer.push(sign_of(comparison))?;
+    right.push_words(buffer)?;
     Ok(())
 }
 
 /// Writes a test for NULL.
-fn push_null_test(draft: &mut Draft, column: &ColRef, negated: bool) -> Result<(), AllocError>
-    ensures { OnOk result (draft.new ≡ draft.old ++ after_spaces (null_test_words column.now negated)) }
+fn push_null_test(buffer: &mut TextBuffer, column: &ColRef, negated: bool) -> Result<(), AllocError>
+    ensures { OnOk result (buffer.new ≡ buffer.old ++ after_spaces (null_test_words column.now negated)) }
 {
-    column.push_words(draft)?;
+    column.push_words(buffer)?;
     if negated {
-        draft.push(" IS NOT NULL")?;
+        buffer.push(" IS NOT NULL")?;
     } else {
-        draft.push(" IS NULL")?;
+        buffer.push(" IS NULL")?;
     }
     Ok(())
 }
 
 /// Writes a part of a condition, in brackets where it has to stand in them.
 #[cycle(condition)]
-fn push_part(draft: &mut Draft, part: &Cond, within: Within) -> Result<(), AllocError>
-    ensures { OnOk result (draft.new ≡ draft.old ++ after_spaces (part_words within (written part.now))) }
+fn push_part(buffer: &mut TextBuffer, part: &Cond, within: Within) -> Result<(), AllocError>
+    ensures { OnOk result (buffer.new ≡ buffer.old ++ after_spaces (part_words within (written part.now))) }
 {
     if !within.has_brackets(part) {
-        return push_condition(draft, part);
+        return push_condition(buffer, part);
     }
-    draft.push(" (")?;
-    push_condition(draft, part)?;
-    draft.push(" )")?;
+    buffer.push(" (")?;
+    push_condition(buffer, part)?;
+    buffer.push(" )")?;
     Ok(())
 }
 
 /// Writes parts, with AND or OR between.
 #[cycle(condition)]
-fn push_parts(draft: &mut Draft, parts: &[Cond], within: Within) -> Result<(), AllocError>
-    ensures { OnOk result (draft.new ≡ draft.old ++ after_spaces (separated (separator_of within) (λ part. part_words within (written part)) parts.now)) }
+fn push_parts(buffer: &mut TextBuffer, parts: &[Cond], within: Within) -> Result<(), AllocError>
+    ensures { OnOk result (buffer.new ≡ buffer.old ++ after_spaces (separated (separator_of within) (λ part. part_words within (written part)) parts.now)) }
 {
     match parts {
         [] => Ok(()),
         [first, rest @ ..] => {
-            push_part(draft, first, within)?;
+            push_part(buffer, first, within)?;
             for part in rest {
-                draft.push(within.separator())?;
-                push_part(draft, part, within)?;
+                buffer.push(within.separator())?;
+                push_part(buffer, part, within)?;
             }
             Ok(())
         }
@@ -132,20 +132,20 @@ fn push_parts(draft: &mut Draft, parts: &[Cond], within: Within) -> Result<(), A
 /// Writes a condition.
 #[cycle(condition)]
 #[tactic(auto, using(crate::proofs::Conditions::words))]
-pub fn push_condition(draft: &mut Draft, cond: &Cond) -> Result<(), AllocError>
-    ensures { OnOk result (draft.new ≡ draft.old ++ after_spaces (cond_words cond.now)) }
+pub fn push_condition(buffer: &mut TextBuffer, cond: &Cond) -> Result<(), AllocError>
+    ensures { OnOk result (buffer.new ≡ buffer.old ++ after_spaces (cond_words cond.now)) }
 {
     match cond {
-        Cond::Every(parts) => push_parts(draft, parts.items(), Within::And),
-        Cond::Some1(parts) => push_parts(draft, parts.items(), Within::Or),
+        Cond::Every(parts) => push_parts(buffer, parts.items(), Within::And),
+        Cond::Some1(parts) => push_parts(buffer, parts.items(), Within::Or),
         Cond::Not(part) => {
-            draft.push(" NOT")?;
-            push_part(draft, part.get(), Within::And)?;
+            buffer.push(" NOT")?;
+            push_part(buffer, part.get(), Within::And)?;
             Ok(())
         }
         Cond::Compare(left, comparison, right) => {
-            push_comparison(draft, left, *comparison, right)
+            push_comparison(buffer, left, *comparison, right)
         }
-        Cond::IsNull(column, negated) => push_null_test(draft, column, *negated),
+        Cond::IsNull(column, negated) => push_null_test(buffer, column, *negated),
     }
 }

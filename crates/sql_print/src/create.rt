@@ -4,8 +4,8 @@ ghost use Rattle.text_model.specs.Words.{bracketed, names_words, spaced, word};
 ghost use Rattle.sql_print.specs.Parts.{subject_words};
 ghost use Rattle.sql_print.specs.Spaces.{after_spaces};
 
-use crate::draft::Draft;
 use crate::select::push_select;
+use crate::text_buffer::TextBuffer;
 use crate::word::{Worded, push_all, push_bracketed};
 use own_base::{List, Name};
 use own_model::{Attr, ColumnDef, CreateTable, CreateView, Kind, Part, RefDef, RefKind};
@@ -36,12 +36,12 @@ fn ref_kind_word(kind: RefKind) -> &'static str
 }
 
 /// Writes a column in brackets.
-fn push_column(draft: &mut Draft, column: &Name) -> Result<(), AllocError>
-    ensures { OnOk result (draft.new ≡ draft.old ++ after_spaces (bracketed (word column.now))) }
+fn push_column(buffer: &mut TextBuffer, column: &Name) -> Result<(), AllocError>
+    ensures { OnOk result (buffer.new ≡ buffer.old ++ after_spaces (bracketed (word column.now))) }
 {
-    draft.push(" (")?;
-    column.push_words(draft)?;
-    draft.push(" )")?;
+    buffer.push(" (")?;
+    column.push_words(buffer)?;
+    buffer.push(" )")?;
     Ok(())
 }
 
@@ -49,11 +49,11 @@ impl Worded for RefDef {
     ghost words = { refers_words };
 
     #[tactic(auto, unfolding(text_model::specs::Canonical::refers_words))]
-    fn push_words(&self, draft: &mut Draft) -> Result<(), AllocError> {
-        draft.push(" ")?;
-        draft.push(ref_kind_word(self.kind))?;
-        self.table.push_words(draft)?;
-        push_column(draft, &self.column)?;
+    fn push_words(&self, buffer: &mut TextBuffer) -> Result<(), AllocError> {
+        buffer.push(" ")?;
+        buffer.push(ref_kind_word(self.kind))?;
+        self.table.push_words(buffer)?;
+        push_column(buffer, &self.column)?;
         Ok(())
     }
 }
@@ -62,12 +62,12 @@ impl Worded for Attr {
     ghost words = { attr_words };
 
     #[tactic(auto, unfolding(text_model::specs::Canonical::attr_words))]
-    fn push_words(&self, draft: &mut Draft) -> Result<(), AllocError> {
+    fn push_words(&self, buffer: &mut TextBuffer) -> Result<(), AllocError> {
         match self {
-            Attr::Key => draft.push(" PRIMARY KEY"),
-            Attr::NotNull => draft.push(" NOT NULL"),
-            Attr::Unique => draft.push(" UNIQUE"),
-            Attr::Refers(refers) => refers.push_words(draft),
+            Attr::Key => buffer.push(" PRIMARY KEY"),
+            Attr::NotNull => buffer.push(" NOT NULL"),
+            Attr::Unique => buffer.push(" UNIQUE"),
+            Attr::Refers(refers) => refers.push_words(buffer),
         }
     }
 }
@@ -76,28 +76,28 @@ impl Worded for ColumnDef {
     ghost words = { column_def_words };
 
     #[tactic(auto, unfolding(text_model::specs::Canonical::column_def_words))]
-    fn push_words(&self, draft: &mut Draft) -> Result<(), AllocError> {
-        self.name.push_words(draft)?;
-        draft.push(" ")?;
-        draft.push(kind_word(self.kind))?;
-        push_all(draft, self.attrs.items())?;
+    fn push_words(&self, buffer: &mut TextBuffer) -> Result<(), AllocError> {
+        self.name.push_words(buffer)?;
+        buffer.push(" ")?;
+        buffer.push(kind_word(self.kind))?;
+        push_all(buffer, self.attrs.items())?;
         Ok(())
     }
 }
 
 /// Writes the rule of a column that lists others.
 fn push_rule(
-    draft: &mut Draft,
+    buffer: &mut TextBuffer,
     event: &str,
     column: &Name,
     ruled: &List<Name>,
 ) -> Result<(), AllocError>
-    ensures { OnOk result (draft.new ≡ draft.old ++ (event.now ++ after_spaces (column.now ∷ codes "ANON" ∷ bracketed (names_words ruled.now)))) }
+    ensures { OnOk result (buffer.new ≡ buffer.old ++ (event.now ++ after_spaces (column.now ∷ codes "ANON" ∷ bracketed (names_words ruled.now)))) }
 {
-    draft.push(event)?;
-    column.push_words(draft)?;
-    draft.push(" ANON")?;
-    push_bracketed(draft, ruled.items())?;
+    buffer.push(event)?;
+    column.push_words(buffer)?;
+    buffer.push(" ANON")?;
+    push_bracketed(buffer, ruled.items())?;
     Ok(())
 }
 
@@ -105,31 +105,31 @@ impl Worded for Part {
     ghost words = { part_words };
 
     #[tactic(auto, unfolding(text_model::specs::Canonical::part_words))]
-    fn push_words(&self, draft: &mut Draft) -> Result<(), AllocError> {
+    fn push_words(&self, buffer: &mut TextBuffer) -> Result<(), AllocError> {
         match self {
-            Part::Column(column) => column.push_words(draft),
+            Part::Column(column) => column.push_words(buffer),
             Part::Key(column) => {
-                draft.push(" PRIMARY KEY")?;
-                push_column(draft, column)?;
+                buffer.push(" PRIMARY KEY")?;
+                push_column(buffer, column)?;
                 Ok(())
             }
             Part::Unique(column) => {
-                draft.push(" UNIQUE")?;
-                push_column(draft, column)?;
+                buffer.push(" UNIQUE")?;
+                push_column(buffer, column)?;
                 Ok(())
             }
             Part::Foreign(column, refers) => {
-                draft.push(" FOREIGN KEY")?;
-                push_column(draft, column)?;
-                refers.push_words(draft)?;
+                buffer.push(" FOREIGN KEY")?;
+                push_column(buffer, column)?;
+                refers.push_words(buffer)?;
                 Ok(())
             }
-            Part::Get(column, hidden) => push_rule(draft, " ON GET", column, hidden),
-            Part::Del(column, ruled) => push_rule(draft, " ON DEL", column, ruled),
+            Part::Get(column, hidden) => push_rule(buffer, " ON GET", column, hidden),
+            Part::Del(column, ruled) => push_rule(buffer, " ON DEL", column, ruled),
             Part::DelRow(column) => {
-                draft.push(" ON DEL")?;
-                column.push_words(draft)?;
-                draft.push(" DELETE_ROW")?;
+                buffer.push(" ON DEL")?;
+                column.push_words(buffer)?;
+                buffer.push(" DELETE_ROW")?;
                 Ok(())
             }
         }
@@ -137,36 +137,36 @@ impl Worded for Part {
 }
 
 /// Writes the word for a table of data subjects.
-fn push_subject(draft: &mut Draft, subject: bool) -> Result<(), AllocError>
-    ensures { OnOk result (draft.new ≡ draft.old ++ after_spaces (subject_words subject)) }
+fn push_subject(buffer: &mut TextBuffer, subject: bool) -> Result<(), AllocError>
+    ensures { OnOk result (buffer.new ≡ buffer.old ++ after_spaces (subject_words subject)) }
 {
     if subject {
-        draft.push(" DATA_SUBJECT")?;
+        buffer.push(" DATA_SUBJECT")?;
     }
     Ok(())
 }
 
 /// Writes a CREATE TABLE, with no space before it.
 #[tactic(auto, unfolding(text_model::specs::Canonical::create_words))]
-pub fn push_create(draft: &mut Draft, create: &CreateTable) -> Result<(), AllocError>
-    ensures { OnOk result (draft.new ≡ draft.old ++ spaced (create_words create.now)) }
+pub fn push_create(buffer: &mut TextBuffer, create: &CreateTable) -> Result<(), AllocError>
+    ensures { OnOk result (buffer.new ≡ buffer.old ++ spaced (create_words create.now)) }
 {
-    draft.push("CREATE")?;
-    push_subject(draft, create.subject)?;
-    draft.push(" TABLE")?;
-    create.name.push_words(draft)?;
-    push_bracketed(draft, create.parts.items())?;
+    buffer.push("CREATE")?;
+    push_subject(buffer, create.subject)?;
+    buffer.push(" TABLE")?;
+    create.name.push_words(buffer)?;
+    push_bracketed(buffer, create.parts.items())?;
     Ok(())
 }
 
 /// Writes a CREATE VIEW, with no space before it.
 #[tactic(auto, unfolding(text_model::specs::Canonical::view_words))]
-pub fn push_view(draft: &mut Draft, view: &CreateView) -> Result<(), AllocError>
-    ensures { OnOk result (draft.new ≡ draft.old ++ spaced (view_words view.now)) }
+pub fn push_view(buffer: &mut TextBuffer, view: &CreateView) -> Result<(), AllocError>
+    ensures { OnOk result (buffer.new ≡ buffer.old ++ spaced (view_words view.now)) }
 {
-    draft.push("CREATE VIEW")?;
-    view.name.push_words(draft)?;
-    draft.push(" AS ")?;
-    push_select(draft, &view.select)?;
+    buffer.push("CREATE VIEW")?;
+    view.name.push_words(buffer)?;
+    buffer.push(" AS ")?;
+    push_select(buffer, &view.select)?;
     Ok(())
 }

@@ -3,13 +3,13 @@
 
 mod condition;
 mod create;
-mod draft;
 pub mod laws;
 mod quoted;
 mod refusal;
 mod reply;
 mod select;
 mod statement;
+mod text_buffer;
 mod value;
 mod word;
 

@@ -4,7 +4,7 @@ ghost use Rattle.sql_lex.specs.Tokens.{doubled, quoted};
 ghost use Rattle.text_model.specs.Shown.{hex_digit as hex_digit_of, shown_byte, shown_text};
 ghost use Rattle.sql_print.specs.Escapes.{is_escaped};
 
-use crate::draft::Draft;
+use crate::text_buffer::TextBuffer;
 use std::alloc::AllocError;
 
 /// Whether a reply shows another byte or more in place of this one.
@@ -45,26 +45,26 @@ fn split_around(text: &str, at: usize) -> (&str, &str)
 }
 
 /// Writes a text with each quote in it doubled.
-fn push_doubled(draft: &mut Draft, text: &str) -> Result<(), AllocError>
-    ensures { OnOk result (draft.new ≡ draft.old ++ doubled text.now) }
+fn push_doubled(buffer: &mut TextBuffer, text: &str) -> Result<(), AllocError>
+    ensures { OnOk result (buffer.new ≡ buffer.old ++ doubled text.now) }
 {
     let mut rest = text;
     while let Some(at) = quote_at(rest.as_bytes()) {
         let (front, back) = split_around(rest, at);
-        draft.push(front)?;
-        draft.push("''")?;
+        buffer.push(front)?;
+        buffer.push("''")?;
         rest = back;
     }
-    draft.push(rest)
+    buffer.push(rest)
 }
 
 /// Writes a text as a statement has it, in quotes.
-pub fn push_quoted(draft: &mut Draft, text: &str) -> Result<(), AllocError>
-    ensures { OnOk result (draft.new ≡ draft.old ++ quoted text.now) }
+pub fn push_quoted(buffer: &mut TextBuffer, text: &str) -> Result<(), AllocError>
+    ensures { OnOk result (buffer.new ≡ buffer.old ++ quoted text.now) }
 {
-    draft.push("'")?;
-    push_doubled(draft, text)?;
-    draft.push("'")
+    buffer.push("'")?;
+    push_doubled(buffer, text)?;
+    buffer.push("'")
 }
 
 fn hex_digit(digit: u8) -> u8
@@ -80,39 +80,39 @@ fn hex_digit(digit: u8) -> u8
 }
 
 /// Writes what a reply shows in place of a byte that it escapes.
-fn push_escape(draft: &mut Draft, byte: u8) -> Result<(), AllocError>
+fn push_escape(buffer: &mut TextBuffer, byte: u8) -> Result<(), AllocError>
     requires { is_escaped byte ≡ true }
-    ensures { OnOk result (draft.new ≡ draft.old ++ shown_byte byte) }
+    ensures { OnOk result (buffer.new ≡ buffer.old ++ shown_byte byte) }
 {
     if byte == b'\'' {
-        return draft.push("''");
+        return buffer.push("''");
     }
-    draft.push("\\")?;
-    draft.push_ascii(hex_digit(byte / 16))?;
-    draft.push_ascii(hex_digit(byte % 16))
+    buffer.push("\\")?;
+    buffer.push_ascii(hex_digit(byte / 16))?;
+    buffer.push_ascii(hex_digit(byte % 16))
 }
 
 /// Writes the bytes of a text as a reply shows them.
-fn push_shown_bytes(draft: &mut Draft, text: &str) -> Result<(), AllocError>
-    ensures { OnOk result (draft.new ≡ draft.old ++ flat_map shown_byte text.now) }
+fn push_shown_bytes(buffer: &mut TextBuffer, text: &str) -> Result<(), AllocError>
+    ensures { OnOk result (buffer.new ≡ buffer.old ++ flat_map shown_byte text.now) }
 {
     let mut rest = text;
     while let Some(at) = escaped_at(rest.as_bytes()) {
         let byte = rest.as_bytes()[at];
         let (front, back) = split_around(rest, at);
-        draft.push(front)?;
-        push_escape(draft, byte)?;
+        buffer.push(front)?;
+        push_escape(buffer, byte)?;
         rest = back;
     }
-    draft.push(rest)
+    buffer.push(rest)
 }
 
 /// Writes a text as a reply shows it, in quotes.
 #[tactic(auto, unfolding(text_model::specs::Shown::shown_text))]
-pub fn push_shown(draft: &mut Draft, text: &str) -> Result<(), AllocError>
-    ensures { OnOk result (draft.new ≡ draft.old ++ shown_text text.now) }
+pub fn push_shown(buffer: &mut TextBuffer, text: &str) -> Result<(), AllocError>
+    ensures { OnOk result (buffer.new ≡ buffer.old ++ shown_text text.now) }
 {
-    draft.push("'")?;
-    push_shown_bytes(draft, text)?;
-    draft.push("'")
+    buffer.push("'")?;
+    push_shown_bytes(buffer, text)?;
+    buffer.push("'")
 }

@@ -3,7 +3,7 @@ ghost use Rattle.std.specs.Fmt.{decimal};
 ghost use Rattle.text_model.specs.Refused.{◌<+>◌, held_key, limit_name, limit_number, refusal_text};
 ghost use Rattle.text_model.specs.Shown.{shown_key};
 
-use crate::draft::Draft;
+use crate::text_buffer::TextBuffer;
 use crate::value::push_key;
 use own_base::{Key, NAME_BYTES, Name};
 use own_model::{
@@ -56,125 +56,130 @@ fn limit_number(limit: LimitName) -> u64
 
 /// Writes the key of a row that is held, or `*` for a whole table.
 #[tactic(auto, unfolding(text_model::specs::Refused::held_key))]
-fn push_held_key(draft: &mut Draft, key: &Option<Key>) -> Result<(), AllocError>
-    ensures { OnOk result (draft.new ≡ draft.old ++ held_key key.now) }
+fn push_held_key(buffer: &mut TextBuffer, key: &Option<Key>) -> Result<(), AllocError>
+    ensures { OnOk result (buffer.new ≡ buffer.old ++ held_key key.now) }
 {
     match key {
-        Some(key) => push_key(draft, key),
-        None => draft.push("*"),
+        Some(key) => push_key(buffer, key),
+        None => buffer.push("*"),
     }
 }
 
 /// Writes the row that is held, or the whole table, with `*` for the key.
-fn push_held(draft: &mut Draft, table: &Name, key: &Option<Key>) -> Result<(), AllocError>
-    ensures { OnOk result (draft.new ≡ draft.old ++ (table.now <+> held_key key.now)) }
+fn push_held(buffer: &mut TextBuffer, table: &Name, key: &Option<Key>) -> Result<(), AllocError>
+    ensures { OnOk result (buffer.new ≡ buffer.old ++ (table.now <+> held_key key.now)) }
 {
-    draft.push(table.as_str())?;
-    draft.push(" ")?;
-    push_held_key(draft, key)
+    buffer.push(table.as_str())?;
+    buffer.push(" ")?;
+    push_held_key(buffer, key)
 }
 
 /// Writes what stands before a name, and the name.
-fn push_named(draft: &mut Draft, before: &str, name: &Name) -> Result<(), AllocError>
-    ensures { OnOk result (draft.new ≡ draft.old ++ (before.now ++ name.now)) }
+fn push_named(buffer: &mut TextBuffer, before: &str, name: &Name) -> Result<(), AllocError>
+    ensures { OnOk result (buffer.new ≡ buffer.old ++ (before.now ++ name.now)) }
 {
-    draft.push(before)?;
-    draft.push(name.as_str())
+    buffer.push(before)?;
+    buffer.push(name.as_str())
 }
 
 /// Writes what stands before a number, and the number.
-fn push_numbered(draft: &mut Draft, before: &str, number: u64) -> Result<(), AllocError>
-    ensures { OnOk result (draft.new ≡ draft.old ++ (before.now ++ decimal number)) }
+fn push_numbered(buffer: &mut TextBuffer, before: &str, number: u64) -> Result<(), AllocError>
+    ensures { OnOk result (buffer.new ≡ buffer.old ++ (before.now ++ decimal number)) }
 {
-    draft.push(before)?;
-    draft.push_number(number)
+    buffer.push(before)?;
+    buffer.push_number(number)
 }
 
 /// Writes what stands before a row, and the row's table and key.
-fn push_row(draft: &mut Draft, before: &str, table: &Name, key: &Key) -> Result<(), AllocError>
-    ensures { OnOk result (draft.new ≡ draft.old ++ (before.now ++ (table.now <+> shown_key key.now))) }
+fn push_row(
+    buffer: &mut TextBuffer,
+    before: &str,
+    table: &Name,
+    key: &Key,
+) -> Result<(), AllocError>
+    ensures { OnOk result (buffer.new ≡ buffer.old ++ (before.now ++ (table.now <+> shown_key key.now))) }
 {
-    push_named(draft, before, table)?;
-    draft.push(" ")?;
-    push_key(draft, key)
+    push_named(buffer, before, table)?;
+    buffer.push(" ")?;
+    push_key(buffer, key)
 }
 
 /// Writes what stands before a column of a row, and the row's table and key and the column.
 fn push_column_of_row(
-    draft: &mut Draft,
+    buffer: &mut TextBuffer,
     before: &str,
     table: &Name,
     key: &Key,
     column: &Name,
 ) -> Result<(), AllocError>
-    ensures { OnOk result (draft.new ≡ draft.old ++ (before.now ++ (table.now <+> shown_key key.now <+> column.now))) }
+    ensures { OnOk result (buffer.new ≡ buffer.old ++ (before.now ++ (table.now <+> shown_key key.now <+> column.now))) }
 {
-    push_row(draft, before, table, key)?;
-    draft.push(" ")?;
-    draft.push(column.as_str())
+    push_row(buffer, before, table, key)?;
+    buffer.push(" ")?;
+    buffer.push(column.as_str())
 }
 
 /// Writes why a call was refused.
 #[tactic(auto, unfolding(text_model::specs::Refused::refusal_text))]
-pub fn push_refusal(draft: &mut Draft, refusal: &Refusal) -> Result<(), AllocError>
-    ensures { OnOk result (draft.new ≡ draft.old ++ refusal_text refusal.now) }
+pub fn push_refusal(buffer: &mut TextBuffer, refusal: &Refusal) -> Result<(), AllocError>
+    ensures { OnOk result (buffer.new ≡ buffer.old ++ refusal_text refusal.now) }
 {
     match refusal {
-        Refusal::Syntax(byte) => push_numbered(draft, "refused syntax ", u64::from(*byte)),
-        Refusal::NoTable(table) => push_named(draft, "refused table ", table),
-        Refusal::NoColumn(column) => push_named(draft, "refused column ", column),
-        Refusal::WrongKind(column) => push_named(draft, "refused kind ", column),
+        Refusal::Syntax(byte) => push_numbered(buffer, "refused syntax ", u64::from(*byte)),
+        Refusal::NoTable(table) => push_named(buffer, "refused table ", table),
+        Refusal::NoColumn(column) => push_named(buffer, "refused column ", column),
+        Refusal::WrongKind(column) => push_named(buffer, "refused kind ", column),
         Refusal::Count { got, wanted } => {
-            push_numbered(draft, "refused count ", u64::from(*got))?;
-            push_numbered(draft, " ", u64::from(*wanted))
+            push_numbered(buffer, "refused count ", u64::from(*got))?;
+            push_numbered(buffer, " ", u64::from(*wanted))
         }
-        Refusal::NameTaken(name) => push_named(draft, "refused taken ", name),
+        Refusal::NameTaken(name) => push_named(buffer, "refused taken ", name),
         Refusal::BadSchema { rule, name } => {
-            push_numbered(draft, "refused schema ", u64::from(*rule))?;
-            push_named(draft, " ", name)?;
+            push_numbered(buffer, "refused schema ", u64::from(*rule))?;
+            push_named(buffer, " ", name)?;
             Ok(())
         }
         Refusal::Cycle { table, through } => {
-            push_named(draft, "refused cycle ", table)?;
-            push_named(draft, " ", through)
+            push_named(buffer, "refused cycle ", table)?;
+            push_named(buffer, " ", through)
         }
-        Refusal::HasRows(table) => push_named(draft, "refused rows ", table),
-        Refusal::KeyWrite(column) => push_named(draft, "refused key ", column),
-        Refusal::NotSubject(table) => push_named(draft, "refused subject ", table),
-        Refusal::NullValue(column) => push_named(draft, "refused null ", column),
-        Refusal::Duplicate { table, key } => push_row(draft, "refused duplicate ", table, key),
-        Refusal::Range(column) => push_named(draft, "refused range ", column),
-        Refusal::Inside => draft.push("refused inside"),
-        Refusal::Outside => draft.push("refused outside"),
-        Refusal::Busy(session) => push_numbered(draft, "refused busy ", u64::from(session.0)),
+        Refusal::HasRows(table) => push_named(buffer, "refused rows ", table),
+        Refusal::KeyWrite(column) => push_named(buffer, "refused key ", column),
+        Refusal::NotSubject(table) => push_named(buffer, "refused subject ", table),
+        Refusal::NullValue(column) => push_named(buffer, "refused null ", column),
+        Refusal::Duplicate { table, key } => push_row(buffer, "refused duplicate ", table, key),
+        Refusal::Range(column) => push_named(buffer, "refused range ", column),
+        Refusal::Inside => buffer.push("refused inside"),
+        Refusal::Outside => buffer.push("refused outside"),
+        Refusal::Busy(session) => push_numbered(buffer, "refused busy ", u64::from(session.0)),
         Refusal::Conflict {
             session,
             table,
             key,
         } => {
-            push_numbered(draft, "refused conflict ", u64::from(session.0))?;
-            draft.push(" ")?;
-            push_held(draft, table, key)?;
+            push_numbered(buffer, "refused conflict ", u64::from(session.0))?;
+            buffer.push(" ")?;
+            push_held(buffer, table, key)?;
             Ok(())
         }
-        Refusal::Doomed(place) => push_numbered(draft, "refused doomed ", place.0),
-        Refusal::NoSubject { table, key } => push_row(draft, "refused absent ", table, key),
+        Refusal::Doomed(place) => push_numbered(buffer, "refused doomed ", place.0),
+        Refusal::NoSubject { table, key } => push_row(buffer, "refused absent ", table, key),
         Refusal::Unique { table, key, column } => {
-            push_column_of_row(draft, "refused unique ", table, key, column)
+            push_column_of_row(buffer, "refused unique ", table, key, column)
         }
         Refusal::Reference { table, key, column } => {
-            push_column_of_row(draft, "refused reference ", table, key, column)
+            push_column_of_row(buffer, "refused reference ", table, key, column)
         }
-        Refusal::Owner { table, key } => push_row(draft, "refused owner ", table, key),
-        Refusal::TooBig(bytes) => push_numbered(draft, "refused big ", *bytes),
+        Refusal::Owner { table, key } => push_row(buffer, "refused owner ", table, key),
+        Refusal::TooBig(bytes) => push_numbered(buffer, "refused big ", *bytes),
         Refusal::Limit(limit) => {
-            draft.push("refused limit ")?;
-            draft.push(limit_name(*limit))?;
-            push_numbered(draft, " ", limit_number(*limit))?;
+            buffer.push("refused limit ")?;
+            buffer.push(limit_name(*limit))?;
+            push_numbered(buffer, " ", limit_number(*limit))?;
             Ok(())
         }
-        Refusal::Disk => draft.push("disk"),
-        Refusal::Down(place) => push_numbered(draft, "down ", place.0),
-        Refusal::Memory => draft.push("memory"),
+        Refusal::Disk => buffer.push("disk"),
+        Refusal::Down(place) => push_numbered(buffer, "down ", place.0),
+        Refusal::Memory => buffer.push("memory"),
     }
 }

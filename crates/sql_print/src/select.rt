@@ -5,7 +5,7 @@ ghost use Rattle.sql_print.specs.Parts.{source_words};
 ghost use Rattle.sql_print.specs.Spaces.{after_spaces};
 
 use crate::condition::push_condition;
-use crate::draft::Draft;
+use crate::text_buffer::TextBuffer;
 use crate::word::{Worded, push_listed};
 use own_base::Name;
 use own_model::{ColRef, Cond, Item, Items, Join, Order, Select, What};
@@ -15,14 +15,14 @@ impl Worded for What {
     ghost words = { what_words };
 
     #[tactic(auto, unfolding(text_model::specs::Canonical::what_words))]
-    fn push_words(&self, draft: &mut Draft) -> Result<(), AllocError> {
+    fn push_words(&self, buffer: &mut TextBuffer) -> Result<(), AllocError> {
         match self {
-            What::Column(column) => column.push_words(draft),
-            What::Count => draft.push(" COUNT ( * )"),
+            What::Column(column) => column.push_words(buffer),
+            What::Count => buffer.push(" COUNT ( * )"),
             What::SumOf(column) => {
-                draft.push(" SUM (")?;
-                column.push_words(draft)?;
-                draft.push(" )")?;
+                buffer.push(" SUM (")?;
+                column.push_words(buffer)?;
+                buffer.push(" )")?;
                 Ok(())
             }
         }
@@ -30,13 +30,13 @@ impl Worded for What {
 }
 
 /// Writes the name of an item, if it has one.
-fn push_alias(draft: &mut Draft, alias: &Option<Name>) -> Result<(), AllocError>
-    ensures { OnOk result (draft.new ≡ draft.old ++ after_spaces (words_of (λ alias. codes "AS" ∷ alias ∷ []) alias.now)) }
+fn push_alias(buffer: &mut TextBuffer, alias: &Option<Name>) -> Result<(), AllocError>
+    ensures { OnOk result (buffer.new ≡ buffer.old ++ after_spaces (words_of (λ alias. codes "AS" ∷ alias ∷ []) alias.now)) }
 {
     match alias {
         Some(alias) => {
-            draft.push(" AS")?;
-            alias.push_words(draft)?;
+            buffer.push(" AS")?;
+            alias.push_words(buffer)?;
             Ok(())
         }
         None => Ok(()),
@@ -47,21 +47,21 @@ impl Worded for Item {
     ghost words = { item_words };
 
     #[tactic(auto, unfolding(text_model::specs::Canonical::item_words))]
-    fn push_words(&self, draft: &mut Draft) -> Result<(), AllocError> {
-        self.what.push_words(draft)?;
-        push_alias(draft, &self.alias)?;
+    fn push_words(&self, buffer: &mut TextBuffer) -> Result<(), AllocError> {
+        self.what.push_words(buffer)?;
+        push_alias(buffer, &self.alias)?;
         Ok(())
     }
 }
 
 /// Writes what a select shows.
 #[tactic(auto, unfolding(text_model::specs::Canonical::items_words))]
-fn push_items(draft: &mut Draft, items: &Items) -> Result<(), AllocError>
-    ensures { OnOk result (draft.new ≡ draft.old ++ after_spaces (items_words items.now)) }
+fn push_items(buffer: &mut TextBuffer, items: &Items) -> Result<(), AllocError>
+    ensures { OnOk result (buffer.new ≡ buffer.old ++ after_spaces (items_words items.now)) }
 {
     match items {
-        Items::Star => draft.push(" *"),
-        Items::Listed(found) => push_listed(draft, found.items()),
+        Items::Star => buffer.push(" *"),
+        Items::Listed(found) => push_listed(buffer, found.items()),
     }
 }
 
@@ -69,13 +69,13 @@ impl Worded for Join {
     ghost words = { join_words };
 
     #[tactic(auto, unfolding(text_model::specs::Canonical::join_words))]
-    fn push_words(&self, draft: &mut Draft) -> Result<(), AllocError> {
-        draft.push(" JOIN")?;
-        self.table.push_words(draft)?;
-        draft.push(" ON")?;
-        self.left.push_words(draft)?;
-        draft.push(" =")?;
-        self.right.push_words(draft)?;
+    fn push_words(&self, buffer: &mut TextBuffer) -> Result<(), AllocError> {
+        buffer.push(" JOIN")?;
+        self.table.push_words(buffer)?;
+        buffer.push(" ON")?;
+        self.left.push_words(buffer)?;
+        buffer.push(" =")?;
+        self.right.push_words(buffer)?;
         Ok(())
     }
 }
@@ -84,81 +84,81 @@ impl Worded for Order {
     ghost words = { order_words };
 
     #[tactic(auto, unfolding(text_model::specs::Canonical::order_words))]
-    fn push_words(&self, draft: &mut Draft) -> Result<(), AllocError> {
-        draft.push(" ORDER BY")?;
-        self.column.push_words(draft)?;
+    fn push_words(&self, buffer: &mut TextBuffer) -> Result<(), AllocError> {
+        buffer.push(" ORDER BY")?;
+        self.column.push_words(buffer)?;
         if self.down {
-            draft.push(" DESC")?;
+            buffer.push(" DESC")?;
         }
         Ok(())
     }
 }
 
 /// Writes the WHERE of a statement, if it has one.
-pub fn push_where(draft: &mut Draft, cond: &Option<Cond>) -> Result<(), AllocError>
-    ensures { OnOk result (draft.new ≡ draft.old ++ after_spaces (where_words cond.now)) }
+pub fn push_where(buffer: &mut TextBuffer, cond: &Option<Cond>) -> Result<(), AllocError>
+    ensures { OnOk result (buffer.new ≡ buffer.old ++ after_spaces (where_words cond.now)) }
 {
     match cond {
         Some(cond) => {
-            draft.push(" WHERE")?;
-            push_condition(draft, cond)?;
+            buffer.push(" WHERE")?;
+            push_condition(buffer, cond)?;
             Ok(())
         }
         None => Ok(()),
     }
 }
 
-fn push_join(draft: &mut Draft, join: &Option<Join>) -> Result<(), AllocError>
-    ensures { OnOk result (draft.new ≡ draft.old ++ after_spaces (words_of join_words join.now)) }
+fn push_join(buffer: &mut TextBuffer, join: &Option<Join>) -> Result<(), AllocError>
+    ensures { OnOk result (buffer.new ≡ buffer.old ++ after_spaces (words_of join_words join.now)) }
 {
     match join {
-        Some(join) => join.push_words(draft),
+        Some(join) => join.push_words(buffer),
         None => Ok(()),
     }
 }
 
-fn push_group(draft: &mut Draft, group: &Option<ColRef>) -> Result<(), AllocError>
-    ensures { OnOk result (draft.new ≡ draft.old ++ after_spaces (words_of (λ column. codes "GROUP" ∷ codes "BY" ∷ column_words column) group.now)) }
+fn push_group(buffer: &mut TextBuffer, group: &Option<ColRef>) -> Result<(), AllocError>
+    ensures { OnOk result (buffer.new ≡ buffer.old ++ after_spaces (words_of (λ column. codes "GROUP" ∷ codes "BY" ∷ column_words column) group.now)) }
 {
     match group {
         Some(column) => {
-            draft.push(" GROUP BY")?;
-            column.push_words(draft)?;
+            buffer.push(" GROUP BY")?;
+            column.push_words(buffer)?;
             Ok(())
         }
         None => Ok(()),
     }
 }
 
-fn push_order(draft: &mut Draft, order: &Option<Order>) -> Result<(), AllocError>
-    ensures { OnOk result (draft.new ≡ draft.old ++ after_spaces (words_of order_words order.now)) }
+fn push_order(buffer: &mut TextBuffer, order: &Option<Order>) -> Result<(), AllocError>
+    ensures { OnOk result (buffer.new ≡ buffer.old ++ after_spaces (words_of order_words order.now)) }
 {
     match order {
-        Some(order) => order.push_words(draft),
+        Some(order) => order.push_words(buffer),
         None => Ok(()),
     }
 }
 
 /// Writes a select from its FROM on.
-fn push_source(draft: &mut Draft, select: &Select) -> Result<(), AllocError>
-    ensures { OnOk result (draft.new ≡ draft.old ++ after_spaces (source_words select.now)) }
+fn push_source(buffer: &mut TextBuffer, select: &Select) -> Result<(), AllocError>
+    ensures { OnOk result (buffer.new ≡ buffer.old ++ after_spaces (source_words select.now)) }
 {
-    draft.push(" FROM")?;
-    select.from.push_words(draft)?;
-    push_join(draft, &select.join)?;
-    push_where(draft, &select.cond)?;
-    push_group(draft, &select.group)?;
-    push_order(draft, &select.order)?;
+    buffer.push(" FROM")?;
+    select.from.push_words(buffer)?;
+    push_join(buffer, &select.join)?;
+    push_where(buffer, &select.cond)?;
+    push_group(buffer, &select.group)?;
+    push_order(buffer, &select.order)?;
     Ok(())
 }
 
 /// Writes a select, with no space before it.
 #[tactic(auto, unfolding(text_model::specs::Canonical::select_words))]
-pub fn push_select(draft: &mut Draft, select: &Select) -> Result<(), AllocError>
-    ensures { OnOk result (draft.new ≡ draft.old ++ spaced (select_words select.now)) }
+pub fn push_select(buffer: &mut TextBuffer, select: &Select) -> Result<(), AllocError>
+    ensures { OnOk result (buffer.new ≡ buffer.old ++ spaced (select_words select.now)) }
 {
-    draft.push("SELECT")?;
-    push_items(draft, &select.items)?;
-    push_source(draft, select)?;
+    buffer.push("SELECT")?;
+    push_items(buffer, &select.items)?;
+    push_source(buffer, select)?;
     Ok(())
 }

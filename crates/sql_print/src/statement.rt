@@ -6,8 +6,8 @@ ghost use Rattle.sql_print.specs.Parts.{columns_words, values_words};
 ghost use Rattle.sql_print.specs.Spaces.{after_spaces};
 
 use crate::create::{push_create, push_view};
-use crate::draft::Draft;
 use crate::select::{push_select, push_where};
+use crate::text_buffer::TextBuffer;
 use crate::word::{Worded, push_bracketed, push_listed};
 use own_base::{Key, List, Name, Text, Value};
 use own_model::{Cond, Expr, Statement};
@@ -17,18 +17,23 @@ impl Worded for List<Value> {
     ghost words = { tuple_words };
 
     #[tactic(auto, unfolding(text_model::specs::Canonical::tuple_words))]
-    fn push_words(&self, draft: &mut Draft) -> Result<(), AllocError> {
-        push_bracketed(draft, self.items())
+    fn push_words(&self, buffer: &mut TextBuffer) -> Result<(), AllocError> {
+        push_bracketed(buffer, self.items())
     }
 }
 
 /// Writes a column, a sign, and a number.
-fn push_sum(draft: &mut Draft, column: &Name, sign: &str, number: i64) -> Result<(), AllocError>
-    ensures { OnOk result (draft.new ≡ draft.old ++ (32 ∷ column.now ++ (sign.now ++ signed_decimal number))) }
+fn push_sum(
+    buffer: &mut TextBuffer,
+    column: &Name,
+    sign: &str,
+    number: i64,
+) -> Result<(), AllocError>
+    ensures { OnOk result (buffer.new ≡ buffer.old ++ (32 ∷ column.now ++ (sign.now ++ signed_decimal number))) }
 {
-    column.push_words(draft)?;
-    draft.push(sign)?;
-    draft.push_signed(number)?;
+    column.push_words(buffer)?;
+    buffer.push(sign)?;
+    buffer.push_signed(number)?;
     Ok(())
 }
 
@@ -36,12 +41,12 @@ impl Worded for Expr {
     ghost words = { expr_words };
 
     #[tactic(auto, unfolding(text_model::specs::Canonical::expr_words))]
-    fn push_words(&self, draft: &mut Draft) -> Result<(), AllocError> {
+    fn push_words(&self, buffer: &mut TextBuffer) -> Result<(), AllocError> {
         match self {
-            Expr::Literal(value) => value.push_words(draft),
-            Expr::Column(column) => column.push_words(draft),
-            Expr::Plus(column, more) => push_sum(draft, column, " + ", *more),
-            Expr::Minus(column, fewer) => push_sum(draft, column, " - ", *fewer),
+            Expr::Literal(value) => value.push_words(buffer),
+            Expr::Column(column) => column.push_words(buffer),
+            Expr::Plus(column, more) => push_sum(buffer, column, " + ", *more),
+            Expr::Minus(column, fewer) => push_sum(buffer, column, " - ", *fewer),
         }
     }
 }
@@ -50,20 +55,20 @@ impl Worded for (Name, Expr) {
     ghost words = { set_words };
 
     #[tactic(auto, unfolding(text_model::specs::Canonical::set_words))]
-    fn push_words(&self, draft: &mut Draft) -> Result<(), AllocError> {
-        self.0.push_words(draft)?;
-        draft.push(" =")?;
-        self.1.push_words(draft)?;
+    fn push_words(&self, buffer: &mut TextBuffer) -> Result<(), AllocError> {
+        self.0.push_words(buffer)?;
+        buffer.push(" =")?;
+        self.1.push_words(buffer)?;
         Ok(())
     }
 }
 
 /// Writes the columns that an INSERT names, if it does.
-fn push_columns(draft: &mut Draft, columns: &Option<List<Name>>) -> Result<(), AllocError>
-    ensures { OnOk result (draft.new ≡ draft.old ++ after_spaces (columns_words columns.now)) }
+fn push_columns(buffer: &mut TextBuffer, columns: &Option<List<Name>>) -> Result<(), AllocError>
+    ensures { OnOk result (buffer.new ≡ buffer.old ++ after_spaces (columns_words columns.now)) }
 {
     match columns {
-        Some(columns) => push_bracketed(draft, columns.items()),
+        Some(columns) => push_bracketed(buffer, columns.items()),
         None => Ok(()),
     }
 }
@@ -71,83 +76,83 @@ fn push_columns(draft: &mut Draft, columns: &Option<List<Name>>) -> Result<(), A
 /// Writes an INSERT.
 
 fn push_insert(
-    draft: &mut Draft,
+    buffer: &mut TextBuffer,
     table: &Name,
     columns: &Option<List<Name>>,
     rows: &List<List<Value>>,
 ) -> Result<(), AllocError>
-    ensures { OnOk result (draft.new ≡ draft.old ++ spaced (codes "INSERT" ∷ codes "INTO" ∷ table.now ∷ (columns_words columns.now ++ values_words rows.now))) }
+    ensures { OnOk result (buffer.new ≡ buffer.old ++ spaced (codes "INSERT" ∷ codes "INTO" ∷ table.now ∷ (columns_words columns.now ++ values_words rows.now))) }
 {
-    draft.push("INSERT INTO")?;
-    table.push_words(draft)?;
-    push_columns(draft, columns)?;
-    draft.push(" VALUES")?;
-    push_listed(draft, rows.items())?;
+    buffer.push("INSERT INTO")?;
+    table.push_words(buffer)?;
+    push_columns(buffer, columns)?;
+    buffer.push(" VALUES")?;
+    push_listed(buffer, rows.items())?;
     Ok(())
 }
 
 /// Writes an UPDATE.
 
 fn push_update(
-    draft: &mut Draft,
+    buffer: &mut TextBuffer,
     table: &Name,
     sets: &List<(Name, Expr)>,
     cond: &Option<Cond>,
 ) -> Result<(), AllocError>
-    ensures { OnOk result (draft.new ≡ draft.old ++ spaced (codes "UPDATE" ∷ table.now ∷ codes "SET" ∷ (listed set_words sets.now ++ where_words cond.now))) }
+    ensures { OnOk result (buffer.new ≡ buffer.old ++ spaced (codes "UPDATE" ∷ table.now ∷ codes "SET" ∷ (listed set_words sets.now ++ where_words cond.now))) }
 {
-    draft.push("UPDATE")?;
-    table.push_words(draft)?;
-    draft.push(" SET")?;
-    push_listed(draft, sets.items())?;
-    push_where(draft, cond)?;
+    buffer.push("UPDATE")?;
+    table.push_words(buffer)?;
+    buffer.push(" SET")?;
+    push_listed(buffer, sets.items())?;
+    push_where(buffer, cond)?;
     Ok(())
 }
 
 /// Writes a DELETE.
 
-fn push_delete(draft: &mut Draft, table: &Name, cond: &Option<Cond>) -> Result<(), AllocError>
-    ensures { OnOk result (draft.new ≡ draft.old ++ spaced (codes "DELETE" ∷ codes "FROM" ∷ table.now ∷ where_words cond.now)) }
+fn push_delete(buffer: &mut TextBuffer, table: &Name, cond: &Option<Cond>) -> Result<(), AllocError>
+    ensures { OnOk result (buffer.new ≡ buffer.old ++ spaced (codes "DELETE" ∷ codes "FROM" ∷ table.now ∷ where_words cond.now)) }
 {
-    draft.push("DELETE FROM")?;
-    table.push_words(draft)?;
-    push_where(draft, cond)?;
+    buffer.push("DELETE FROM")?;
+    table.push_words(buffer)?;
+    push_where(buffer, cond)?;
     Ok(())
 }
 
 /// Writes a GDPR call.
-fn push_gdpr(draft: &mut Draft, call: &str, table: &Name, key: &Key) -> Result<(), AllocError>
-    ensures { OnOk result (draft.new ≡ draft.old ++ (call.now ++ after_spaces (table.now ∷ key_word key.now ∷ []))) }
+fn push_gdpr(buffer: &mut TextBuffer, call: &str, table: &Name, key: &Key) -> Result<(), AllocError>
+    ensures { OnOk result (buffer.new ≡ buffer.old ++ (call.now ++ after_spaces (table.now ∷ key_word key.now ∷ []))) }
 {
-    draft.push(call)?;
-    table.push_words(draft)?;
-    key.push_words(draft)?;
+    buffer.push(call)?;
+    table.push_words(buffer)?;
+    key.push_words(buffer)?;
     Ok(())
 }
 
 /// Writes a statement.
 #[tactic(auto, unfolding(text_model::specs::Canonical::statement_words))]
-fn push_statement(draft: &mut Draft, statement: &Statement) -> Result<(), AllocError>
-    ensures { OnOk result (draft.new ≡ draft.old ++ spaced (statement_words statement.now)) }
+fn push_statement(buffer: &mut TextBuffer, statement: &Statement) -> Result<(), AllocError>
+    ensures { OnOk result (buffer.new ≡ buffer.old ++ spaced (statement_words statement.now)) }
 {
     match statement {
-        Statement::CreateTable(create) => push_create(draft, create),
-        Statement::CreateView(view) => push_view(draft, view),
+        Statement::CreateTable(create) => push_create(buffer, create),
+        Statement::CreateView(view) => push_view(buffer, view),
         Statement::Insert {
             table,
             columns,
             rows,
-        } => push_insert(draft, table, columns, rows),
-        Statement::Update { table, sets, cond } => push_update(draft, table, sets, cond),
-        Statement::Delete { table, cond } => push_delete(draft, table, cond),
-        Statement::Select(select) => push_select(draft, select),
-        Statement::Begin => draft.push("BEGIN"),
-        Statement::Commit => draft.push("COMMIT"),
-        Statement::Rollback => draft.push("ROLLBACK"),
-        Statement::GdprGet { table, key } => push_gdpr(draft, "GDPR GET", table, key),
-        Statement::GdprForget { table, key } => push_gdpr(draft, "GDPR FORGET", table, key),
-        Statement::Explain => draft.push("EXPLAIN COMPLIANCE"),
-        Statement::Checkpoint => draft.push("CHECKPOINT"),
+        } => push_insert(buffer, table, columns, rows),
+        Statement::Update { table, sets, cond } => push_update(buffer, table, sets, cond),
+        Statement::Delete { table, cond } => push_delete(buffer, table, cond),
+        Statement::Select(select) => push_select(buffer, select),
+        Statement::Begin => buffer.push("BEGIN"),
+        Statement::Commit => buffer.push("COMMIT"),
+        Statement::Rollback => buffer.push("ROLLBACK"),
+        Statement::GdprGet { table, key } => push_gdpr(buffer, "GDPR GET", table, key),
+        Statement::GdprForget { table, key } => push_gdpr(buffer, "GDPR FORGET", table, key),
+        Statement::Explain => buffer.push("EXPLAIN COMPLIANCE"),
+        Statement::Checkpoint => buffer.push("CHECKPOINT"),
     }
 }
 
@@ -157,7 +162,7 @@ fn push_statement(draft: &mut Draft, statement: &Statement) -> Result<(), AllocE
 pub fn print_statement(alloc: Global, statement: &Statement) -> Result<Text, AllocError>
     ensures { IfOk result (λ text. text ≡ canonical statement.now) }
 {
-    let mut draft = Draft::new(alloc);
-    push_statement(&mut draft, statement)?;
-    Ok(draft.into_text())
+    let mut buffer = TextBuffer::new(alloc);
+    push_statement(&mut buffer, statement)?;
+    Ok(buffer.into_text())
 }

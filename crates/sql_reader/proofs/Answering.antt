@@ -40,7 +40,7 @@ answers_syntax text tokens rest byte is place =
     let stands = syntax_at (map terminal_of tokens) (no_slots tokens) rest is in
     (stands.0, stands.1, place ∙ ap (byte_of (length text)) (sym stands.2))
 
--- a limit is told where it lets no statement continue
+-- a limit is reported where it lets no statement continue
 pub answers_limit : (text : List ℕ) (tokens : List lexed.Token) (rest : Terminals) (name : LimitName) → whole (map terminal_of tokens) ≡ Err (fault.Limit name, rest) → IsAnswerFor text (map terminal_of tokens) (PassesLimit name)
 unfolding whole
 answers_limit text tokens rest name is = limit_at (map terminal_of tokens) (no_slots tokens) name rest is

@@ -1,4 +1,4 @@
--- Each judge gives a value exactly where the grammar says that the terminal stands for it.
+-- Each judge gives a value exactly where the grammar says that the terminal represents it.
 use Rattle.std.proofs.Common.{◌≡◌, ◌≤◌, ℕ, Bool, true, false, List, [], ◌∷◌, ◌++◌, length, map, Result, Ok, Err, refl, sym, ap, ◌∙◌, subst, arith}
 use Rattle.std.specs.Prelude.{◌==◌, ◌^◌, ◌-◌, nat_le, ℤ, IsTrue, if◌then◌else◌, Option, None, Some, IfOk, MatchOption}
 use Rattle.std.specs.Char.{to_ascii_lowercase}
@@ -15,7 +15,7 @@ use Rattle.sql_reader.specs.declared.fault.RuleFault.{RuleFault}
 use Rattle.sql_reader.specs.declared.fault.RuleFault.TheVariants.{Syntax, Limit}
 use Rattle.sql_reader.specs.reading.Judges.{folded, name_of, ranged, number_of, with_byte, inside, unquoted, short_text, text_of, barred, slot_of}
 
--- the judge gives a value exactly where the terminal stands for it
+-- the judge gives a value exactly where the terminal represents it
 pub record SaysExactly {A : Type 0} (means : A → Terminal → Type 0) (judge : Terminal → Result A RuleFault) : Type 0 where
   pub right : (terminal : Terminal) (value : A) → judge terminal ≡ Ok value → means value terminal
   pub whole : (terminal : Terminal) (value : A) → means value terminal → judge terminal ≡ Ok value

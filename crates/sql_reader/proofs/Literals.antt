@@ -47,7 +47,7 @@ with_byte-one : (byte : ℕ) (found : Option (List ℕ)) → with_byte byte foun
 with_byte-one byte None = refl
 with_byte-one byte (Some value) = refl
 
--- bytes that are no quotes stand for themselves
+-- bytes that are no quotes represent themselves
 inside-front : (front back : List ℕ) → All (λ byte. byte ≢ 39) front → inside false (front ++ back) ≡ prefixed front (inside false back)
 inside-front [] back plain = prefixed-nil (inside false back)
 inside-front (byte ∷ front) back plain =

@@ -47,6 +47,8 @@ edge-with_view schema view edge is = record {
   kind = is.kind;
   refers = is.refers;
   edges = is.edges;
+  side = is.side;
+  owner = is.owner;
 }
 
 rules-with_view : (schema : Schema) (view : CreateView) (edge : Edge) → RulesWell schema edge → RulesWell (with_view schema view) edge
@@ -60,6 +62,8 @@ owner_schema-with_view schema view owner = record {
   names = owner.names;
   columns = all-weaker (ColumnsRefer schema) (ColumnsRefer (with_view schema view)) (columns-with_view schema view) schema.tables owner.columns;
   edges = all-weaker (IsOwnerEdge schema) (IsOwnerEdge (with_view schema view)) (edge-with_view schema view) schema.edges owner.edges;
+  each = owner.each;
+  rise = owner.rise;
   rules = all-weaker (RulesWell schema) (RulesWell (with_view schema view)) (rules-with_view schema view) schema.edges owner.rules;
   acyclic = owner.acyclic;
   subjects = owner.subjects;

@@ -1,8 +1,10 @@
+pub mod Consistency
 pub mod Counts
 pub mod CreatedLemmas
 pub mod CreatedSchema
 pub mod FaultLemmas
 pub mod Faultless
+pub mod FaultlessRows
 pub mod ForgetCounts
 pub mod ForgetFaults
 pub mod ForgetKept
@@ -13,8 +15,11 @@ pub mod ForgetSizes
 pub mod ForgetSound
 pub mod ForgetUnique
 pub mod ForgetWeight
-pub mod KeptLemmas
+pub mod WellFormedLemmas
+pub mod KeyColumns
 pub mod Languages
+pub mod NetRows
 pub mod OwnerCounts
 pub mod OwnersLeft
 pub mod PlainKinds
+pub mod SameLemmas

@@ -1,3 +1,5 @@
+pub mod ChangeOf
+pub mod Consistent
 pub mod Create
 pub mod Created
 pub mod Fault
@@ -5,6 +7,6 @@ pub mod Net
 pub mod Payload
 pub mod Rows
 pub mod Same
-pub mod Settle
+pub mod CommitRefusal
 pub mod Sound
 pub mod Weight

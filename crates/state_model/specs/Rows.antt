@@ -1,5 +1,5 @@
 -- Which rows may stand in a table.
-use Rattle.std.specs.Prelude.{◌≡◌, ◌≤◌, List, [], ◌∷◌, length}
+use Rattle.std.specs.Prelude.{◌≡◌, ◌≢◌, ◌≤◌, ◌^◌, ℤ, pos, neg_ℤ, ◌≤ℤ◌, ◌<ℤ◌, List, [], ◌∷◌, length}
 use Rattle.std.specs.List.{AllByRecursion}
 use Rattle.own_model.specs.declared.limit.TheConstants.{TEXT_BYTES}
 use Rattle.own_base.specs.declared.value.Value.{Value}
@@ -9,6 +9,7 @@ use Rattle.own_model.specs.declared.schema.Kind.{Kind}
 use Rattle.own_model.specs.declared.schema.Kind.TheVariants as kind
 use Rattle.own_model.specs.declared.schema.TableDef.{TableDef}
 use Rattle.own_model.specs.Db.{Row}
+use Rattle.query_model.specs.Truth.{cell}
 
 -- the kind of a value; NULL is of each, and a sum stands in no table
 abbrev pub IsOfKind : Kind → Value → Type 0
@@ -17,11 +18,16 @@ IsOfKind of (Int number) = of ≡ kind.Int
 IsOfKind of (Text bytes) = of ≡ kind.Text
 IsOfKind of (Sum number) = ⊥
 
--- no text of more than TEXT_BYTES bytes
+-- a number of 64 bits with its sign
+pub record IsOf64Bits (number : ℤ) : Type 0 where
+  pub least : neg_ℤ (pos (2 ^ 63)) ≤ℤ number
+  pub most : number <ℤ pos (2 ^ 63)
+
+-- no text of more than TEXT_BYTES bytes, and no number that takes more than 64 bits
 abbrev pub IsShort : Value → Type 0
 IsShort (Text bytes) = length bytes ≤ TEXT_BYTES
+IsShort (Int number) = IsOf64Bits number
 IsShort Null = Unit {0}
-IsShort (Int number) = Unit {0}
 IsShort (Sum number) = Unit {0}
 
 -- one value for each column, of its kind
@@ -35,6 +41,8 @@ AreOfKinds (column ∷ columns) (value ∷ row) = IsOfKind column.kind value × 
 pub record IsRowOf (table : TableDef) (row : Row) : Type 0 where
   pub kinds : AreOfKinds table.columns row
   pub short : AllByRecursion IsShort row
+  -- its primary key isn't NULL
+  pub keyed : cell row table.key.0 ≢ Null
 
 -- each table has its list of rows, which may stand in it
 abbrev pub AreRowsOf : List TableDef → List (List Row) → Type 0

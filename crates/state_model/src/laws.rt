@@ -1,14 +1,19 @@
 //! Laws of the definitions in `specs/`: each function does nothing, and what it ensures holds of every database.
-ghost use Rattle.std.specs.Prelude.{IsTrue};
+ghost use Rattle.std.specs.Prelude.{◌≡◌, ◌↔◌, ◌≤◌, Contains, IsTrue};
+ghost use Rattle.own_base.specs.declared.change.Change.{Change};
 ghost use Rattle.own_base.specs.declared.row_name.RowName.{RowName};
-ghost use Rattle.own_model.specs.Db.{Db, empty};
+ghost use Rattle.own_model.specs.Db.{Db, IsOrdered, empty};
 ghost use Rattle.schema_model.specs.Tables.{is_subject};
 ghost use Rattle.subject_model.specs.Forget.{forget};
 ghost use Rattle.schema_model.specs.OwnerSchema.{IsOwnerSchema};
 ghost use Rattle.schema_model.specs.WithinLimits.{IsWithinLimits};
 ghost use Rattle.query_model.specs.WithinLimits.{AreViewsWithin};
+ghost use Rattle.state_model.specs.ChangeOf.{IsChangeOf};
+ghost use Rattle.state_model.specs.Consistent.{IsConsistent};
 ghost use Rattle.state_model.specs.Created.{IsCreated};
-ghost use Rattle.state_model.specs.Sound.{Sound};
+ghost use Rattle.state_model.specs.Net.{net};
+ghost use Rattle.state_model.specs.Sound.{IsWellFormed, Sound};
+ghost use Rattle.state_model.specs.Weight.{row_count, weight};
 
 /// The edges of the schema that admitted creates give are an ownership graph, and it is within the limits, with its views.
 pub fn created_schema_is_an_owner_schema()
@@ -17,14 +22,38 @@ pub fn created_schema_is_an_owner_schema()
     ensures views { (db : Db) → IsCreated db → AreViewsWithin db.schema }
 {}
 
-/// The empty database has the schema that its creates give, and is one that a store may stand for.
+/// The empty database has the schema that its creates give, and is one that a store may represent.
 pub fn empty_database_is_sound()
     ensures created { IsCreated empty }
     ensures sound { Sound empty }
 {}
 
-/// What a GDPR FORGET of a row of a table of data subjects leaves of a database that a store may stand for is one again: no
+/// What a GDPR FORGET of a row of a table of data subjects leaves of a database that a store may represent is one again: no
 /// reference dangles, each row of a private table that stays has an owner, and no limit is passed.
 pub fn sound_stays_sound_after_forget()
     ensures { (db : Db) (subject : RowName) → IsTrue (is_subject db.schema subject.table.0) → Sound db → Sound (forget db subject) }
+{}
+
+/// In a database that a store may represent each row of a private table is owned, each reference has its row, no two rows
+/// share a value that is to be unique, and the limits are kept.
+pub fn sound_database_is_consistent()
+    ensures { (db : Db) → Sound db → IsConsistent db }
+{}
+
+/// And whatever database statements leave, where that holds of it, a store may represent it.
+pub fn consistent_database_is_sound()
+    ensures { (db : Db) → IsWellFormed db → (Sound db) ↔ (IsConsistent db) }
+{}
+
+/// The net of two databases of one schema has a change for each name whose rows differ, which tells both rows, and no other.
+pub fn net_tells_the_rows_that_differ()
+    ensures { (before after : Db) (change : Change) → IsOrdered before → IsOrdered after → after.schema ≡ before.schema
+        → (Contains (net before after) change) ↔ (IsChangeOf before after change) }
+{}
+
+/// A GDPR FORGET of a row of a table of data subjects raises neither the number of rows nor the weight.
+pub fn forget_raises_neither_rows_nor_weight()
+    ensures rows { (db : Db) (subject : RowName) → row_count (forget db subject) ≤ row_count db }
+    ensures weight { (db : Db) (subject : RowName) → IsTrue (is_subject db.schema subject.table.0) → IsWellFormed db
+        → weight (forget db subject) ≤ weight db }
 {}

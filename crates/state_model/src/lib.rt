@@ -1,4 +1,4 @@
-//! Which databases a store may stand for, and whether a commit is accepted: the definitions of faults, weight, nets and
+//! Which databases a store may represent, and whether a commit is accepted: the definitions of faults, weight, nets and
 //! creates, in `specs/`.
 #![tactic(auto)]
 

@@ -7,7 +7,7 @@ use Rattle.schema_model.specs.Tables.{is_subject}
 use Rattle.schema_model.specs.OwnerSchema.{IsOwnerSchema}
 use Rattle.schema_model.specs.WithinLimits.{IsWithinLimits}
 use Rattle.query_eval.specs.Tables.{AreTables}
-use Rattle.state_model.specs.Sound.{IsKept, Sound}
+use Rattle.state_model.specs.Sound.{IsWellFormed, Sound}
 use Rattle.state_model.proofs.CreatedSchema.{owner_schema-created, within-created}
 use Rattle.txn_space.specs.Sound.{IsBase}
 use Rattle.txn_core.specs.Runs.{IsStore}
@@ -18,23 +18,23 @@ use Rattle.engine_core.proofs.KeptTables.{tables_kept}
 use Rattle.engine_core.proofs.KeptViews.{views_there-created}
 
 -- its schema
-pub within_limits : (db : Db) → IsKept db → IsWithinLimits db.schema
+pub within_limits : (db : Db) → IsWellFormed db → IsWithinLimits db.schema
 within_limits db kept = within-created db kept.created
 
-pub owner_schema : (db : Db) → IsKept db → IsOwnerSchema db.schema
+pub owner_schema : (db : Db) → IsWellFormed db → IsOwnerSchema db.schema
 owner_schema db kept = owner_schema-created db kept.created
 
-pub views_there : (db : Db) → IsKept db → AreViewsThere db.schema
+pub views_there : (db : Db) → IsWellFormed db → AreViewsThere db.schema
 views_there db kept = views_there-created db kept.created
 
 -- and its rows
-pub tables : (db : Db) → IsKept db → AreTables db.schema db.rows
+pub tables : (db : Db) → IsWellFormed db → AreTables db.schema db.rows
 tables = tables_kept
 
 pub base : (db : Db) → Sound db → IsBase db.schema.tables db.rows
 base = base-sound
 
-pub store : (db : Db) → Sound db → IsStore db.schema db.rows
+pub store : (db : Db) → Sound db → IsStore db
 store db sound = store-sound db sound (views_there db sound.kept)
 
 -- the table of a subject is there

@@ -1,17 +1,17 @@
 -- Transactions in which a statement may run.
 use Rattle.std.specs.Prelude.{ℕ}
 use Rattle.own_model.specs.Db.{Db}
-use Rattle.state_model.specs.Sound.{IsKept}
+use Rattle.state_model.specs.Sound.{IsWellFormed}
 use Rattle.txn_space.specs.Sound.{IsSpaceOf}
 use Rattle.txn_core.specs.declared.kept.Kept.{Kept}
 use Rattle.txn_core.specs.Kept.{kept_by}
-use Rattle.txn_core.specs.Runs.{shown}
+use Rattle.txn_space.specs.Changed.{changed_db}
 use Rattle.txn_core.specs.Transactions.{IsQuietKept, Transactions, space_of}
 
 -- what is kept of a session is of this database's tables, and shows rows that may stand in them
 pub record IsReady (db : Db) (kept : Kept) : Type 0 where
   pub space : IsSpaceOf db.schema.tables (space_of kept)
-  pub shows : IsKept (shown db (space_of kept))
+  pub shows : IsWellFormed (changed_db db (space_of kept))
   pub quiet : IsQuietKept kept
 
 -- so is what is kept of each session

@@ -8,7 +8,7 @@ use crate::texts::check_lines;
 use std::mem::drop;
 use std::process::Abort;
 use std::test::Fail;
-use store_version::Version;
+use store_version::{Shown, Version};
 use subject_erase::{ErasePlan, erase_changes, plan_flat};
 
 /// Two people who write to each other, and marks on what they wrote. A message that stays without its sender loses its note.
@@ -65,10 +65,11 @@ fn check_erased(rt: &(impl Abort + AllocGlobal), version: &Version, case: &Case)
     requires { Sound version.now }
 {
     let subject = subject_of(rt, version, case.call)?;
-    let changes = erase_changes(rt.alloc(), version, &subject)?;
+    let shown = Shown { version };
+    let changes = erase_changes(rt.alloc(), &shown, version.graph(), &subject)?;
     check_names(rt, &changes, case.changes);
     drop(changes);
-    let plan = plan_flat(rt.alloc(), version, &subject)?;
+    let plan = plan_flat(rt.alloc(), &shown, &subject)?;
     check_plan(rt, plan, case)
 }
 

@@ -1,5 +1,5 @@
 //! What is wrong with a store as a whole.
-ghost use Rattle.state_model.specs.Sound.{IsKept};
+ghost use Rattle.state_model.specs.Sound.{IsWellFormed};
 
 use crate::kept::next_of;
 use crate::store::{Store, store_of};
@@ -9,11 +9,12 @@ use commit_check::{
     row_limit_fault, weight_limit_fault,
 };
 use own_model::{Refusal, Reply, StoreView};
-use owner_sets::{OwnerSets, graph_of};
+use owner_graph::graph_of;
+use owner_sets::OwnerSets;
 use std::mem::drop;
 use std::process::Abort;
 use std::test::Fail;
-use store_version::Next;
+use store_version::{Shown, Version};
 
 const STORE: &str = "\
 CREATE DATA_SUBJECT TABLE users (id INT PRIMARY KEY, mail TEXT UNIQUE)
@@ -70,27 +71,29 @@ fn told(fault: Option<Refusal>) -> Reply {
 }
 
 /// Looks for the first row without an owner, where no limit is passed.
-fn check_owner(rt: &(impl Abort + AllocGlobal), next: &Next, wanted: &str) -> Result<(), Fail>
-    requires { IsKept next.now }
+fn check_owner(rt: &(impl Abort + AllocGlobal), version: &Version, wanted: &str) -> Result<(), Fail>
+    requires { IsWellFormed version.now }
 {
-    let graph = graph_of(rt.alloc(), next.schema())?;
-    let sets = OwnerSets::of(rt.alloc(), next, &graph)?;
-    check_lines(rt, told(row_limit_fault(next)), "ok")?;
-    check_lines(rt, told(weight_limit_fault(next, &sets)), "ok")?;
-    let owner = first_owner_fault(rt.alloc(), next, &sets)?;
+    let graph = graph_of(rt.alloc(), version.schema())?;
+    let shown = Shown { version };
+    let sets = OwnerSets::of(rt.alloc(), &shown, &graph)?;
+    check_lines(rt, told(row_limit_fault(&shown)), "ok")?;
+    check_lines(rt, told(weight_limit_fault(&shown, &sets)), "ok")?;
+    let owner = first_owner_fault(rt.alloc(), &shown, &sets)?;
     check_lines(rt, told(owner), wanted)
 }
 
-/// Looks for the faults of a next version.
-fn check_faults(rt: &(impl Abort + AllocGlobal), next: &Next, case: &Case) -> Result<(), Fail>
-    requires { IsKept next.now }
+/// Looks for the faults of a version.
+fn check_faults(rt: &(impl Abort + AllocGlobal), version: &Version, case: &Case) -> Result<(), Fail>
+    requires { IsWellFormed version.now }
 {
-    let unique = first_unique_fault(rt.alloc(), next)?;
+    let shown = Shown { version };
+    let unique = first_unique_fault(rt.alloc(), &shown)?;
     check_lines(rt, told(unique), case.unique)?;
-    let reference = first_reference_fault(rt.alloc(), next)?;
+    let reference = first_reference_fault(rt.alloc(), &shown)?;
     check_lines(rt, told(reference), case.reference)?;
-    check_owner(rt, next, case.owner)?;
-    let whole = first_fault_flat(rt.alloc(), next)?;
+    check_owner(rt, version, case.owner)?;
+    let whole = first_fault_flat(rt.alloc(), &shown)?;
     check_lines(rt, told(whole), case.whole)
 }
 
@@ -100,7 +103,7 @@ fn check_case(rt: &(impl Abort + AllocGlobal), store: &Store, case: &Case) -> Re
     let next = next_of(rt, store.version(), &statement);
     drop(statement);
     let next = next?;
-    let checked = check_faults(rt, &next, case);
+    let checked = check_faults(rt, next.version(), case);
     drop(next);
     checked
 }

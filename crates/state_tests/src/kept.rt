@@ -6,7 +6,7 @@ ghost use Rattle.own_model.specs.declared.statement.Statement.TheVariants as sta
 ghost use Rattle.grammar_model.specs.Readable.{IsWritten};
 ghost use Rattle.own_model.specs.Db.{Db};
 ghost use Rattle.schema_model.specs.Tables.{is_subject};
-ghost use Rattle.state_model.specs.Sound.{IsKept, Sound};
+ghost use Rattle.state_model.specs.Sound.{IsWellFormed, Sound};
 ghost use Rattle.run_model.specs.Run.{run_bound};
 ghost use Rattle.write_eval.specs.Write.{IsWrite};
 ghost use Rattle.txn_core.specs.Runs.{IsRowStatement};
@@ -22,7 +22,7 @@ use std::alloc::Global;
 use std::mem::drop;
 use std::process::Abort;
 use std::test::Fail;
-use store_version::{Next, Version, prepare, prepare_table, prepare_view};
+use store_version::{Next, Shown, Version, prepare, prepare_table, prepare_view};
 use txn_core::Txns;
 
 /// A CREATE TABLE, which the statement is.
@@ -32,12 +32,13 @@ fn with_table(
     create: &CreateTable,
     statement: &Statement,
 ) -> Result<Next, Fail>
-    requires kept { IsKept version.now }
+    requires kept { IsWellFormed version.now }
     requires of { statement.now ≡ statement_of.CreateTable create.now }
     requires written { IsWritten STATEMENT_BYTES statement.now }
-    ensures { IfOk result IsKept }
+    ensures { IfOk result IsWellFormed }
 {
-    let Ok(admitted) = version.catalog().admit(alloc, version, create) else {
+    let shown = Shown { version };
+    let Ok(admitted) = version.catalog().admit(alloc, &shown, create) else {
         return Err(Fail::from("a CREATE TABLE that is refused"));
     };
     match print_statement(alloc, statement) {
@@ -56,10 +57,10 @@ fn with_view(
     create: &CreateView,
     statement: &Statement,
 ) -> Result<Next, Fail>
-    requires kept { IsKept version.now }
+    requires kept { IsWellFormed version.now }
     requires of { statement.now ≡ statement_of.CreateView create.now }
     requires written { IsWritten STATEMENT_BYTES statement.now }
-    ensures { IfOk result IsKept }
+    ensures { IfOk result IsWellFormed }
 {
     let Ok(definition) = bind_view(alloc, version.catalog().schema(), create) else {
         return Err(Fail::from("a CREATE VIEW that is refused"));
@@ -89,10 +90,10 @@ fn is_bound(statement: &Statement) -> bool
 
 /// What a statement means: a SELECT, an INSERT, an UPDATE, a DELETE or a GDPR call.
 pub fn bound(alloc: Global, version: &Version, statement: &Statement) -> Result<Bound, Fail>
-    requires kept { IsKept version.now }
+    requires kept { IsWellFormed version.now }
     requires written { IsWritten STATEMENT_BYTES statement.now }
     ensures meant { IfOk result (IsMeant version.now.schema) }
-    ensures kept { IfOk result (λ bound. (db : Db) → IsKept db → db.schema ≡ version.now.schema → IsKept (run_bound db bound).db) }
+    ensures kept { IfOk result (λ bound. (db : Db) → IsWellFormed db → db.schema ≡ version.now.schema → IsWellFormed (run_bound db bound).db) }
 {
     if !is_bound(statement) {
         return Err(Fail::from("a statement that isn't bound"));
@@ -115,10 +116,10 @@ fn takes_rows(bound: &Bound) -> bool
 
 /// What a SELECT, an INSERT, an UPDATE or a DELETE means.
 pub fn row_bound(alloc: Global, version: &Version, statement: &Statement) -> Result<Bound, Fail>
-    requires kept { IsKept version.now }
+    requires kept { IsWellFormed version.now }
     requires written { IsWritten STATEMENT_BYTES statement.now }
     ensures row { IfOk result (IsRowStatement version.now.schema) }
-    ensures kept { IfOk result (λ bound. (db : Db) → IsKept db → db.schema ≡ version.now.schema → IsKept (run_bound db bound).db) }
+    ensures kept { IfOk result (λ bound. (db : Db) → IsWellFormed db → db.schema ≡ version.now.schema → IsWellFormed (run_bound db bound).db) }
 {
     let bound = bound(alloc, version, statement)?;
     if takes_rows(&bound) {
@@ -136,7 +137,8 @@ pub fn written(alloc: Global, version: &Version, bound: &Bound) -> Result<List<C
     ensures left { IfOk result (λ changes. (run_bound version.now bound.now).db ≡ changed version.now changes) }
 {
     let txns = Txns::new(alloc)?;
-    match txns.single(alloc, version, SessionNo(1), bound) {
+    let shown = Shown { version };
+    match txns.single(alloc, &shown, SessionNo(1), bound) {
         Ok((_, changes)) => Ok(changes),
         Err(why) => Err(Fail::from(why)),
     }
@@ -146,8 +148,8 @@ pub fn written(alloc: Global, version: &Version, bound: &Bound) -> Result<List<C
 fn with_changes(alloc: Global, version: &Version, bound: &Bound) -> Result<Next, Fail>
     requires sound { Sound version.now }
     requires write { IsWrite version.now.schema bound.now }
-    requires kept { IsKept (run_bound version.now bound.now).db }
-    ensures { IfOk result IsKept }
+    requires kept { IsWellFormed (run_bound version.now bound.now).db }
+    ensures { IfOk result IsWellFormed }
 {
     let changes = written(alloc, version, bound)?;
     let next = prepare(alloc, version, changes.items());
@@ -159,8 +161,8 @@ fn with_changes(alloc: Global, version: &Version, bound: &Bound) -> Result<Next,
 fn with_bound(alloc: Global, version: &Version, bound: Bound) -> Result<Next, Fail>
     requires sound { Sound version.now }
     requires meant { IsMeant version.now.schema bound }
-    requires kept { IsKept (run_bound version.now bound).db }
-    ensures { IfOk result IsKept }
+    requires kept { IsWellFormed (run_bound version.now bound).db }
+    ensures { IfOk result IsWellFormed }
 {
     match &bound {
         Bound::Insert { .. } | Bound::Update { .. } | Bound::Delete { .. } => {
@@ -178,7 +180,7 @@ pub fn next_of(
 ) -> Result<Next, Fail>
     requires sound { Sound version.now }
     requires written { IsWritten STATEMENT_BYTES statement.now }
-    ensures { IfOk result IsKept }
+    ensures { IfOk result IsWellFormed }
 {
     match statement {
         Statement::CreateTable(create) => with_table(rt.alloc(), version, create, statement),
@@ -196,7 +198,7 @@ pub fn subject_of(
     version: &Version,
     text: &str,
 ) -> Result<Subject, Fail>
-    requires { IsKept version.now }
+    requires { IsWellFormed version.now }
     ensures { IfOk result (λ subject. IsTrue (is_subject version.now.schema subject.0.table.0)) }
 {
     let statement = read(rt, text)?;

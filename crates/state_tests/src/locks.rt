@@ -21,7 +21,7 @@ CREATE TABLE cities (name TEXT PRIMARY KEY, size INT)
 CREATE VIEW names AS SELECT name FROM users";
 
 /// What sessions ask for in turn, and what that comes to. Who only reads stands in nobody's way who only reads; of several
-/// sessions the lowest other one is told, and of several items the first, by rising key. Views and joins read tables whole.
+/// sessions the lowest other one is reported, and of several items the first, by rising key. Views and joins read tables whole.
 const STATEMENTS: &str = "\
 1 SELECT * FROM users WHERE id = 5 => held
 2 SELECT * FROM users WHERE id = 5 => held
@@ -111,7 +111,7 @@ fn check_statements(
 }
 
 #[test]
-fn the_lowest_session_in_the_way_is_told(rt: HostRuntime) -> Result<(), Fail> {
+fn the_lowest_session_in_the_way_is_named(rt: HostRuntime) -> Result<(), Fail> {
     let store = store_of(&rt, STORE)?;
     let mut locks = LockTable::new(rt.alloc());
     check_statements(&rt, &store, &mut locks, STATEMENTS)

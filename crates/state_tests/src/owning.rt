@@ -5,10 +5,11 @@ use crate::showing::HOUSE;
 use crate::store::store_of;
 use own_base::{Key, RowName, Subject, TableNo};
 use own_model::StoreView;
-use owner_sets::{ByEdges, OwnerSets, graph_of};
+use owner_graph::graph_of;
+use owner_sets::{ByEdges, OwnerSets};
 use std::process::Abort;
 use std::test::Fail;
-use store_version::Version;
+use store_version::{Shown, Version};
 
 /// A row of the house by its table and place, the keys of its owners and of those who reach it, and the edges by which user 5
 /// does: 0 is that of a room's owner, 1 that of a key's and 2 that of its room.
@@ -128,8 +129,9 @@ fn check_rows(rt: &(impl Abort + AllocGlobal), version: &Version) -> Result<(), 
     requires { Sound version.now }
 {
     let graph = graph_of(rt.alloc(), version.schema())?;
-    let sets = OwnerSets::of(rt.alloc(), version, &graph)?;
-    let edges = ByEdges::of(rt.alloc(), version, &sets, &user(5))?;
+    let shown = Shown { version };
+    let sets = OwnerSets::of(rt.alloc(), &shown, &graph)?;
+    let edges = ByEdges::of(rt.alloc(), &shown, &sets, &user(5))?;
     for case in &CASES {
         check_sets(rt, &sets, case);
         check_edges(rt, &edges, case);

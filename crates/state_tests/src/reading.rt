@@ -12,7 +12,7 @@ use std::alloc::Global;
 use std::mem::drop;
 use std::process::Abort;
 use std::test::Fail;
-use store_version::Version;
+use store_version::{Shown, Version};
 use txn_core::{Txn, select_reply};
 
 const STORE: &str = "\
@@ -37,8 +37,9 @@ fn reply_to(alloc: Global, version: &Version, bound: &Bound) -> Result<Reply, Fa
     requires sound { Sound version.now }
     requires meant { IsMeant version.now.schema bound.now }
 {
+    let shown = Shown { version };
     match bound {
-        Bound::Select(query) => Ok(select_reply(alloc, version, query)?),
+        Bound::Select(query) => Ok(select_reply(alloc, &shown, query)?),
         _ => Err(Fail::from("no SELECT")),
     }
 }
@@ -71,9 +72,10 @@ fn check_txn(rt: &(impl Abort + AllocGlobal), version: &Version, bound: &Bound) 
     requires row { IsRowStatement version.now.schema bound.now }
 {
     let mut txn = Txn::new(rt.alloc());
-    let reply = txn.run(rt.alloc(), version, bound)?;
+    let shown = Shown { version };
+    let reply = txn.run(rt.alloc(), &shown, bound)?;
     check_lines(rt, reply, "ok 2")?;
-    let changes = txn.changes(rt.alloc(), version)?;
+    let changes = txn.changes(rt.alloc(), &shown)?;
     check_names(rt, &changes, &[(0, 2)]);
     Ok(())
 }

@@ -4,7 +4,7 @@ ghost use Rattle.own_model.specs.declared.limit.TheConstants.{SESSIONS};
 ghost use Rattle.own_model.specs.declared.refusal.Refusal.TheVariants.{Memory};
 ghost use Rattle.own_model.specs.Db.{Db};
 ghost use Rattle.run_model.specs.Run.{run_bound};
-ghost use Rattle.state_model.specs.Sound.{IsKept, Sound};
+ghost use Rattle.state_model.specs.Sound.{IsWellFormed, Sound};
 ghost use Rattle.txn_core.specs.Kept.{is_open, kept_by};
 ghost use Rattle.txn_core.specs.Runs.{IsRowStatement};
 ghost use Rattle.engine_core.specs.Asked.{IsMeant};
@@ -20,14 +20,14 @@ use std::alloc::{AllocError, Global};
 use std::mem::drop;
 use std::process::Abort;
 use std::test::Fail;
-use store_version::Version;
+use store_version::{Shown, Version};
 use txn_core::Txns;
 
 const STORE: &str = "\
 CREATE TABLE acc (id INT PRIMARY KEY, n INT)
 INSERT INTO acc VALUES (1, 10), (2, 20)";
 
-/// What a refusal is told as, unless it is for want of memory.
+/// What a refusal is reported as, unless it is for want of memory.
 fn refused(why: Refusal) -> Result<Reply, Fail>
     ensures told { IfOk result (λ reply. why ≢ Memory) }
     ensures memory { OnErr result (why ≡ Memory) }
@@ -51,10 +51,11 @@ fn reply_to_statement(
     requires ready { AreReady version.now txns.old }
     requires open { is_open (kept_by txns.old.kept session.0) ≡ true }
     requires bound { IsRowStatement version.now.schema bound.now }
-    requires kept { (db : Db) → IsKept db → db.schema ≡ version.now.schema → IsKept (run_bound db bound.now).db }
+    requires kept { (db : Db) → IsWellFormed db → db.schema ≡ version.now.schema → IsWellFormed (run_bound db bound.now).db }
     ensures { AreReady version.now txns.new }
 {
-    match txns.statement(alloc, version, session, bound) {
+    let shown = Shown { version };
+    match txns.statement(alloc, &shown, session, bound) {
         Ok(reply) => Ok(reply),
         Err(why) => refused(why),
     }
@@ -95,9 +96,10 @@ fn reply_to_single(
     requires sound { Sound version.now }
     requires meant { IsMeant version.now.schema bound.now }
 {
+    let shown = Shown { version };
     match bound {
         Bound::Insert { .. } | Bound::Update { .. } | Bound::Delete { .. } => {
-            match txns.single(rt.alloc(), version, session, bound) {
+            match txns.single(rt.alloc(), &shown, session, bound) {
                 Ok((reply, _)) => Ok(reply),
                 Err(why) => Ok(Reply::Refused(why)),
             }
@@ -185,7 +187,7 @@ fn check_ends(rt: &impl Abort, txns: &mut Txns) {
 
 /// The transactions of sessions 1 and 2, both begun.
 fn begun(alloc: Global, version: &Version) -> Result<Txns, AllocError>
-    requires { IsKept version.now }
+    requires { IsWellFormed version.now }
     ensures { IfOk result (AreReady version.now) }
 {
     let _ = version;
@@ -205,7 +207,8 @@ fn check_changes(
     requires ready { AreReady version.now txns.now }
 {
     assert!(rt; txns.is_open(SessionNo(1)));
-    let changes = txns.changes(rt.alloc(), version, SessionNo(1))?;
+    let shown = Shown { version };
+    let changes = txns.changes(rt.alloc(), &shown, SessionNo(1))?;
     check_names(rt, &changes, &[(0, 1)]);
     Ok(())
 }

@@ -7,7 +7,7 @@ use crate::texts::{check_lines, parts};
 use own_model::{Reply, StoreView};
 use std::process::Abort;
 use std::test::Fail;
-use store_version::Version;
+use store_version::{Shown, Version};
 use subject_access::{collect_flat, no_subject};
 
 /// Two people, what each owns, and a room that whoever holds a key to it may see: its code is hidden by that edge.
@@ -36,7 +36,8 @@ fn check_shown(rt: &(impl Abort + AllocGlobal), version: &Version, case: &str) -
 {
     let (call, wanted) = parts(case)?;
     let subject = subject_of(rt, version, call)?;
-    let reply = collect_flat(rt.alloc(), version, &subject)?;
+    let shown = Shown { version };
+    let reply = collect_flat(rt.alloc(), &shown, &subject)?;
     check_lines(rt, reply, wanted)
 }
 

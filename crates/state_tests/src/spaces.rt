@@ -12,7 +12,7 @@ use std::alloc::{AllocError, Global};
 use std::mem::drop;
 use std::process::Abort;
 use std::test::Fail;
-use store_version::Version;
+use store_version::{Shown, Version};
 use txn_space::Space;
 
 /// Tables 0 and 1, whose rows are a value and a key.
@@ -182,23 +182,24 @@ fn expect_net(rt: &impl Abort, changes: List<Change>, net: &[(u32, Option<Pair>,
 /// Makes a step.
 fn check_step(
     rt: &(impl Abort + AllocGlobal),
-    base: &Version,
+    version: &Version,
     space: &mut Space,
     step: &Step,
 ) -> Result<(), Fail>
-    requires base { IsBase base.now.schema.tables base.now.rows }
-    requires space { IsSpaceOf base.now.schema.tables space.old }
-    ensures space { IsSpaceOf base.now.schema.tables space.new }
+    requires base { IsBase version.now.schema.tables version.now.rows }
+    requires space { IsSpaceOf version.now.schema.tables space.old }
+    ensures space { IsSpaceOf version.now.schema.tables space.new }
 {
+    let base = Shown { version };
     let changes = changes_of(rt.alloc(), step.0)?;
-    assert!(rt; are_changes_of(base.schema(), &changes));
-    let put = space.put(rt.alloc(), base, &changes);
+    assert!(rt; are_changes_of(version.schema(), &changes));
+    let put = space.put(rt.alloc(), &base, &changes);
     drop(changes);
     put?;
-    let over = space.over(base);
+    let over = space.over(&base);
     expect_rows(rt, &over, 0, step.1);
     expect_rows(rt, &over, 1, step.2);
-    expect_net(rt, space.changes(rt.alloc(), base)?, step.3);
+    expect_net(rt, space.changes(rt.alloc(), &base)?, step.3);
     Ok(())
 }
 

@@ -1,6 +1,6 @@
 //! A store without a fault, as statements leave it.
 ghost use Rattle.std.specs.Prelude.{IfOk};
-ghost use Rattle.state_model.specs.Sound.{IsKept, Sound};
+ghost use Rattle.state_model.specs.Sound.{IsWellFormed, Sound};
 ghost use Rattle.commit_check.specs.Judged.{IsJudged};
 
 use crate::kept::next_of;
@@ -11,7 +11,7 @@ use std::marker::Model;
 use std::mem::drop;
 use std::process::Abort;
 use std::test::Fail;
-use store_version::{Next, Version, publish};
+use store_version::{Next, Shown, Version, publish};
 
 /// A store without a fault, which contracts see as its database.
 #[derive(Drop)]
@@ -37,18 +37,19 @@ impl Model for Store {
 
 /// What is judged of a version that is prepared.
 pub fn judged(alloc: Global, next: &Next) -> Result<Judged, AllocError>
-    requires { IsKept next.now }
+    requires { IsWellFormed next.now }
     ensures { IfOk result (IsJudged next.now) }
 {
-    judge_flat(alloc, next)
+    judged_now(alloc, next.version())
 }
 
 /// What is judged of a version that stands.
 pub fn judged_now(alloc: Global, version: &Version) -> Result<Judged, AllocError>
-    requires { IsKept version.now }
+    requires { IsWellFormed version.now }
     ensures { IfOk result (IsJudged version.now) }
 {
-    judge_flat(alloc, version)
+    let shown = Shown { version };
+    judge_flat(alloc, &shown)
 }
 
 impl Store {

@@ -2,7 +2,7 @@
 ghost use Rattle.std.specs.Prelude.{◌≡◌, IfOk};
 ghost use Rattle.commit_check.specs.declared.judged.Judged.TheVariants.{Weighs};
 ghost use Rattle.run_model.specs.Run.{run_bound};
-ghost use Rattle.state_model.specs.Sound.{IsKept, Sound};
+ghost use Rattle.state_model.specs.Sound.{IsWellFormed, Sound};
 ghost use Rattle.state_model.specs.Weight.{weight};
 ghost use Rattle.write_eval.specs.Write.{IsWrite};
 ghost use Rattle.engine_core.specs.Asked.{IsMeant};
@@ -19,7 +19,7 @@ use payload_size::payload_size;
 use std::mem::drop;
 use std::process::Abort;
 use std::test::Fail;
-use store_version::{Next, Version, prepare};
+use store_version::{Next, Shown, Version, prepare};
 use unlinked_check::{are_unlinked, judge_unlinked};
 use write_eval::{Written, write_changes};
 
@@ -110,7 +110,8 @@ fn check_write(
     requires sound { Sound version.now }
     requires write { IsWrite version.now.schema bound.now }
 {
-    match write_changes(rt.alloc(), version, bound) {
+    let shown = Shown { version };
+    match write_changes(rt.alloc(), &shown, bound) {
         Ok(written) => check_written(rt, written, case),
         Err(why) => check_lines(rt, Reply::Refused(why), case.reply),
     }
@@ -143,12 +144,16 @@ fn weight_by_changes(
 ) -> Result<u64, Fail>
     requires sound { Sound version.now }
     requires net { IsNet version.now changes.now }
-    requires kept { IsKept next.now }
+    requires kept { IsWellFormed next.now }
     requires next { next.now ≡ changed version.now changes.now }
 {
     let before = weight(rt, version)?;
     assert!(rt; are_unlinked(version.schema(), changes));
-    weight_in(judge_unlinked(version, next, before, changes))
+    let shown = Shown { version };
+    let left = Shown {
+        version: next.version(),
+    };
+    weight_in(judge_unlinked(&shown, &left, before, changes))
 }
 
 /// Looks at what is judged of a version behind the net of a write, and at the bytes of that.
@@ -161,7 +166,7 @@ fn check_next(
 ) -> Result<(), Fail>
     requires sound { Sound version.now }
     requires net { IsNet version.now changes.now }
-    requires kept { IsKept next.now }
+    requires kept { IsWellFormed next.now }
     requires next { next.now ≡ changed version.now changes.now }
 {
     let whole = weight_in(judged(rt.alloc(), next)?)?;
@@ -181,7 +186,7 @@ fn check_net(
 ) -> Result<(), Fail>
     requires sound { Sound version.now }
     requires write { IsWrite version.now.schema bound.now }
-    requires kept { IsKept (run_bound version.now bound.now).db }
+    requires kept { IsWellFormed (run_bound version.now bound.now).db }
 {
     let changes = written(rt.alloc(), version, bound)?;
     check_names(rt, &changes, case.net);
@@ -198,7 +203,7 @@ fn check_bound(
 ) -> Result<(), Fail>
     requires sound { Sound version.now }
     requires meant { IsMeant version.now.schema bound.now }
-    requires kept { IsKept (run_bound version.now bound.now).db }
+    requires kept { IsWellFormed (run_bound version.now bound.now).db }
 {
     match bound {
         Bound::Insert { .. } | Bound::Update { .. } | Bound::Delete { .. } => {

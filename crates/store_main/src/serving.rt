@@ -1,9 +1,8 @@
-ghost use Rattle.std.specs.Prelude.{◌≡◌, ◌+◌, ◌⊎◌, Some, None, false, map, string_bytes};
-ghost use Rattle.outer_world.specs.FaultCount.{CountRose};
-ghost use Rattle.own_model.specs.declared.limit.TheConstants.{INPUT_BYTES};
+ghost use Rattle.std.specs.Prelude.{◌≡◌, ◌⊎◌, Some, None, false, map, string_bytes};
 ghost use Rattle.store_top.specs.Status.{status_of};
-ghost use Rattle.store_top.specs.Steps.{ToldBefore, ToldInPart};
-ghost use Rattle.store_top.specs.Top.{IsBeforeCalls, IsWithoutDisk, ReadsAtMost, RefusesInput, RunsInPart, RunsWhole};
+ghost use Rattle.store_top.specs.Ran.{Ran};
+ghost use Rattle.store_top.specs.Top.{IsWithoutDisk, RunsWhole};
+ghost use Rattle.store_words.specs.Words.{mode_of};
 ghost use Rattle.store_main.specs.Words.{is_served};
 
 use crate::ending::{Ending, out_of_memory, usage};
@@ -56,23 +55,8 @@ fn serve<Rt: Threads + Wait + Sync, R: Source, W: Sink>(
         → (result.fault ≡ Some TopFault.Usage) ⊎ (result.fault ≡ Some TopFault.Memory) }
     ensures untouched { is_served (map string_bytes words.now) ≡ false → (source.new ≡ source.old) × (sink.new ≡ sink.old) }
 
-    ensures read_fault { result.fault ≡ Some TopFault.Read → CountRose (R.faults source.old) (R.faults source.new) }
-    ensures write_fault { result.fault ≡ Some TopFault.Write → CountRose (W.faults sink.old) (W.faults sink.new) }
-    ensures input_fault { (fault : _) → result.fault ≡ Some (TopFault.Input fault)
-        → RefusesInput (R.remaining source.old) (R.remaining source.new) fault }
-
-    // What the run did: all of its calls, or those before the one at which it stopped.
-    ensures whole { result.fault ≡ None
-        → (history : _) × RunsWhole (R.remaining source.old) (R.remaining source.new) (W.written sink.old) (W.written sink.new) history }
-    ensures in_part { result.fault ≡ Some TopFault.Write
-        → (history : _) × RunsInPart (R.remaining source.old) (R.remaining source.new) history (ToldInPart (W.written sink.old) (W.written sink.new)) }
-    ensures memory { result.fault ≡ Some TopFault.Memory
-        → (sink.new ≡ sink.old)
-        ⊎ ((history : _) × RunsInPart (R.remaining source.old) (R.remaining source.new) history (ToldBefore (W.written sink.old) (W.written sink.new))) }
-
-    ensures silent { IsBeforeCalls result.fault → sink.new ≡ sink.old }
-    ensures possible { IsWithoutDisk result.fault }
-    ensures at_most { ReadsAtMost (R.remaining source.old) (R.remaining source.new) (INPUT_BYTES + 1) }
+    // What was read, made and written, by the fault.
+    ensures ran { (history : _) × Ran R.remaining R.faults R.fails W.written W.faults W.fails source.old source.new sink.old sink.new history result.fault }
 {
     let [_, store, words @ ..] = words else {
         return usage();
@@ -80,6 +64,24 @@ fn serve<Rt: Threads + Wait + Sync, R: Source, W: Sink>(
     if store.as_str() != "-" {
         return usage();
     }
+    serve_in_memory(rt, alloc, words, source, sink)
+}
+
+/// Serves the words of a mode over an empty disk in memory.
+fn serve_in_memory<Rt: Threads + Wait + Sync, R: Source, W: Sink>(
+    rt: &Rt,
+    alloc: Global,
+    words: &[String],
+    source: &mut R,
+    sink: &mut W,
+) -> Ending
+    ensures status { result.status ≡ status_of result.fault }
+    ensures usage { result.fault ≡ Some TopFault.Usage → mode_of (map string_bytes words.now) ≡ None }
+    ensures unserved { mode_of (map string_bytes words.now) ≡ None
+        → (result.fault ≡ Some TopFault.Usage) ⊎ (result.fault ≡ Some TopFault.Memory) }
+    ensures untouched { mode_of (map string_bytes words.now) ≡ None → (source.new ≡ source.old) × (sink.new ≡ sink.old) }
+    ensures ran { (history : _) × Ran R.remaining R.faults R.fails W.written W.faults W.fails source.old source.new sink.old sink.new history result.fault }
+{
     let Ok(disk) = MemDisk::new(alloc, &[]) else {
         return out_of_memory();
     };
@@ -87,8 +89,9 @@ fn serve<Rt: Threads + Wait + Sync, R: Source, W: Sink>(
         status,
         fault,
         history,
-        disk: _,
+        disk,
     } = run(rt, alloc, words, source, sink, disk, &NowGate);
     drop(history);
+    drop(disk);
     Ending { status, fault }
 }

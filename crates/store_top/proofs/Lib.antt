@@ -1,3 +1,4 @@
 pub mod Calls
+pub mod RanLemmas
 pub mod Runs
 pub mod Serving

@@ -67,7 +67,7 @@ serving-more calls done call rest history after old mid new before served step =
       whole = append_assoc done (call ∷ []) rest ∙ before.whole;
       runs = record {
         text = _;
-        transcript = rw step.history_is (transcript-more empty done history before.runs.text call step.want before.runs.transcript next before.calls_within before.entries_within step.spared);
+        transcript = rw step.history_is (transcript-more empty done history before.runs.text call step.want before.runs.transcript next before.calls_within before.entries_within step.spared step.shown);
         written = appends-more old mid new _ _ before.runs.written step.written;
       };
       numbered = before.numbered.1;
@@ -95,7 +95,7 @@ module _ (calls done : List ScriptCall) (call : ScriptCall) (rest : List ScriptC
         want = step.want;
         history_is = step.history_is;
         spared = step.spared;
-        made = rw step.history_is (transcript-more empty done history before.runs.text call step.want before.runs.transcript next before.calls_within before.entries_within step.spared);
+        made = rw step.history_is (transcript-more empty done history before.runs.text call step.want before.runs.transcript next before.calls_within before.entries_within step.spared step.shown);
         told = told;
       }
 

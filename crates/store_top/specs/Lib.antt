@@ -1,3 +1,4 @@
+pub mod Ran
 pub mod Status
 pub mod Steps
 pub mod Top

@@ -52,6 +52,7 @@ pub record MakesCallTo (call : ScriptCall) (before after : History) (old new : O
   pub want : Want
   pub history_is : after ≡ before ++ added (entry_of call) want
   pub spared : want ≡ Unmade → MayBeUnmade (entry_of call).request
+  pub shown : want ≢ Unshown
   pub written : TellsCall result old new (text_of_call empty before call want)
 
 -- these calls were made in a run, and known bytes grew by its text

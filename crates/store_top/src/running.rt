@@ -1,13 +1,12 @@
-ghost use Rattle.std.specs.Prelude.{◌≡◌, ◌≢◌, ◌+◌, ◌≤◌, ◌⊎◌, [], map, Some, None, string_bytes, vec_len};
-ghost use Rattle.outer_world.specs.FaultCount.{CountRose};
-ghost use Rattle.own_model.specs.declared.script.InputFault.{InputFault as InputFaultSeen};
+ghost use Rattle.std.specs.Prelude.{◌≡◌, ◌≢◌, ◌+◌, ◌≤◌, [], map, Some, None, string_bytes, vec_len};
 ghost use Rattle.own_model.specs.Db.{empty};
 ghost use Rattle.script_model.specs.Numbered.{AreNumbered};
 ghost use Rattle.history_model.specs.Serial.{Serial};
 ghost use Rattle.store_top.specs.Status.{status_of, unopened};
 ghost use Rattle.store_words.specs.Words.{mode_of};
-ghost use Rattle.store_top.specs.Steps.{AreOfInput, AreReadable, ToldBefore, ToldInPart};
-ghost use Rattle.store_top.specs.Top.{IsBeforeCalls, IsUsageOrMemory, IsWithoutDisk, ReadsAtMost, RefusesInput, RunsInPart, RunsWhole, ServesBytes, ServesCalls};
+ghost use Rattle.store_top.specs.Ran.{LastFault, Ran};
+ghost use Rattle.store_top.specs.Steps.{AreOfInput, AreReadable};
+ghost use Rattle.store_top.specs.Top.{IsUsageOrMemory, ServesBytes, ServesCalls};
 
 use crate::served::{Served, TopFault, status};
 use crate::steps::{RunFault, serve_calls};
@@ -65,8 +64,9 @@ fn serve_script<W: Sink, D>(
     requires numbered { AreNumbered [] calls.items }
     requires readable { AreReadable calls.items }
     requires input { AreOfInput calls.items }
-    ensures served { ServesCalls calls.items result.history (W.written sink.old) (W.written sink.new) (CountRose (W.faults sink.old) (W.faults sink.new))
+    ensures served { ServesCalls calls.items result.history (W.written sink.old) (W.written sink.new) (LastFault W.faults W.fails sink.old sink.new)
         ((sink.new ≡ sink.old) × (result.history ≡ [])) result.fault }
+    ensures steady { result.fault ≢ Some TopFault.Write → W.faults sink.new ≡ W.faults sink.old }
     ensures disk { result.disk ≡ disk }
     ensures serial { Serial empty result.history }
 {
@@ -91,8 +91,9 @@ fn serve_engine<W: Sink, D>(
     requires numbered { AreNumbered [] calls.items }
     requires readable { AreReadable calls.items }
     requires input { AreOfInput calls.items }
-    ensures served { ServesCalls calls.items result.history (W.written sink.old) (W.written sink.new) (CountRose (W.faults sink.old) (W.faults sink.new))
+    ensures served { ServesCalls calls.items result.history (W.written sink.old) (W.written sink.new) (LastFault W.faults W.fails sink.old sink.new)
         ((sink.new ≡ sink.old) × (result.history ≡ [])) result.fault }
+    ensures steady { result.fault ≢ Some TopFault.Write → W.faults sink.new ≡ W.faults sink.old }
     ensures disk { result.disk ≡ engine.disk }
     ensures serial { Serial empty result.history }
 {
@@ -112,8 +113,9 @@ fn serve_engine<W: Sink, D>(
 
 /// Serves the calls of an input.
 fn serve_bytes<W: Sink, D>(alloc: Global, bytes: &[u8], sink: &mut W, disk: D) -> Ended<D>
-    ensures served { ServesBytes bytes.now result.history (W.written sink.old) (W.written sink.new) (CountRose (W.faults sink.old) (W.faults sink.new))
+    ensures served { ServesBytes bytes.now result.history (W.written sink.old) (W.written sink.new) (LastFault W.faults W.fails sink.old sink.new)
         ((sink.new ≡ sink.old) × (result.history ≡ [])) result.fault }
+    ensures steady { result.fault ≢ Some TopFault.Write → W.faults sink.new ≡ W.faults sink.old }
     ensures disk { result.disk ≡ disk }
     ensures serial { Serial empty result.history }
 {
@@ -131,23 +133,8 @@ fn serve_source<R: Source, W: Sink, D>(
     sink: &mut W,
     disk: D,
 ) -> Ended<D>
-    ensures read_fault { result.fault ≡ Some TopFault.Read → CountRose (R.faults source.old) (R.faults source.new) }
-    ensures input_fault { (fault : InputFaultSeen) → result.fault ≡ Some (TopFault.Input fault)
-        → RefusesInput (R.remaining source.old) (R.remaining source.new) fault }
-    ensures write_fault { result.fault ≡ Some TopFault.Write → CountRose (W.faults sink.old) (W.faults sink.new) }
-    ensures whole { result.fault ≡ None
-        → RunsWhole (R.remaining source.old) (R.remaining source.new) (W.written sink.old) (W.written sink.new) result.history }
-    ensures in_part { result.fault ≡ Some TopFault.Write
-        → RunsInPart (R.remaining source.old) (R.remaining source.new) result.history (ToldInPart (W.written sink.old) (W.written sink.new)) }
-    ensures memory { result.fault ≡ Some TopFault.Memory
-        → ((sink.new ≡ sink.old) × (result.history ≡ []))
-        ⊎ RunsInPart (R.remaining source.old) (R.remaining source.new) result.history (ToldBefore (W.written sink.old) (W.written sink.new)) }
-    ensures short { result.fault ≡ Some TopFault.Memory → ReadsAtMost (R.remaining source.old) (R.remaining source.new) INPUT_BYTES }
-    ensures silent { IsBeforeCalls result.fault → (sink.new ≡ sink.old) × (result.history ≡ []) }
-    ensures possible { IsWithoutDisk result.fault }
+    ensures ran { Ran R.remaining R.faults R.fails W.written W.faults W.fails source.old source.new sink.old sink.new result.history result.fault }
     ensures lawful { result.fault ≢ Some TopFault.Usage }
-    ensures at_most { ReadsAtMost (R.remaining source.old) (R.remaining source.new) (INPUT_BYTES + 1) }
-    ensures serial { Serial empty result.history }
     ensures disk { result.disk ≡ disk }
 {
     match read_all(alloc, source, INPUT_BYTES + 1) {
@@ -191,35 +178,9 @@ pub fn step<R: Source, W: Sink, D>(
     ensures status { result.status ≡ status_of result.fault }
     ensures disk { result.disk ≡ disk }
 
-    // A read fault comes only where the source's count rose, and a write fault only where the sink's did.
-    ensures read_fault { result.fault ≡ Some TopFault.Read → CountRose (R.faults source.old) (R.faults source.new) }
-    ensures write_fault { result.fault ≡ Some TopFault.Write → CountRose (W.faults sink.old) (W.faults sink.new) }
-
-    // An input fault is that of the bytes that were read; without a fault their calls were all made and told, but for
-    // those that memory may keep from being made.
-    ensures input_fault { (fault : InputFaultSeen) → result.fault ≡ Some (TopFault.Input fault)
-        → RefusesInput (R.remaining source.old) (R.remaining source.new) fault }
-    ensures whole { result.fault ≡ None
-        → RunsWhole (R.remaining source.old) (R.remaining source.new) (W.written sink.old) (W.written sink.new) result.history }
-
-    // Where writing failed, or memory was refused, the run stopped at a call: those before it were made and told, none
-    // after it was made. A write fault leaves a part of that call's text written, and out of memory nothing of it. Out of
-    // memory comes only where what was read isn't too long for an input.
-    ensures in_part { result.fault ≡ Some TopFault.Write
-        → RunsInPart (R.remaining source.old) (R.remaining source.new) result.history (ToldInPart (W.written sink.old) (W.written sink.new)) }
-    ensures memory { result.fault ≡ Some TopFault.Memory
-        → ((sink.new ≡ sink.old) × (result.history ≡ []))
-        ⊎ RunsInPart (R.remaining source.old) (R.remaining source.new) result.history (ToldBefore (W.written sink.old) (W.written sink.new)) }
-    ensures short { result.fault ≡ Some TopFault.Memory → ReadsAtMost (R.remaining source.old) (R.remaining source.new) INPUT_BYTES }
-
-    // Any other fault comes before any call, and nothing is written; none tells of a disk.
-    ensures silent { IsBeforeCalls result.fault → (sink.new ≡ sink.old) × (result.history ≡ []) }
-    ensures possible { IsWithoutDisk result.fault }
+    // What was read, made and written, by the fault.
+    ensures ran { Ran R.remaining R.faults R.fails W.written W.faults W.fails source.old source.new sink.old sink.new result.history result.fault }
     ensures lawful { result.fault ≢ Some TopFault.Usage }
-    ensures at_most { ReadsAtMost (R.remaining source.old) (R.remaining source.new) (INPUT_BYTES + 1) }
-
-    // The history has one order, and leaves no bad state at any of its places.
-    ensures serial { Serial empty result.history }
 {
     served(serve_source(alloc, source, sink, disk))
 }
@@ -245,34 +206,8 @@ pub fn run<Rt: Threads + Wait + Sync, R: Source, W: Sink, D: Disk + Send, G: Gat
     ensures unserved { mode_of (map string_bytes words.now) ≡ None → IsUsageOrMemory result.fault × (source.new ≡ source.old)
         × (sink.new ≡ sink.old) × (result.history ≡ []) }
 
-    // A read fault comes only where the source's count rose, and a write fault only where the sink's did.
-    ensures read_fault { result.fault ≡ Some TopFault.Read → CountRose (R.faults source.old) (R.faults source.new) }
-    ensures write_fault { result.fault ≡ Some TopFault.Write → CountRose (W.faults sink.old) (W.faults sink.new) }
-
-    // An input fault is that of the bytes that were read; without a fault their calls were all made and told, but for
-    // those that memory may keep from being made.
-    ensures input_fault { (fault : InputFaultSeen) → result.fault ≡ Some (TopFault.Input fault)
-        → RefusesInput (R.remaining source.old) (R.remaining source.new) fault }
-    ensures whole { result.fault ≡ None
-        → RunsWhole (R.remaining source.old) (R.remaining source.new) (W.written sink.old) (W.written sink.new) result.history }
-
-    // Where writing failed, or memory was refused, the run stopped at a call: those before it were made and told, none
-    // after it was made. A write fault leaves a part of that call's text written, and out of memory nothing of it. Out of
-    // memory comes only where what was read isn't too long for an input.
-    ensures in_part { result.fault ≡ Some TopFault.Write
-        → RunsInPart (R.remaining source.old) (R.remaining source.new) result.history (ToldInPart (W.written sink.old) (W.written sink.new)) }
-    ensures memory { result.fault ≡ Some TopFault.Memory
-        → ((sink.new ≡ sink.old) × (result.history ≡ []))
-        ⊎ RunsInPart (R.remaining source.old) (R.remaining source.new) result.history (ToldBefore (W.written sink.old) (W.written sink.new)) }
-    ensures short { result.fault ≡ Some TopFault.Memory → ReadsAtMost (R.remaining source.old) (R.remaining source.new) INPUT_BYTES }
-
-    // Any other fault comes before any call, and nothing is written; none tells of a disk.
-    ensures silent { IsBeforeCalls result.fault → (sink.new ≡ sink.old) × (result.history ≡ []) }
-    ensures possible { IsWithoutDisk result.fault }
-    ensures at_most { ReadsAtMost (R.remaining source.old) (R.remaining source.new) (INPUT_BYTES + 1) }
-
-    // The history has one order, and leaves no bad state at any of its places.
-    ensures serial { Serial empty result.history }
+    // What was read, made and written, by the fault.
+    ensures ran { Ran R.remaining R.faults R.fails W.written W.faults W.fails source.old source.new sink.old sink.new result.history result.fault }
 {
     match mode_of(alloc, words) {
         Ok(Some(Mode::Step)) => step(alloc, source, sink, disk),

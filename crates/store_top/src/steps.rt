@@ -1,8 +1,10 @@
-ghost use Rattle.std.specs.Prelude.{◌≡◌, ◌+◌, ◌<◌, ◌≤◌, [], vec_len, OnOk, Err};
+ghost use Rattle.std.specs.Prelude.{◌≡◌, ◌≢◌, ◌+◌, ◌<◌, ◌≤◌, [], vec_len, OnOk, Err};
 ghost use Rattle.outer_world.specs.FaultCount.{CountRose};
+ghost use Rattle.outer_world.specs.LastCall.{EndsInFault};
 ghost use Rattle.grammar_model.specs.Readable.{IsReadable};
 ghost use Rattle.script_model.specs.Numbered.{AreNumbered};
 ghost use Rattle.script_model.specs.Split.{IsOfASession};
+ghost use Rattle.store_top.specs.Ran.{LastFault};
 ghost use Rattle.store_top.specs.Steps.{AreOfInput, AreReadable, MakesCall, MakesCallTo, RunsTo, StopsAtCall, ToldBefore, ToldInPart};
 
 use crate::built::built;
@@ -71,7 +73,8 @@ fn serve_call<W: Sink, D>(
     ensures room { engine.old.spare ≤ engine.new.spare + 1 }
     ensures disk { engine.new.disk ≡ engine.old.disk }
     ensures fault { result ≡ Err RunFault.Write → CountRose (W.faults sink.old) (W.faults sink.new) }
-    ensures counted { W.faults sink.old ≤ W.faults sink.new }
+    ensures last { result ≡ Err RunFault.Write → EndsInFault W.faults W.fails sink.old sink.new }
+    ensures steady { result ≢ Err RunFault.Write → W.faults sink.new ≡ W.faults sink.old }
 {
     match lines_of_call(engine, alloc, call) {
         Ok(text) => write_all(sink, text.bytes()).map_err(|_| RunFault::Write),
@@ -95,7 +98,8 @@ pub(crate) fn serve_calls<W: Sink, D>(
     ensures served { OnOk result (RunsTo calls.items engine.new.history (W.written sink.old) (W.written sink.new)) }
     ensures broken { result ≡ Err RunFault.Write → StopsAtCall calls.items engine.new.history (ToldInPart (W.written sink.old) (W.written sink.new)) }
     ensures refused { result ≡ Err RunFault.Memory → StopsAtCall calls.items engine.new.history (ToldBefore (W.written sink.old) (W.written sink.new)) }
-    ensures fault { result ≡ Err RunFault.Write → CountRose (W.faults sink.old) (W.faults sink.new) }
+    ensures fault { result ≡ Err RunFault.Write → LastFault W.faults W.fails sink.old sink.new }
+    ensures steady { result ≢ Err RunFault.Write → W.faults sink.new ≡ W.faults sink.old }
     ensures disk { engine.new.disk ≡ engine.old.disk }
 {
     for call in calls {

@@ -1,4 +1,4 @@
--- What a version stands for.
+-- What a version represents.
 use Rattle.std.specs.Prelude.{◌≡◌, List, map}
 use Rattle.annot_schema.specs.Created.{Created}
 use Rattle.own_model.specs.declared.schema.TableDef.{TableDef}

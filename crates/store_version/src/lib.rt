@@ -4,7 +4,9 @@
 
 mod after;
 mod preparing;
+mod shown;
 mod version;
 
 pub use preparing::{prepare, prepare_table, prepare_view, publish};
+pub use shown::Shown;
 pub use version::{Next, Version};

@@ -1,9 +1,13 @@
-ghost use Rattle.std.specs.Prelude.{◌≡◌, IfOk};
+ghost use Rattle.std.specs.Prelude.{◌≡◌, ◌<◌, length, slice_get, IfOk};
+ghost use Rattle.std.specs.Option.{option_copied};
 ghost use Rattle.own_model.specs.Db.{empty};
+ghost use Rattle.own_model.specs.Stored.{IsRunFrom, row_named, rows_at};
+ghost use Rattle.owner_graph.specs.Graph.{IsGraphOf};
 
 use annot_schema::Catalog;
 use own_base::{Row, RowName, TableNo};
-use own_model::{Schema, StoreView};
+use own_model::Schema;
+use owner_graph::Graph;
 use std::alloc::{AllocError, Global};
 use std::marker::Model;
 use std::sync::Arc;
@@ -69,56 +73,61 @@ impl Version {
     {
         &self.catalog
     }
+
+    /// Lends the graph of the schema's edges, which the catalog keeps. Takes no memory.
+    pub fn graph(&self) -> &Graph
+        ensures { IsGraphOf (length self.now.schema.tables) self.now.schema.edges result.now }
+    {
+        self.catalog.graph()
+    }
 }
 
-impl StoreView for Version {
-    ghost schema_of = { λ db. db.schema };
-
-    ghost rows = { λ db. db.rows };
-
-    fn schema(&self) -> &Schema {
+impl Version {
+    /// Lends the schema. Takes no memory.
+    pub fn schema(&self) -> &Schema
+        ensures { result.now ≡ self.now.schema }
+    {
         self.catalog.schema()
     }
 
-    fn count(&self, table: TableNo) -> u64 {
+    /// How many rows a table has. Takes no memory.
+    pub(crate) fn count(&self, table: TableNo) -> u64
+        requires { table.0 < length self.now.schema.tables }
+        ensures { result ≡ length (rows_at self.now.rows table.0) }
+    {
         self.parts[table.0 as usize].len()
     }
 
-    fn row_at(&self, table: TableNo, at: u64) -> Option<&Row> {
+    /// The row at a place of a table. Takes no memory.
+    pub(crate) fn row_at(&self, table: TableNo, at: u64) -> Option<&Row>
+        requires { table.0 < length self.now.schema.tables }
+        ensures { option_copied result ≡ slice_get (rows_at self.now.rows table.0) at }
+    {
         self.parts[table.0 as usize].at(at)
     }
 
-    fn row(&self, name: &RowName) -> Option<&Row> {
+    /// The row of a name. Takes no memory.
+    pub(crate) fn row(&self, name: &RowName) -> Option<&Row>
+        requires { name.now.table.0 < length self.now.schema.tables }
+        ensures { option_copied result ≡ row_named self.now.schema self.now.rows name.now }
+    {
         self.parts[name.table.0 as usize].get(&name.key)
     }
 
-    fn rows_from(&self, table: TableNo, at: u64) -> &[Row] {
+    /// A run of a table's rows that begins at a place. Takes no memory.
+    pub(crate) fn rows_from(&self, table: TableNo, at: u64) -> &[Row]
+        requires { table.0 < length self.now.schema.tables }
+        ensures { IsRunFrom (rows_at self.now.rows table.0) at result.now }
+    {
         self.parts[table.0 as usize].rows_from(at)
     }
 }
 
-impl StoreView for Next {
-    ghost schema_of = { λ db. db.schema };
-
-    ghost rows = { λ db. db.rows };
-
-    fn schema(&self) -> &Schema {
-        self.version.schema()
-    }
-
-    fn count(&self, table: TableNo) -> u64 {
-        self.version.count(table)
-    }
-
-    fn row_at(&self, table: TableNo, at: u64) -> Option<&Row> {
-        self.version.row_at(table, at)
-    }
-
-    fn row(&self, name: &RowName) -> Option<&Row> {
-        self.version.row(name)
-    }
-
-    fn rows_from(&self, table: TableNo, at: u64) -> &[Row] {
-        self.version.rows_from(table, at)
+impl Next {
+    /// Lends the version that it is.
+    pub fn version(&self) -> &Version
+        ensures { result.now ≡ self.now }
+    {
+        &self.version
     }
 }

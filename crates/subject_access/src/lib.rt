@@ -1,8 +1,9 @@
 //! What a GDPR GET shows of a store that is viewed.
 #![tactic(auto)]
 
+mod access;
 mod cells;
 mod collect;
 mod got_row;
 
-pub use collect::{collect_flat, no_subject};
+pub use collect::{collect_by_graph, collect_flat, no_subject};

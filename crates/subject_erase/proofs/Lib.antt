@@ -4,9 +4,9 @@ pub mod SubjectRows
 pub mod OwnedLemmas
 pub mod MarkLemmas
 pub mod StruckMarks
-pub mod HeldLocal
-pub mod HeldMarks
-pub mod HeldOrder
+pub mod ClaimedLocal
+pub mod ClaimedMarks
+pub mod ClaimedOrder
 pub mod StayMarks
 pub mod NumberedSteps
 pub mod LoseLemmas
@@ -17,4 +17,3 @@ pub mod ErasuresPut
 pub mod PlanLemmas
 pub mod ErasedRows
 pub mod PlanSteps
-pub mod AnyCreates

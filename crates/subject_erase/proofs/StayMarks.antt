@@ -17,7 +17,7 @@ use Rattle.subject_model.specs.Owners.{owns}
 use Rattle.subject_model.specs.Stays.{stays}
 use Rattle.subject_model.proofs.NamedLemmas.{name_is, one_name}
 use Rattle.subject_erase.specs.Flags.{AreFlagsOf, AreFlagsOfTable, Flags, flag_at}
-use Rattle.subject_erase.specs.Staying.{is_held, stays_by}
+use Rattle.subject_erase.specs.Staying.{is_claimed, stays_by}
 use Rattle.subject_erase.proofs.SubjectRows.{itself-owned, owned-itself}
 use Rattle.subject_erase.proofs.TableFlags.{same_test}
 
@@ -37,13 +37,13 @@ module _ (db : Db) (subject : RowName) (ordered : IsOrdered db) (owner : IsOwner
       )
 
   -- so it is told by its table and by who owns and holds it whether a row stays
-  pub stays-by : (name : RowName) (place : ℕ) → StandsAt db name place → stays_by db.schema name.table.0 (owns db subject name) (is_held db subject name) ≡ stays db subject name
+  pub stays-by : (name : RowName) (place : ℕ) → StandsAt db name place → stays_by db.schema name.table.0 (owns db subject name) (is_claimed db subject name) ≡ stays db subject name
   unfolding stays
   stays-by name place stands =
-      ap (λ b. not b && (not (is_private db.schema name.table.0) || is_held db subject name)) (own-owned name place stands)
+      ap (λ b. not b && (not (is_private db.schema name.table.0) || is_claimed db subject name)) (own-owned name place stands)
 
   -- and so it is told by their flags
-  pub map-stays : (table : TableNo) (owned held : Flags) (flags : List Bool) → AreFlagsOf db (owns db subject) owned → AreFlagsOf db (is_held db subject) held
+  pub map-stays : (table : TableNo) (owned held : Flags) (flags : List Bool) → AreFlagsOf db (owns db subject) owned → AreFlagsOf db (is_claimed db subject) held
       → flags ≡ map (λ place. stays_by db.schema table.0 (flag_at owned table.0 place) (flag_at held table.0 place)) (range_with_len 0 (length (rows_at db.rows table.0)))
       → AreFlagsOfTable db (stays db subject) table.0 flags
   map-stays table owned held flags are held_are is =

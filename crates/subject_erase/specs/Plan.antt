@@ -3,16 +3,10 @@ use Rattle.std.specs.Prelude.{◌≡◌, ◌≢◌, List, [], ◌∷◌, ◌++�
 use Rattle.std.specs.List.{AllByRecursion}
 use Rattle.own_base.specs.declared.change.Change.{Change}
 use Rattle.own_base.specs.declared.row_name.RowName.{RowName}
-use Rattle.own_model.specs.declared.schema.CreateText.{CreateText}
-use Rattle.own_model.specs.declared.schema.Schema.{Schema}
-use Rattle.own_model.specs.Db.{Db, Row}
+use Rattle.own_model.specs.Db.{Db}
 use Rattle.owner_model.specs.Joins.{row_of}
 use Rattle.subject_model.specs.Forget.{changed, forget, removed}
 use Rattle.subject_erase.specs.declared.plan.ErasePlan.{ErasePlan}
-
--- a database of such tables and rows, however its tables were created
-abbrev pub database : List CreateText → Schema → List (List Row) → Db
-database creates schema rows = record { creates = creates; schema = schema; rows = rows }
 
 -- a change that leaves a row
 abbrev pub leaves_row : Change → Bool

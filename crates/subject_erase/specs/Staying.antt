@@ -9,8 +9,8 @@ use Rattle.subject_model.specs.Paths.{paths}
 use Rattle.subject_model.specs.Stays.{holds}
 
 -- whether another subject than the one that is forgotten holds a row
-abbrev pub is_held : Db → RowName → RowName → Bool
-is_held db subject name = list_any (holds db subject name) (paths db name)
+abbrev pub is_claimed : Db → RowName → RowName → Bool
+is_claimed db subject name = list_any (holds db subject name) (paths db name)
 
 -- whether the rows of a table are data subjects, and a row of it, that the subject owns or not, is another one
 abbrev pub is_other_subject : Schema → ℕ → Bool → Bool

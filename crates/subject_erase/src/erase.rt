@@ -1,17 +1,15 @@
-ghost use Rattle.std.specs.Prelude.{List as Seq, ℕ, ◌≡◌, ◌∷◌, ◌++◌, IfOk, IsTrue, OnOk, Some, filter, length, slice_get};
+ghost use Rattle.std.specs.Prelude.{ℕ, ◌≡◌, ◌∷◌, ◌++◌, IfOk, IsTrue, OnOk, Some, filter, length, slice_get};
 ghost use Rattle.std.specs.List.{AllByRecursion};
 ghost use Rattle.std.specs.Option.{option_and_then, option_to_list};
-ghost use Rattle.own_model.specs.declared.schema.CreateText.{CreateText};
-ghost use Rattle.own_model.specs.Db.{IsOrdered};
 ghost use Rattle.own_model.specs.Stored.{rows_at};
-ghost use Rattle.owner_sets.specs.Sets.{db_of};
+ghost use Rattle.owner_graph.specs.Graph.{IsGraphOf};
 ghost use Rattle.schema_model.specs.OwnerSchema.{ColumnsRefer, IsOwnerSchema};
 ghost use Rattle.schema_model.specs.Tables.{is_subject};
 ghost use Rattle.schema_model.specs.WithinLimits.{IsWithinLimits};
 ghost use Rattle.state_model.specs.Rows.{AreRowsOf};
 ghost use Rattle.subject_erase.specs.Erasures as spec;
 ghost use Rattle.subject_erase.specs.Losing.{erased_at, erased_by, erased_rows, erased_table, left_by, named_at};
-ghost use Rattle.subject_erase.specs.Plan.{IsPlan, database, plan_of};
+ghost use Rattle.subject_erase.specs.Plan.{IsPlan, plan_of};
 ghost use Rattle.subject_model.specs.Forget.{forget};
 ghost use Rattle.table_part.specs.Changes.{KeysDiffer};
 ghost use Rattle.txn_space.specs.Put.{IsChangeOf, is_of_table, put_rows};
@@ -24,7 +22,8 @@ use crate::staying::staying_flags;
 use anon_rules::blanked;
 use own_base::{Change, ColumnSet, EdgeNo, List, MakeCopy, Row, Subject, TableNo};
 use own_model::{StoreView, TableDef};
-use owner_sets::{ByEdges, OwnerSets, graph_of};
+use owner_graph::{Graph, graph_of};
+use owner_sets::{ByEdges, OwnerSets};
 use std::alloc::{AllocError, Global};
 
 /// That a row goes.
@@ -55,9 +54,8 @@ fn blanking<V: StoreView>(
     definition: &TableDef,
     row: &Row,
 ) -> Result<Change, AllocError>
-    requires ordered { IsOrdered (db_of (V.schema_of view.now) (V.rows view.now)) }
-    requires refer { ColumnsRefer (V.schema_of view.now) definition.now }
-    ensures { IfOk result (λ change. change ≡ spec.blanking (named_at table.0 definition.now row.now) (left_by (V.schema_of view.now) (V.rows view.now) staying.now definition.now ruled row.now)) }
+    requires refer { ColumnsRefer (V.db view.now).schema definition.now }
+    ensures { IfOk result (λ change. change ≡ spec.blanking (named_at table.0 definition.now row.now) (left_by (V.db view.now).schema (V.db view.now).rows staying.now definition.now ruled row.now)) }
 {
     let name = row_name(alloc, table, definition, row)?;
     let before = row.copy(alloc)?;
@@ -80,9 +78,8 @@ fn erased_by<V: StoreView>(
     definition: &TableDef,
     row: &Row,
 ) -> Result<Option<Change>, AllocError>
-    requires ordered { IsOrdered (db_of (V.schema_of view.now) (V.rows view.now)) }
-    requires refer { ColumnsRefer (V.schema_of view.now) definition.now }
-    ensures { IfOk result (λ change. change ≡ erased_by (V.schema_of view.now) (V.rows view.now) staying.now definition.now stays by.now (named_at table.0 definition.now row.now)) }
+    requires refer { ColumnsRefer (V.db view.now).schema definition.now }
+    ensures { IfOk result (λ change. change ≡ erased_by (V.db view.now).schema (V.db view.now).rows staying.now definition.now stays by.now (named_at table.0 definition.now row.now)) }
 {
     if !stays {
         let change = removal(alloc, table, definition, row)?;
@@ -106,10 +103,9 @@ fn erased_at<V: StoreView>(
     definition: &TableDef,
     at: u64,
 ) -> Result<Option<Change>, AllocError>
-    requires there { slice_get (V.schema_of view.now).tables table.0 ≡ Some definition.now }
-    requires ordered { IsOrdered (db_of (V.schema_of view.now) (V.rows view.now)) }
-    requires refer { ColumnsRefer (V.schema_of view.now) definition.now }
-    ensures { IfOk result (λ change. change ≡ option_and_then (λ row. erased_at (V.schema_of view.now) (V.rows view.now) staying.now by.now table.0 definition.now (at, row)) (slice_get (rows_at (V.rows view.now) table.0) at)) }
+    requires there { slice_get (V.db view.now).schema.tables table.0 ≡ Some definition.now }
+    requires refer { ColumnsRefer (V.db view.now).schema definition.now }
+    ensures { IfOk result (λ change. change ≡ option_and_then (λ row. erased_at (V.db view.now).schema (V.db view.now).rows staying.now by.now table.0 definition.now (at, row)) (slice_get (rows_at (V.db view.now).rows table.0) at)) }
 {
     match view.row_at(table, at) {
         Some(row) => {
@@ -141,10 +137,9 @@ fn add_erased<V: StoreView>(
     definition: &TableDef,
     changes: &mut List<Change>,
 ) -> Result<(), AllocError>
-    requires there { slice_get (V.schema_of view.now).tables table.0 ≡ Some definition.now }
-    requires ordered { IsOrdered (db_of (V.schema_of view.now) (V.rows view.now)) }
-    requires refer { ColumnsRefer (V.schema_of view.now) definition.now }
-    ensures { OnOk result (changes.new ≡ changes.old ++ erased_table (V.schema_of view.now) (V.rows view.now) staying.now by.now (table.0, definition.now)) }
+    requires there { slice_get (V.db view.now).schema.tables table.0 ≡ Some definition.now }
+    requires refer { ColumnsRefer (V.db view.now).schema definition.now }
+    ensures { OnOk result (changes.new ≡ changes.old ++ erased_table (V.db view.now).schema (V.db view.now).rows staying.now by.now (table.0, definition.now)) }
 {
     for at in 0..view.count(table) {
         let change = erased_at(alloc, view, staying, by, table, definition, at)?;
@@ -160,10 +155,9 @@ fn erased_rows<V: StoreView>(
     staying: &[List<bool>],
     by: &ByEdges,
 ) -> Result<List<Change>, AllocError>
-    requires limits { IsWithinLimits (V.schema_of view.now) }
-    requires ordered { IsOrdered (db_of (V.schema_of view.now) (V.rows view.now)) }
-    requires owner { IsOwnerSchema (V.schema_of view.now) }
-    ensures { IfOk result (λ changes. changes ≡ erased_rows (V.schema_of view.now) (V.rows view.now) staying.now by.now) }
+    requires limits { IsWithinLimits (V.db view.now).schema }
+    requires owner { IsOwnerSchema (V.db view.now).schema }
+    ensures { IfOk result (λ changes. changes ≡ erased_rows (V.db view.now).schema (V.db view.now).rows staying.now by.now) }
 {
     let mut changes = List::new(alloc);
     for (number, definition) in view.schema().tables.items().iter().enumerate() {
@@ -174,26 +168,26 @@ fn erased_rows<V: StoreView>(
 }
 
 /// The changes by which a subject is erased, by table, then key: each row that doesn't stay goes, and of each that stays and
-/// loses a value the rest is left. Made in the view's rows, they give the rows that are left.
+/// loses a value the rest is left. Made in the view's rows, they give the rows that are left. The graph is that of the view's
+/// edges.
 pub fn erase_changes<V: StoreView>(
     alloc: Global,
     view: &V,
+    graph: &Graph,
     subject: &Subject,
 ) -> Result<List<Change>, AllocError>
-    requires limits { IsWithinLimits (V.schema_of view.now) }
-    requires ordered { IsOrdered (db_of (V.schema_of view.now) (V.rows view.now)) }
-    requires owner { IsOwnerSchema (V.schema_of view.now) }
-    requires rows { AreRowsOf (V.schema_of view.now).tables (V.rows view.now) }
-    requires subject { IsTrue (is_subject (V.schema_of view.now) subject.now.0.table.0) }
-    ensures applied { IfOk result (λ changes. (creates : Seq CreateText)
-        → put_rows (V.schema_of view.now).tables changes (V.rows view.now) ≡ (forget (database creates (V.schema_of view.now) (V.rows view.now)) subject.now.0).rows) }
-    ensures theirs { IfOk result (λ changes. AllByRecursion (IsChangeOf (V.schema_of view.now).tables) changes) }
+    requires limits { IsWithinLimits (V.db view.now).schema }
+    requires owner { IsOwnerSchema (V.db view.now).schema }
+    requires rows { AreRowsOf (V.db view.now).schema.tables (V.db view.now).rows }
+    requires subject { IsTrue (is_subject (V.db view.now).schema subject.now.0.table.0) }
+    requires graph { IsGraphOf (length (V.db view.now).schema.tables) (V.db view.now).schema.edges graph.now }
+    ensures applied { IfOk result (λ changes. put_rows (V.db view.now).schema.tables changes (V.db view.now).rows ≡ (forget (V.db view.now) subject.now.0).rows) }
+    ensures theirs { IfOk result (λ changes. AllByRecursion (IsChangeOf (V.db view.now).schema.tables) changes) }
     ensures once { IfOk result (λ changes. (number : ℕ) → KeysDiffer (filter (is_of_table number) changes)) }
-    ensures plan { IfOk result (λ changes. (creates : Seq CreateText) → IsPlan (database creates (V.schema_of view.now) (V.rows view.now)) subject.now.0 (plan_of changes)) }
+    ensures plan { IfOk result (λ changes. IsPlan (V.db view.now) subject.now.0 (plan_of changes)) }
 {
-    let graph = graph_of(alloc, view.schema())?;
-    let sets = OwnerSets::of(alloc, view, &graph)?;
-    let staying = staying_flags(alloc, view, &graph, &sets, subject)?;
+    let sets = OwnerSets::of(alloc, view, graph)?;
+    let staying = staying_flags(alloc, view, graph, &sets, subject)?;
     let by = ByEdges::of(alloc, view, &sets, subject)?;
     erased_rows(alloc, view, staying.items(), &by)
 }
@@ -204,13 +198,13 @@ pub fn plan_flat<V: StoreView>(
     view: &V,
     subject: &Subject,
 ) -> Result<ErasePlan, AllocError>
-    requires limits { IsWithinLimits (V.schema_of view.now) }
-    requires ordered { IsOrdered (db_of (V.schema_of view.now) (V.rows view.now)) }
-    requires owner { IsOwnerSchema (V.schema_of view.now) }
-    requires rows { AreRowsOf (V.schema_of view.now).tables (V.rows view.now) }
-    requires subject { IsTrue (is_subject (V.schema_of view.now) subject.now.0.table.0) }
-    ensures { IfOk result (λ plan. (creates : Seq CreateText) → IsPlan (database creates (V.schema_of view.now) (V.rows view.now)) subject.now.0 plan) }
+    requires limits { IsWithinLimits (V.db view.now).schema }
+    requires owner { IsOwnerSchema (V.db view.now).schema }
+    requires rows { AreRowsOf (V.db view.now).schema.tables (V.db view.now).rows }
+    requires subject { IsTrue (is_subject (V.db view.now).schema subject.now.0.table.0) }
+    ensures { IfOk result (λ plan. IsPlan (V.db view.now) subject.now.0 plan) }
 {
-    let changes = erase_changes(alloc, view, subject)?;
+    let graph = graph_of(alloc, view.schema())?;
+    let changes = erase_changes(alloc, view, &graph, subject)?;
     ErasePlan::of_changes(alloc, changes)
 }

@@ -1,10 +1,10 @@
 //! What the erasure of a data subject removes from a store and changes in it. The store stays as it is.
 #![tactic(auto)]
 
+mod claimed;
 mod erase;
 mod flags;
 mod followed;
-mod held;
 mod losing;
 mod marks;
 mod owned;

@@ -2,9 +2,7 @@ ghost use Rattle.std.specs.Prelude.{◌≡◌, ◌<◌, ◌&&◌, IfOk, Some, le
 ghost use Rattle.std.specs.Option.{option_copied};
 ghost use Rattle.own_base.specs.declared.number.TableNo.{TableNo as Number};
 ghost use Rattle.own_model.specs.declared.schema.RefKind.{RefKind as By};
-ghost use Rattle.own_model.specs.Db.{IsOrdered};
 ghost use Rattle.owner_model.specs.ColumnSets as columns;
-ghost use Rattle.owner_sets.specs.Sets.{db_of};
 ghost use Rattle.query_model.specs.Truth.{is_null};
 ghost use Rattle.schema_model.specs.OwnerSchema.{ColumnsRefer};
 ghost use Rattle.subject_erase.specs.Losing.{dangles_by, left_by, loses_by, loses_some_by};
@@ -34,9 +32,8 @@ fn is_null(value: &Value) -> bool
 
 /// Whether a value, in a column, refers to a row that doesn't stay. Takes no memory.
 fn dangles<V: StoreView>(view: &V, staying: &[List<bool>], column: &Column, value: &Value) -> bool
-    requires ordered { IsOrdered (db_of (V.schema_of view.now) (V.rows view.now)) }
-    requires there { (link : By × Number) → column.now.refers ≡ Some link → link.1.0 < length (V.schema_of view.now).tables }
-    ensures { result ≡ dangles_by (V.schema_of view.now) (V.rows view.now) staying.now column.now value.now }
+    requires there { (link : By × Number) → column.now.refers ≡ Some link → link.1.0 < length (V.db view.now).schema.tables }
+    ensures { result ≡ dangles_by (V.db view.now).schema (V.db view.now).rows staying.now column.now value.now }
 {
     match column.refers {
         Some((_, table)) => match place_named(view, table, Some(value)) {
@@ -64,9 +61,8 @@ fn loses<V: StoreView>(
     number: usize,
     value: &Value,
 ) -> bool
-    requires ordered { IsOrdered (db_of (V.schema_of view.now) (V.rows view.now)) }
-    requires refer { ColumnsRefer (V.schema_of view.now) definition.now }
-    ensures { result ≡ loses_by (V.schema_of view.now) (V.rows view.now) staying.now definition.now ruled (number, value.now) }
+    requires refer { ColumnsRefer (V.db view.now).schema definition.now }
+    ensures { result ≡ loses_by (V.db view.now).schema (V.db view.now).rows staying.now definition.now ruled (number, value.now) }
 {
     if has_column(ruled, number) {
         return true;
@@ -86,9 +82,8 @@ fn loses_value<V: StoreView>(
     number: usize,
     value: &Value,
 ) -> bool
-    requires ordered { IsOrdered (db_of (V.schema_of view.now) (V.rows view.now)) }
-    requires refer { ColumnsRefer (V.schema_of view.now) definition.now }
-    ensures { result ≡ (loses_by (V.schema_of view.now) (V.rows view.now) staying.now definition.now ruled (number, value.now) && not (is_null value.now)) }
+    requires refer { ColumnsRefer (V.db view.now).schema definition.now }
+    ensures { result ≡ (loses_by (V.db view.now).schema (V.db view.now).rows staying.now definition.now ruled (number, value.now) && not (is_null value.now)) }
 {
     let loses = loses(view, staying, definition, ruled, number, value);
     loses && !is_null(value)
@@ -102,9 +97,8 @@ pub(crate) fn loses_some<V: StoreView>(
     ruled: ColumnSet,
     row: &Row,
 ) -> bool
-    requires ordered { IsOrdered (db_of (V.schema_of view.now) (V.rows view.now)) }
-    requires refer { ColumnsRefer (V.schema_of view.now) definition.now }
-    ensures { result ≡ loses_some_by (V.schema_of view.now) (V.rows view.now) staying.now definition.now ruled row.now }
+    requires refer { ColumnsRefer (V.db view.now).schema definition.now }
+    ensures { result ≡ loses_some_by (V.db view.now).schema (V.db view.now).rows staying.now definition.now ruled row.now }
 {
     for (number, value) in row.values().iter().enumerate() {
         if loses_value(view, staying, definition, ruled, number, value) {
@@ -124,9 +118,8 @@ fn value_left<V: StoreView>(
     number: usize,
     value: &Value,
 ) -> Result<Value, AllocError>
-    requires ordered { IsOrdered (db_of (V.schema_of view.now) (V.rows view.now)) }
-    requires refer { ColumnsRefer (V.schema_of view.now) definition.now }
-    ensures { IfOk result (λ left. left ≡ (if loses_by (V.schema_of view.now) (V.rows view.now) staying.now definition.now ruled (number, value.now) then Value.Null else value.now)) }
+    requires refer { ColumnsRefer (V.db view.now).schema definition.now }
+    ensures { IfOk result (λ left. left ≡ (if loses_by (V.db view.now).schema (V.db view.now).rows staying.now definition.now ruled (number, value.now) then Value.Null else value.now)) }
 {
     if loses(view, staying, definition, ruled, number, value) {
         Ok(Value::Null)
@@ -144,9 +137,8 @@ pub(crate) fn row_left<V: StoreView>(
     ruled: ColumnSet,
     row: &Row,
 ) -> Result<Row, AllocError>
-    requires ordered { IsOrdered (db_of (V.schema_of view.now) (V.rows view.now)) }
-    requires refer { ColumnsRefer (V.schema_of view.now) definition.now }
-    ensures { IfOk result (λ left. left ≡ left_by (V.schema_of view.now) (V.rows view.now) staying.now definition.now ruled row.now) }
+    requires refer { ColumnsRefer (V.db view.now).schema definition.now }
+    ensures { IfOk result (λ left. left ≡ left_by (V.db view.now).schema (V.db view.now).rows staying.now definition.now ruled row.now) }
 {
     let mut values = List::new(alloc);
     for (number, value) in row.values().iter().enumerate() {

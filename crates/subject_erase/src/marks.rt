@@ -1,8 +1,6 @@
 ghost use Rattle.std.specs.Prelude.{◌≡◌, ◌<◌, [], false, IfOk, OnOk, length, map, slice_index_or};
 ghost use Rattle.std.specs.List.{AllByRecursion, range_with_len};
-ghost use Rattle.own_model.specs.Db.{IsOrdered};
 ghost use Rattle.owner_sets.specs.Gathered.{IsWithin};
-ghost use Rattle.owner_sets.specs.Sets.{db_of};
 ghost use Rattle.subject_erase.specs.Marked.{HaveMore, is_marked, over_edge, over_link};
 
 use crate::flags::{flag, flags_of};
@@ -38,9 +36,8 @@ fn mark_edge<V: StoreView>(
     edge: &Edge,
     marks: &mut Vec<bool>,
 ) -> Result<(), AllocError>
-    requires within { IsWithin (V.schema_of view.now) edge.now }
-    requires ordered { IsOrdered (db_of (V.schema_of view.now) (V.rows view.now)) }
-    ensures { OnOk result (HaveMore (λ place. over_edge (V.schema_of view.now) (V.rows view.now) flags.now place edge.now) marks.old.items marks.new.items) }
+    requires within { IsWithin (V.db view.now).schema edge.now }
+    ensures { OnOk result (HaveMore (λ place. over_edge (V.db view.now).schema (V.db view.now).rows flags.now place edge.now) marks.old.items marks.new.items) }
 {
     let links = links(alloc, view, edge)?;
     let upper = flags_of(flags, edge.upper);
@@ -59,9 +56,8 @@ pub(crate) fn mark<V: StoreView>(
     edges: &[Edge],
     marks: &mut Vec<bool>,
 ) -> Result<(), AllocError>
-    requires within { AllByRecursion (IsWithin (V.schema_of view.now)) edges.now }
-    requires ordered { IsOrdered (db_of (V.schema_of view.now) (V.rows view.now)) }
-    ensures { OnOk result (HaveMore (is_marked followed (V.schema_of view.now) (V.rows view.now) flags.now edges.now) marks.old.items marks.new.items) }
+    requires within { AllByRecursion (IsWithin (V.db view.now).schema) edges.now }
+    ensures { OnOk result (HaveMore (is_marked followed (V.db view.now).schema (V.db view.now).rows flags.now edges.now) marks.old.items marks.new.items) }
 {
     for edge in edges {
         if followed.counts(edge) {

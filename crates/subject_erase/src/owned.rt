@@ -1,6 +1,5 @@
 ghost use Rattle.std.specs.Prelude.{◌≡◌, ◌↔◌, ◌<◌, Contains, IfOk, IsTrue, length};
-ghost use Rattle.own_model.specs.Db.{IsOrdered};
-ghost use Rattle.owner_sets.specs.Sets.{AreSetsOf, db_of, set_at};
+ghost use Rattle.owner_sets.specs.Sets.{AreSetsOf, set_at};
 ghost use Rattle.schema_model.specs.OwnerSchema.{IsOwnerSchema};
 ghost use Rattle.schema_model.specs.WithinLimits.{IsWithinLimits};
 ghost use Rattle.subject_erase.specs.Flags.{AreFlagsOf, AreFlagsOfTable};
@@ -27,11 +26,10 @@ fn table_owned<V: StoreView>(
     subject: &Subject,
     table: TableNo,
 ) -> Result<List<bool>, AllocError>
-    requires there { table.0 < length (V.schema_of view.now).tables }
-    requires ordered { IsOrdered (db_of (V.schema_of view.now) (V.rows view.now)) }
-    requires owner { IsOwnerSchema (V.schema_of view.now) }
-    requires owners { AreSetsOf (db_of (V.schema_of view.now) (V.rows view.now)) (owners (db_of (V.schema_of view.now) (V.rows view.now))) sets.now.owners }
-    ensures { IfOk result (AreFlagsOfTable (db_of (V.schema_of view.now) (V.rows view.now)) (owns (db_of (V.schema_of view.now) (V.rows view.now)) subject.now.0) table.0) }
+    requires there { table.0 < length (V.db view.now).schema.tables }
+    requires owner { IsOwnerSchema (V.db view.now).schema }
+    requires owners { AreSetsOf (V.db view.now) (owners (V.db view.now)) sets.now.owners }
+    ensures { IfOk result (AreFlagsOfTable (V.db view.now) (owns (V.db view.now) subject.now.0) table.0) }
 {
     let mut owned = List::new(alloc);
     for at in 0..view.count(table) {
@@ -47,11 +45,10 @@ pub(crate) fn owned_flags<V: StoreView>(
     sets: &OwnerSets,
     subject: &Subject,
 ) -> Result<Flags, AllocError>
-    requires limits { IsWithinLimits (V.schema_of view.now) }
-    requires ordered { IsOrdered (db_of (V.schema_of view.now) (V.rows view.now)) }
-    requires owner { IsOwnerSchema (V.schema_of view.now) }
-    requires owners { AreSetsOf (db_of (V.schema_of view.now) (V.rows view.now)) (owners (db_of (V.schema_of view.now) (V.rows view.now))) sets.now.owners }
-    ensures { IfOk result (AreFlagsOf (db_of (V.schema_of view.now) (V.rows view.now)) (owns (db_of (V.schema_of view.now) (V.rows view.now)) subject.now.0)) }
+    requires limits { IsWithinLimits (V.db view.now).schema }
+    requires owner { IsOwnerSchema (V.db view.now).schema }
+    requires owners { AreSetsOf (V.db view.now) (owners (V.db view.now)) sets.now.owners }
+    ensures { IfOk result (AreFlagsOf (V.db view.now) (owns (V.db view.now) subject.now.0)) }
 {
     let mut owned = List::new(alloc);
     for number in 0..view.schema().tables.items().len() {

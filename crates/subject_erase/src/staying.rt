@@ -1,20 +1,19 @@
 ghost use Rattle.std.specs.Prelude.{◌≡◌, ◌<◌, ◌&&◌, ◌||◌, IfOk, IsTrue, length, map, not};
 ghost use Rattle.std.specs.List.{range_with_len};
 ghost use Rattle.own_base.specs.declared.row_name.RowName.{RowName};
-ghost use Rattle.own_model.specs.Db.{IsOrdered};
 ghost use Rattle.own_model.specs.Stored.{rows_at};
 ghost use Rattle.owner_graph.specs.Graph.{IsGraphOf};
-ghost use Rattle.owner_sets.specs.Sets.{AreSetsOf, db_of};
+ghost use Rattle.owner_sets.specs.Sets.{AreSetsOf};
 ghost use Rattle.schema_model.specs.OwnerSchema.{IsOwnerSchema};
 ghost use Rattle.schema_model.specs.Tables as spec;
 ghost use Rattle.schema_model.specs.WithinLimits.{IsWithinLimits};
 ghost use Rattle.subject_erase.specs.Flags.{AreFlagsOf, flag_at};
-ghost use Rattle.subject_erase.specs.Staying.{is_held, stays_by};
+ghost use Rattle.subject_erase.specs.Staying.{is_claimed, stays_by};
 ghost use Rattle.subject_model.specs.Owners.{owners, owns};
 ghost use Rattle.subject_model.specs.Stays.{stays};
 
+use crate::claimed::{claimed_flags, is_subject};
 use crate::flags::{Flags, flag_at};
-use crate::held::{held_flags, is_subject};
 use crate::owned::owned_flags;
 use crate::struck::struck_flags;
 use own_base::{List, Subject, TableNo};
@@ -50,9 +49,9 @@ fn table_staying<V: StoreView>(
     held: &[List<bool>],
     table: TableNo,
 ) -> Result<List<bool>, AllocError>
-    requires { table.0 < length (V.schema_of view.now).tables }
-    ensures { IfOk result (λ flags. flags ≡ map (λ place. stays_by (V.schema_of view.now) table.0 (flag_at owned.now table.0 place) (flag_at held.now table.0 place))
-        (range_with_len 0 (length (rows_at (V.rows view.now) table.0)))) }
+    requires { table.0 < length (V.db view.now).schema.tables }
+    ensures { IfOk result (λ flags. flags ≡ map (λ place. stays_by (V.db view.now).schema table.0 (flag_at owned.now table.0 place) (flag_at held.now table.0 place))
+        (range_with_len 0 (length (rows_at (V.db view.now).rows table.0)))) }
 {
     let subjects = is_subject(view.schema(), table);
     let private = is_private(view.schema(), table);
@@ -72,13 +71,12 @@ fn staying_given<V: StoreView>(
     owned: &[List<bool>],
     held: &[List<bool>],
 ) -> Result<Flags, AllocError>
-    requires limits { IsWithinLimits (V.schema_of view.now) }
-    requires ordered { IsOrdered (db_of (V.schema_of view.now) (V.rows view.now)) }
-    requires owner { IsOwnerSchema (V.schema_of view.now) }
-    ensures { IfOk result (λ flags. (subject : RowName) → IsTrue (spec.is_subject (V.schema_of view.now) subject.table.0)
-        → AreFlagsOf (db_of (V.schema_of view.now) (V.rows view.now)) (owns (db_of (V.schema_of view.now) (V.rows view.now)) subject) owned.now
-        → AreFlagsOf (db_of (V.schema_of view.now) (V.rows view.now)) (is_held (db_of (V.schema_of view.now) (V.rows view.now)) subject) held.now
-        → AreFlagsOf (db_of (V.schema_of view.now) (V.rows view.now)) (stays (db_of (V.schema_of view.now) (V.rows view.now)) subject) flags) }
+    requires limits { IsWithinLimits (V.db view.now).schema }
+    requires owner { IsOwnerSchema (V.db view.now).schema }
+    ensures { IfOk result (λ flags. (subject : RowName) → IsTrue (spec.is_subject (V.db view.now).schema subject.table.0)
+        → AreFlagsOf (V.db view.now) (owns (V.db view.now) subject) owned.now
+        → AreFlagsOf (V.db view.now) (is_claimed (V.db view.now) subject) held.now
+        → AreFlagsOf (V.db view.now) (stays (V.db view.now) subject) flags) }
 {
     let mut staying = List::new(alloc);
     for number in 0..view.schema().tables.items().len() {
@@ -96,16 +94,15 @@ pub(crate) fn staying_flags<V: StoreView>(
     sets: &OwnerSets,
     subject: &Subject,
 ) -> Result<Flags, AllocError>
-    requires limits { IsWithinLimits (V.schema_of view.now) }
-    requires ordered { IsOrdered (db_of (V.schema_of view.now) (V.rows view.now)) }
-    requires owner { IsOwnerSchema (V.schema_of view.now) }
-    requires graph { IsGraphOf (length (V.schema_of view.now).tables) (V.schema_of view.now).edges graph.now }
-    requires owners { AreSetsOf (db_of (V.schema_of view.now) (V.rows view.now)) (owners (db_of (V.schema_of view.now) (V.rows view.now))) sets.now.owners }
-    requires subject { IsTrue (spec.is_subject (V.schema_of view.now) subject.now.0.table.0) }
-    ensures { IfOk result (AreFlagsOf (db_of (V.schema_of view.now) (V.rows view.now)) (stays (db_of (V.schema_of view.now) (V.rows view.now)) subject.now.0)) }
+    requires limits { IsWithinLimits (V.db view.now).schema }
+    requires owner { IsOwnerSchema (V.db view.now).schema }
+    requires graph { IsGraphOf (length (V.db view.now).schema.tables) (V.db view.now).schema.edges graph.now }
+    requires owners { AreSetsOf (V.db view.now) (owners (V.db view.now)) sets.now.owners }
+    requires subject { IsTrue (spec.is_subject (V.db view.now).schema subject.now.0.table.0) }
+    ensures { IfOk result (AreFlagsOf (V.db view.now) (stays (V.db view.now) subject.now.0)) }
 {
     let owned = owned_flags(alloc, view, sets, subject)?;
     let struck = struck_flags(alloc, view, graph, owned.items())?;
-    let held = held_flags(alloc, view, graph, owned.items(), struck.items())?;
+    let held = claimed_flags(alloc, view, graph, owned.items(), struck.items())?;
     staying_given(alloc, view, owned.items(), held.items())
 }

@@ -1,8 +1,6 @@
 ghost use Rattle.std.specs.Prelude.{◌≡◌, ◌<◌, IfOk, false, length, slice_index_or};
 ghost use Rattle.own_base.specs.declared.row_name.RowName.{RowName};
-ghost use Rattle.own_model.specs.Db.{IsOrdered};
 ghost use Rattle.owner_graph.specs.Graph.{IsGraphOf};
-ghost use Rattle.owner_sets.specs.Sets.{db_of};
 ghost use Rattle.schema_model.specs.OwnerSchema.{IsOwnerSchema};
 ghost use Rattle.schema_model.specs.WithinLimits.{IsWithinLimits};
 ghost use Rattle.subject_erase.specs.Flags.{AreFlagsOf, AreFlagsOfTable};
@@ -25,12 +23,11 @@ fn table_struck<V: StoreView>(
     owned: &[List<bool>],
     table: TableNo,
 ) -> Result<List<bool>, AllocError>
-    requires there { table.0 < length (V.schema_of view.now).tables }
-    requires ordered { IsOrdered (db_of (V.schema_of view.now) (V.rows view.now)) }
-    requires owner { IsOwnerSchema (V.schema_of view.now) }
-    requires graph { IsGraphOf (length (V.schema_of view.now).tables) (V.schema_of view.now).edges graph.now }
-    ensures { IfOk result (λ flags. (subject : RowName) → AreFlagsOf (db_of (V.schema_of view.now) (V.rows view.now)) (owns (db_of (V.schema_of view.now) (V.rows view.now)) subject) owned.now
-        → AreFlagsOfTable (db_of (V.schema_of view.now) (V.rows view.now)) (struck (db_of (V.schema_of view.now) (V.rows view.now)) subject) table.0 flags) }
+    requires there { table.0 < length (V.db view.now).schema.tables }
+    requires owner { IsOwnerSchema (V.db view.now).schema }
+    requires graph { IsGraphOf (length (V.db view.now).schema.tables) (V.db view.now).schema.edges graph.now }
+    ensures { IfOk result (λ flags. (subject : RowName) → AreFlagsOf (V.db view.now) (owns (V.db view.now) subject) owned.now
+        → AreFlagsOfTable (V.db view.now) (struck (V.db view.now) subject) table.0 flags) }
 {
     let mut marks = unmarked(alloc, view.count(table))?;
     mark(
@@ -51,12 +48,11 @@ pub(crate) fn struck_flags<V: StoreView>(
     graph: &Graph,
     owned: &[List<bool>],
 ) -> Result<Flags, AllocError>
-    requires limits { IsWithinLimits (V.schema_of view.now) }
-    requires ordered { IsOrdered (db_of (V.schema_of view.now) (V.rows view.now)) }
-    requires owner { IsOwnerSchema (V.schema_of view.now) }
-    requires graph { IsGraphOf (length (V.schema_of view.now).tables) (V.schema_of view.now).edges graph.now }
-    ensures { IfOk result (λ flags. (subject : RowName) → AreFlagsOf (db_of (V.schema_of view.now) (V.rows view.now)) (owns (db_of (V.schema_of view.now) (V.rows view.now)) subject) owned.now
-        → AreFlagsOf (db_of (V.schema_of view.now) (V.rows view.now)) (struck (db_of (V.schema_of view.now) (V.rows view.now)) subject) flags) }
+    requires limits { IsWithinLimits (V.db view.now).schema }
+    requires owner { IsOwnerSchema (V.db view.now).schema }
+    requires graph { IsGraphOf (length (V.db view.now).schema.tables) (V.db view.now).schema.edges graph.now }
+    ensures { IfOk result (λ flags. (subject : RowName) → AreFlagsOf (V.db view.now) (owns (V.db view.now) subject) owned.now
+        → AreFlagsOf (V.db view.now) (struck (V.db view.now) subject) flags) }
 {
     let mut struck = List::new(alloc);
     for number in 0..view.schema().tables.items().len() {

@@ -20,7 +20,7 @@ use Rattle.subject_model.specs.Forget.{dangles_at, forget, left_of, loses}
 use Rattle.subject_model.specs.Named.{NamedRow, is_there}
 use Rattle.subject_model.specs.Owners.{By, IsOwnerPath, Owns, by, has_owner}
 use Rattle.subject_model.specs.Paths.{IsPath, Path, Step, is_subject_row}
-use Rattle.subject_model.specs.Staying.{Held, IsFree}
+use Rattle.subject_model.specs.Staying.{Claimed, IsFree}
 use Rattle.subject_model.specs.Stays.{stays}
 use Rattle.subject_model.proofs.ForgetEdges.{Blanks, blanked_by}
 use Rattle.subject_model.proofs.ForgetJoins.{subject_after, subject_there, there_after, was_subject}
@@ -211,14 +211,14 @@ module _ (db : Db) (subject : RowName) (ordered : IsOrdered db) (owner : IsOwner
           let ends : IsPath db step.upper [] other = subst (λ rest. IsPath db step.upper rest other) none leads.1.1 in
           differs (sym ends.1 ∙ same)
 
-      held : Held db subject step.upper
+      held : Claimed db subject step.upper
       held = record { other = other; differs = differs; path = rest; leads = leads.1.1; owner = owned.1; free = (free.1.0, free.1.1) }
 
   -- so each row of a private table that stays has an owner after a FORGET
   pub owned_after : (name : RowName) → is_private db.schema name.table.0 ≡ true → stays db subject name ≡ true → (other : RowName) × Owns (forget db subject) other name
   owned_after name private stay = by (stays_from db subject name stay).kept
     where
-      by : (is_private db.schema name.table.0 ≡ false) ⊎ Held db subject name → (other : RowName) × Owns (forget db subject) other name
+      by : (is_private db.schema name.table.0 ≡ false) ⊎ Claimed db subject name → (other : RowName) × Owns (forget db subject) other name
       by (inl open_table) = let never : true ≡ false = sym private ∙ open_table in cc
       by (inr held) = (
         held.other,

@@ -30,7 +30,7 @@ keeps_value true (Sum number) none = let never : true ≡ false = none in cc
 keeps_value false value none = refl
 
 -- so a row of which no value is lost but NULL is kept
-keeps_row : (lost : ℕ × Value → Bool) (number : ℕ) (row : Row) → list_any (λ numbered. lost numbered && not (is_null numbered.1)) (enumerate_from number row) ≡ false
+pub keeps_row : (lost : ℕ × Value → Bool) (number : ℕ) (row : Row) → list_any (λ numbered. lost numbered && not (is_null numbered.1)) (enumerate_from number row) ≡ false
     → map (λ numbered. kept_value (lost numbered) numbered.1) (enumerate_from number row) ≡ row
 keeps_row lost number [] none = refl
 keeps_row lost number (value ∷ row) none =

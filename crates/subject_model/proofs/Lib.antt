@@ -3,6 +3,7 @@ pub mod FirstSubject
 pub mod ForgetEdges
 pub mod ForgetJoins
 pub mod ForgetKeys
+pub mod ForgetNames
 pub mod ForgetOrder
 pub mod ForgetPaths
 pub mod ForgetRows

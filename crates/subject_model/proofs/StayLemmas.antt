@@ -10,7 +10,7 @@ use Rattle.schema_model.specs.Tables.{is_private}
 use Rattle.subject_model.specs.Named.{is_name}
 use Rattle.subject_model.specs.Owners.{is_owner_path, leads_to, owns}
 use Rattle.subject_model.specs.Paths.{Path, Step, end_of, paths, steps_of}
-pub use Rattle.subject_model.specs.Staying.{Held, IsFree, Stays, Struck}
+pub use Rattle.subject_model.specs.Staying.{Claimed, IsFree, Stays, Struck}
 use Rattle.subject_model.specs.Stays.{holds, is_free, stays, struck}
 use Rattle.subject_model.proofs.JoinsLemmas.{joins_step, step_joins}
 use Rattle.subject_model.proofs.Members.{all_passes, any_contained, contains_any, passes_all}
@@ -59,7 +59,7 @@ from_free db subject from path is =
     (passes_all (λ step. not (struck db subject step.upper)) path (fails_each (λ step. struck db subject step.upper) path is.1))
 
 -- a row for which the search finds a path is held by another subject
-pub held_from : (db : Db) (subject name : RowName) → list_any (holds db subject name) (paths db name) ≡ true → Held db subject name
+pub held_from : (db : Db) (subject name : RowName) → list_any (holds db subject name) (paths db name) ≡ true → Claimed db subject name
 held_from db subject name is =
     let some = passing_path db name (holds db subject name) is in
     let all = and_parts (is_owner_path some.path && not (leads_to subject name some.path)) (is_free db subject name some.path) some.passes in
@@ -74,7 +74,7 @@ held_from db subject name is =
     }
 
 -- and for one that is, it finds a path
-pub from_held : (db : Db) (subject name : RowName) → IsOrdered db → IsOwnerSchema db.schema → Held db subject name → list_any (holds db subject name) (paths db name) ≡ true
+pub from_held : (db : Db) (subject name : RowName) → IsOrdered db → IsOwnerSchema db.schema → Claimed db subject name → list_any (holds db subject name) (paths db name) ≡ true
 from_held db subject name ordered owner is =
     let ends = path_ends db name is.path is.other is.leads in
     let elsewhere : leads_to subject name is.path ≡ false = false_from_ne_true _ (λ there. is.differs (sym ends ∙ one_name (end_of name is.path) subject there)) in
@@ -105,7 +105,7 @@ unfolding stays
 from_stays db subject name ordered owner is =
     and_from _ _ (not_from_false _ (false_from_ne_true (is_name name subject) (λ same. is.other (one_name name subject same)))) (by is.kept)
   where
-    by : (is_private db.schema name.table.0 ≡ false) ⊎ Held db subject name → (not (is_private db.schema name.table.0) || list_any (holds db subject name) (paths db name)) ≡ true
+    by : (is_private db.schema name.table.0 ≡ false) ⊎ Claimed db subject name → (not (is_private db.schema name.table.0) || list_any (holds db subject name) (paths db name)) ≡ true
     by (inl open_table) = or_left _ _ (not_from_false _ open_table)
     by (inr held) = or_right (not (is_private db.schema name.table.0)) _ (from_held db subject name ordered owner held)
 

@@ -1,3 +1,4 @@
+pub mod Erased
 pub mod FirstSubject
 pub mod Forget
 pub mod Get

@@ -23,7 +23,7 @@ abbrev pub IsFree : Db → RowName → RowName → Path → Type 0
 IsFree db subject from path = IsFalse (struck db subject from) × AllByRecursion (λ step. IsFalse (struck db subject step.upper)) path
 
 -- Another subject holds a row where an owner path from it to that subject has no struck row.
-pub record Held (db : Db) (subject name : RowName) : Type 0 where
+pub record Claimed (db : Db) (subject name : RowName) : Type 0 where
   pub other : RowName
   pub differs : other ≢ subject
   pub path : Path
@@ -34,4 +34,4 @@ pub record Held (db : Db) (subject name : RowName) : Type 0 where
 -- A row stays that isn't the subject's own and is of a table that isn't private, or held by another subject.
 pub record Stays (db : Db) (subject name : RowName) : Type 0 where
   pub other : name ≢ subject
-  pub kept : IsFalse (is_private db.schema name.table.0) ⊎ Held db subject name
+  pub kept : IsFalse (is_private db.schema name.table.0) ⊎ Claimed db subject name

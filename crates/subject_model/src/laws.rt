@@ -7,11 +7,13 @@ ghost use Rattle.own_model.specs.declared.schema.Edge.{Edge};
 ghost use Rattle.own_model.specs.Db.{Db, IsOrdered};
 ghost use Rattle.owner_model.specs.Joins.{Joins, row_of};
 ghost use Rattle.schema_model.specs.OwnerSchema.{IsOwnerSchema};
+ghost use Rattle.subject_model.specs.Erased.{IsAltered, IsErased};
 ghost use Rattle.subject_model.specs.FirstSubject.{EndsAtFirstSubject};
+ghost use Rattle.subject_model.specs.Forget.{changed, forget, removed};
 ghost use Rattle.subject_model.specs.LocalEquation.{MeetsLocalEquation, counts_for_owners, counts_for_reach};
 ghost use Rattle.subject_model.specs.NameOrder.{name_cmp};
 ghost use Rattle.subject_model.specs.Named.{NamedRow, is_there, named_rows};
-ghost use Rattle.subject_model.specs.Owners.{By, Owns, Reaches, by, owners, owns, reach, reaches};
+ghost use Rattle.subject_model.specs.Owners.{By, Owns, Reaches, by, has_owner, owners, owns, reach, reaches};
 ghost use Rattle.subject_model.specs.Paths.{IsPath, Path, Step, end_of, is_subject_row, paths, steps_of};
 ghost use Rattle.subject_model.specs.Staying.{Stays, Struck};
 ghost use Rattle.subject_model.specs.Stays.{stays, struck};
@@ -57,10 +59,29 @@ pub fn tests_say_what_they_test()
         → (Contains (by db subject name) edge.number) ↔ (By db subject name edge) }
 {}
 
+/// A row has an owner exactly where some subject owns it.
+pub fn has_owner_says_whether_a_row_is_owned()
+    ensures { (db : Db) (name : RowName) → IsOrdered db → IsOwnerSchema db.schema
+        → (IsTrue (has_owner db name)) ↔ ((subject : RowName) × Owns db subject name) }
+{}
+
 /// They say whether a row is struck for a subject, and whether it stays when the subject is forgotten.
 pub fn tests_say_what_stays()
     ensures struck { (db : Db) (subject name : RowName) → IsOrdered db → IsOwnerSchema db.schema → (IsTrue (struck db subject name)) ↔ (Struck db subject name) }
     ensures stays { (db : Db) (subject name : RowName) → IsOrdered db → IsOwnerSchema db.schema → (IsTrue (stays db subject name)) ↔ (Stays db subject name) }
+{}
+
+/// A name is there after a FORGET exactly where it was and stays. The names removed are exactly those whose row is gone then,
+/// and the names changed those whose row is another; both stand by table, then by key, each once.
+pub fn forget_removes_and_changes_what_it_names()
+    ensures there { (db : Db) (subject name : RowName) → IsOrdered db → IsOwnerSchema db.schema
+        → (IsTrue (is_there (forget db subject) name)) ↔ (IsTrue (is_there db name) × Stays db subject name) }
+    ensures removed { (db : Db) (subject name : RowName) → IsOrdered db → IsOwnerSchema db.schema
+        → (Contains (removed db subject) name) ↔ (IsErased db (forget db subject) name) }
+    ensures changed { (db : Db) (subject name : RowName) → IsOrdered db → IsOwnerSchema db.schema
+        → (Contains (changed db subject) name) ↔ (IsAltered db (forget db subject) name) }
+    ensures in_order { (db : Db) (subject : RowName) → IsOrdered db
+        → IsStrictlySortedBy name_cmp (removed db subject) × IsStrictlySortedBy name_cmp (changed db subject) }
 {}
 
 /// Owning meets the local equation over the owner edges, and reaching the one over all edges.

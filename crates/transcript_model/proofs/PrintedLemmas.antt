@@ -5,6 +5,7 @@ use Rattle.std.proofs.lemmas.Bool.Decides.{eqb_tells}
 use Rattle.std.specs.Prelude.{Option, None, Some, ◌==◌, ◌&&◌}
 use Rattle.std.specs.List.{AllByRecursion, flat_map}
 use Rattle.std.proofs.lemmas.Grind.{flat_map-append}
+use Rattle.std.proofs.lemmas.List.{take-append-le}
 use Rattle.std.proofs.lemmas.List.Sums.{fold-append}
 use Rattle.own_model.specs.declared.history.Entry.{Entry}
 use Rattle.own_model.specs.declared.script.ScriptCall.{ScriptCall}
@@ -12,8 +13,8 @@ use Rattle.own_model.specs.Db.{Db}
 use Rattle.history_model.specs.History.{History}
 use Rattle.history_model.specs.Made.{Want, Spared, Unshown, Unmade, Called, added, after_call, entry_of, made, place_by}
 use Rattle.script_model.specs.Numbered.{count_of}
-use Rattle.transcript_model.specs.Printed.{is_of, lines_at, lines_of, place_from, place_of, printed}
-use Rattle.history_model.proofs.HistoryLemmas.{reply-append}
+use Rattle.transcript_model.specs.Printed.{is_of, lines_at, lines_of, looks, place_from, place_of, printed}
+use Rattle.history_model.proofs.HistoryLemmas.{reply-append, slice_get-append}
 
 -- no entry is of the call
 abbrev pub NoneOf : ScriptCall → History → Type 0
@@ -70,12 +71,19 @@ place_from-within from place call [] found = let never : ⊥ = cc in absurd neve
 place_from-within from place call (entry ∷ history) found =
     within_step from place call entry history (place_from-within (from + 1) place call history) _ refl found
 
+-- a call that looks does so whatever comes later
+looks-append : (base : Db) (history more : History) (place : ℕ) → place < length history → looks base (history ++ more) place ≡ looks base history place
+unfolding looks
+looks-append base history more place lt =
+    let le : place ≤ length history = omega arith in
+    rw (take-append-le place history more le, slice_get-append history more place lt) refl
+
 lines_step : (base : Db) (history more : History) (called : Called) (place : Option ℕ) → place_of history called.call ≡ place
     → lines_at base (history ++ more) called place ≡ lines_at base history called place
 lines_step base history more called None is = refl
 lines_step base history more called (Some place) is =
     let within : place < length history = (let lt = place_from-within 0 place called.call history is in omega arith) in
-    rw (reply-append base history more place within) refl
+    rw (reply-append base history more place within, looks-append base history more place within) refl
 
 -- the lines of a call that has its entry, or gets none, stay
 lines_of-append : (base : Db) (history more : History) (called : Called) → NoneOf called.call more

@@ -1,19 +1,18 @@
 -- Transcripts of calls that memory refused nothing.
 use Rattle.std.proofs.Common.{◌≡◌, ℕ, ◌+◌, ◌≤◌, List, [], ◌∷◌, ◌++◌, length, map, fold, refl, ap, sym, subst, ◌∙◌, arith, append-nil, append_assoc}
-use Rattle.std.specs.Prelude.{Option, None, Some}
+use Rattle.std.specs.Prelude.{Bool, true, false, ◌&&◌, Option, None, Some, if◌then◌else◌}
 use Rattle.std.specs.Option.{option_map_or}
 use Rattle.std.proofs.lemmas.List.{length-append, length-map}
 use Rattle.own_model.specs.declared.history.Entry.{Entry}
-use Rattle.own_model.specs.declared.limit.LimitName.TheVariants as limit
-use Rattle.own_model.specs.declared.refusal.Refusal.TheVariants.{Limit, Memory}
+use Rattle.own_model.specs.declared.refusal.Refusal.TheVariants.{Memory}
 use Rattle.own_model.specs.declared.reply.Reply.{Reply}
-use Rattle.own_model.specs.declared.reply.Reply.TheVariants.{Graph, Refused, Rows}
+use Rattle.own_model.specs.declared.reply.Reply.TheVariants.{Refused}
 use Rattle.own_model.specs.declared.script.ScriptCall.{ScriptCall}
 use Rattle.own_model.specs.Db.{Db}
 use Rattle.history_model.specs.History.{History, reply}
 use Rattle.history_model.specs.Made.{Want, Spared, Unshown, Unmade, Called, added, after_call, entry_of, made}
 use Rattle.text_model.specs.Lines.{reply_lines}
-use Rattle.transcript_model.specs.Printed.{lines_at, lines_of, place_of, printed, told}
+use Rattle.transcript_model.specs.Printed.{is_shown, lines_at, lines_of, looks, place_of, printed, told}
 use Rattle.transcript_model.specs.TellsMemory.{TellsMemory}
 use Rattle.transcript_model.specs.Transcript.{IsSpared, IsTranscript, spared}
 
@@ -67,27 +66,30 @@ tells-memory place session call = record {
 }
 
 -- what is told of a reply is the reply, where it isn't told as memory
-told-same : (place session call : ℕ) (want : Want) (reply : Reply) → (TellsMemory (reply_lines (Some place) session call (told want reply)) → ⊥)
-    → reply_lines (Some place) session call (told want reply) ≡ reply_lines (Some place) session call reply
-told-same place session call Spared reply none = refl
-told-same place session call Unmade reply none = refl
-told-same place session call Unshown (Rows rows) none = absurd (none (tells-memory place session call))
-told-same place session call Unshown (Graph lines) none = absurd (none (tells-memory place session call))
-told-same place session call Unshown (Refused (Limit limit.Reply)) none = absurd (none (tells-memory place session call))
-told-same place session call Unshown _ none = refl
+told-step : (place session call : ℕ) (as_memory : Bool) (reply : Reply) → (TellsMemory (reply_lines (Some place) session call (if as_memory then Refused Memory else reply)) → ⊥)
+    → reply_lines (Some place) session call (if as_memory then Refused Memory else reply) ≡ reply_lines (Some place) session call reply
+told-step place session call true reply none = absurd (none (tells-memory place session call))
+told-step place session call false reply none = refl
 
-found-same : (place session call : ℕ) (want : Want) (found : Option Reply)
-    → (TellsMemory (option_map_or (λ reply. reply_lines (Some place) session call (told want reply)) found []) → ⊥)
-    → option_map_or (λ reply. reply_lines (Some place) session call (told want reply)) found []
-    ≡ option_map_or (λ reply. reply_lines (Some place) session call (told Spared reply)) found []
-found-same place session call want None none = refl
-found-same place session call want (Some reply) none = told-same place session call want reply none
+told-same : (place session call : ℕ) (looked : Bool) (want : Want) (reply : Reply) → (TellsMemory (reply_lines (Some place) session call (told looked want reply)) → ⊥)
+    → reply_lines (Some place) session call (told looked want reply) ≡ reply_lines (Some place) session call reply
+told-same place session call looked Spared reply none = refl
+told-same place session call looked Unmade reply none = refl
+told-same place session call looked Unshown reply none = told-step place session call (looked && is_shown reply) reply none
+
+found-same : (place session call : ℕ) (looked : Bool) (want : Want) (found : Option Reply)
+    → (TellsMemory (option_map_or (λ reply. reply_lines (Some place) session call (told looked want reply)) found []) → ⊥)
+    → option_map_or (λ reply. reply_lines (Some place) session call (told looked want reply)) found []
+    ≡ option_map_or (λ reply. reply_lines (Some place) session call (told looked Spared reply)) found []
+found-same place session call looked want None none = refl
+found-same place session call looked want (Some reply) none = told-same place session call looked want reply none
 
 lines_at-same : (base : Db) (history : History) (call : ScriptCall) (want : Want) (place : Option ℕ)
     → (TellsMemory (lines_at base history (record { call = call; want = want }) place) → ⊥)
     → lines_at base history (record { call = call; want = want }) place ≡ lines_at base history (record { call = call; want = Spared }) place
 lines_at-same base history call want None none = refl
-lines_at-same base history call want (Some place) none = found-same place call.session.0 call.call want (reply base history place) none
+lines_at-same base history call want (Some place) none =
+    found-same place call.session.0 call.call (looks base history place) want (reply base history place) none
 
 lines_of-same : (base : Db) (history : History) (called : Called) → (TellsMemory (lines_of base history called) → ⊥)
     → lines_of base history called ≡ lines_of base history (record { call = called.call; want = Spared })

@@ -11,18 +11,18 @@ use Rattle.history_model.specs.MayBeUnmade.{MayBeUnmade}
 use Rattle.script_model.proofs.Counts.{count-more, count-own}
 use Rattle.script_model.proofs.InputCalls.{all-append}
 use Rattle.text_model.specs.Lines.{reply_lines}
-use Rattle.transcript_model.specs.Printed.{Tells, lines_at, printed}
-use Rattle.transcript_model.specs.Transcript.{IsTranscript, text_of_call}
+use Rattle.transcript_model.specs.Printed.{lines_at, printed}
+use Rattle.transcript_model.specs.Transcript.{IsTranscript}
 use Rattle.transcript_model.proofs.PrintedLemmas.{CallsWithin, EntriesWithin, IsNext, lines_of-place, made-append, none_within, others_added, place_added, printed-append, printed-last}
 
 -- A call more: its entry goes after the history, unless memory refused it, and its lines after the text.
 pub transcript-more : (base : Db) (calls : List ScriptCall) (history : History) (text : List ℕ) (call : ScriptCall) (want : Want)
     → IsTranscript base calls history text → IsNext calls call → CallsWithin calls calls → EntriesWithin calls history
-    → (want ≡ Unmade → MayBeUnmade (entry_of call).request)
+    → (want ≡ Unmade → MayBeUnmade (entry_of call).request) → (want ≡ Unshown → ⊥)
     → IsTranscript base (calls ++ call ∷ []) (history ++ added (entry_of call) want)
     (text ++ lines_at base (history ++ added (entry_of call) want) (record { call = call; want = want }) (place_by want (length history)))
 unfolding made
-transcript-more base calls history text call want run next within earlier cause =
+transcript-more base calls history text call want run next within earlier cause shows =
     let last : Called = record { call = call; want = want } in
     let grown = history ++ added (entry_of call) want in
     let same_calls = map-append (λ called. called.call) run.called (last ∷ []) ∙ ap (λ calls. calls ++ call ∷ []) run.calls_are in
@@ -33,6 +33,7 @@ transcript-more base calls history text call want run next within earlier cause 
       called = run.called ++ last ∷ [];
       calls_are = same_calls;
       unmade = all-append (λ (c : Called). c.want ≡ Unmade → MayBeUnmade (entry_of c.call).request) run.called (last ∷ []) run.unmade (cause, tt);
+      shown = all-append (λ (c : Called). c.want ≡ Unshown → ⊥) run.called (last ∷ []) run.shown (shows, tt);
       history_is = ap (λ h. after_call h last) run.history_is ∙ sym (made-append run.called last);
       text_is = ap (λ t. t ++ lines_at base grown last (place_by want (length history))) before
           ∙ (ap (λ l. printed base grown run.called ++ l) lines ∙ sym (printed-last base grown run.called last));
@@ -41,7 +42,7 @@ transcript-more base calls history text call want run next within earlier cause 
 -- no call yet
 pub transcript-none : (base : Db) → IsTranscript base [] [] []
 unfolding made printed
-transcript-none base = record { called = []; calls_are = refl; unmade = tt; history_is = refl; text_is = refl }
+transcript-none base = record { called = []; calls_are = refl; unmade = tt; shown = tt; history_is = refl; text_is = refl }
 
 -- what is within the calls is within these and one more
 calls_kept : (done : List ScriptCall) (more : ScriptCall) (calls : List ScriptCall) → CallsWithin done calls → CallsWithin (done ++ more ∷ []) calls
@@ -69,18 +70,3 @@ pub entries_within-more : (done : List ScriptCall) (history : History) (call : S
 entries_within-more done history call Spared next within = entries_last done history call next within
 entries_within-more done history call Unshown next within = entries_last done history call next within
 entries_within-more done history call Unmade next within = rw append-nil (entries_kept done call history within)
-
-told_step : (base : Db) (history : History) (call : ScriptCall) (shown : Reply) (reply_there : Option Reply)
-    → reply base (history ++ entry_of call ∷ []) (length history) ≡ reply_there → Tells shown reply_there
-    → (want : Want) × (added (entry_of call) want ≡ entry_of call ∷ [])
-    × (reply_lines (Some (length history)) call.session.0 call.call shown ≡ text_of_call base history call want)
-told_step base history call shown None is told = absurd told
-told_step base history call shown (Some reply) is (inl same) = (Spared, refl, rw is (ap (reply_lines (Some (length history)) call.session.0 call.call) same))
-told_step base history call shown (Some reply) is (inr same) = (Unshown, refl, rw is (ap (reply_lines (Some (length history)) call.session.0 call.call) same))
-
--- what is told of the last entry is the text of its call
-pub told-last : (base : Db) (history : History) (call : ScriptCall) (shown : Reply)
-    → Tells shown (reply base (history ++ entry_of call ∷ []) (length history))
-    → (want : Want) × (added (entry_of call) want ≡ entry_of call ∷ [])
-    × (reply_lines (Some (length history)) call.session.0 call.call shown ≡ text_of_call base history call want)
-told-last base history call shown told = told_step base history call shown _ refl told

@@ -1,10 +1,10 @@
 -- What calls leave that are made one after another: a history and a text.
-use Rattle.std.specs.Prelude.{◌≡◌, ℕ, List, ◌++◌, length, map}
+use Rattle.std.specs.Prelude.{◌≡◌, ◌≢◌, ℕ, List, ◌++◌, length, map}
 use Rattle.std.specs.List.{AllByRecursion}
 use Rattle.own_model.specs.declared.script.ScriptCall.{ScriptCall}
 use Rattle.own_model.specs.Db.{Db}
 use Rattle.history_model.specs.History.{History}
-use Rattle.history_model.specs.Made.{Called, Want, Spared, added, entry_of, made, place_by}
+use Rattle.history_model.specs.Made.{Called, Want, Spared, Unshown, added, entry_of, made, place_by}
 use Rattle.history_model.specs.MayBeUnmade.{AreUnmadeByMemory}
 use Rattle.transcript_model.specs.Printed.{lines_at, printed}
 
@@ -20,6 +20,8 @@ pub record IsTranscript (base : Db) (calls : List ScriptCall) (history : History
   pub called : List Called
   pub calls_are : map (λ called. called.call) called ≡ calls
   pub unmade : AreUnmadeByMemory called
+  -- nothing that was made is told as `memory`
+  pub shown : AllByRecursion (λ called. called.want ≢ Unshown) called
   pub history_is : history ≡ made called
   pub text_is : text ≡ printed base history called
 

@@ -1,4 +1,4 @@
--- What an open transaction has changed stands for its block on each database that is the same on the rows of its items.
+-- What an open transaction has changed represents its block on each database that is the same on the rows of its items.
 use Rattle.std.proofs.Common.{◌≡◌, ◌∙◌, ◌<◌, ℕ, suc, List, [], ◌∷◌, Bool, true, false, Option, None, Some, ap, inl, inr, length, refl, subst, sym}
 use Rattle.std.specs.Prelude.{◌⊎◌, find, is_some, slice_get}
 use Rattle.std.specs.List.{AllByRecursion as Each}
@@ -20,7 +20,7 @@ use Rattle.page_model.specs.Found.{found}
 use Rattle.query_model.specs.Footprints.{item}
 use Rattle.run_model.specs.Agree.{Agree, AgreeOn, overlaps}
 use Rattle.run_model.specs.Items.{items_of_all}
-use Rattle.state_model.specs.Sound.{IsKept}
+use Rattle.state_model.specs.Sound.{IsWellFormed}
 use Rattle.subject_model.proofs.NamedLemmas.{one_key}
 use Rattle.table_part.proofs.SameFound.{same_found}
 use Rattle.txn_space.specs.declared.entry.Entry.{Entry}
@@ -31,7 +31,7 @@ use Rattle.txn_space.proofs.OverLemmas.{changed_rise, named_entry, named_in, nam
 use Rattle.history_model.specs.World.{Block, after_block, statements_of}
 use Rattle.history_model.proofs.BlockLemmas.{AreOfBlock, carries-block, kept-block, schema-block, still-block}
 use Rattle.txn_core.specs.Runs.{is_entered, is_written}
-use Rattle.txn_core.specs.Standing.{StandsFor}
+use Rattle.txn_core.specs.RepresentsBlock.{RepresentsBlock}
 
 -- databases that agree on an item agree on the row of each name on it
 module _ (db other : Db) (schema : db.schema ≡ other.schema) (name : RowName) where
@@ -87,8 +87,8 @@ module _ (schema : Schema) (rows : List (List Row)) (space : List (List Entry)) 
   named_changed = by_entry (found entry_key key_cmp name.key (entries_at space name.table.0)) refl
 
 -- A block on another database that agrees on the rows of its items
-module _ (places : ℕ) (flat other : Db) (block : Block) (kept : IsKept flat) (kept_other : IsKept other) (base : IsBase flat.schema.tables flat.rows) (base_other : IsBase other.schema.tables other.rows)
-    (are : AreOfBlock places block) (agree : Agree (items_of_all flat.schema (statements_of block)) flat other) (space : List (List Entry)) (stands : StandsFor flat block space) where
+module _ (places : ℕ) (flat other : Db) (block : Block) (kept : IsWellFormed flat) (kept_other : IsWellFormed other) (base : IsBase flat.schema.tables flat.rows) (base_other : IsBase other.schema.tables other.rows)
+    (are : AreOfBlock places block) (agree : Agree (items_of_all flat.schema (statements_of block)) flat other) (space : List (List Entry)) (stands : RepresentsBlock flat block space) where
   abbrev items : List FootItem
   items = items_of_all flat.schema (statements_of block)
 
@@ -164,9 +164,9 @@ module _ (places : ℕ) (flat other : Db) (block : Block) (kept : IsKept flat) (
       sym (named_in other.schema changed name table is)
       ∙ (by_name name (slice_get_within other.schema.tables number table is) (is_written items name) refl ∙ named_in other.schema left name table is))
 
-  -- What was changed stands for the block there too.
-  pub stands_there : StandsFor other block space
-  stands_there = record {
+  -- What was changed represents the block there too.
+  pub represents_there : RepresentsBlock other block space
+  represents_there = record {
     sound = sound;
     rows = rows_same other.schema.tables changed left rising_changed rising_left table_same;
     within = λ name entered. ap (λ (schema : Schema). is_written (items_of_all schema (statements_of block)) name) (sym agree.schema) ∙ stands.within name entered;

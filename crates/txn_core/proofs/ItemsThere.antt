@@ -19,7 +19,7 @@ use Rattle.readable_model.specs.Sources.{IsSourceThere}
 use Rattle.run_model.specs.Agree.{overlaps}
 use Rattle.run_model.proofs.FoundRows.{found_has}
 use Rattle.history_model.specs.Held.{Holding, first_holding, first_overlap, others}
-use Rattle.row_locks.specs.Stands.{holder_among, holding_among}
+use Rattle.row_locks.specs.RepresentsItems.{holder_among, holding_among}
 use Rattle.schema_model.proofs.Places.{all-at}
 use Rattle.write_eval.specs.Write.{IsWrite}
 use Rattle.txn_core.specs.Runs.{IsRowStatement}

@@ -2,7 +2,7 @@ mod BoundSelects
 mod Dooming
 pub mod Elsewhere
 mod ItemsThere
-pub mod KeptStands
+pub mod RepresentsSteps
 mod Lowest
 mod NetNames
 mod NetTo
@@ -13,6 +13,6 @@ pub mod PutLeads
 mod Quiet
 pub mod Runs
 pub mod SoundBases
-pub mod Standing
+pub mod RepresentsLemmas
 mod Statements
 mod StoredRows

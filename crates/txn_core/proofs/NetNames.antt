@@ -16,8 +16,7 @@ use Rattle.page_model.specs.Changed.{with_changes}
 use Rattle.state_model.specs.Net.{change_at, keys_in, net, net_from, net_in}
 use Rattle.state_model.specs.Same.{is_same_row, is_same_state, is_same_value}
 use Rattle.txn_space.specs.declared.entry.Entry.{Entry}
-use Rattle.txn_space.specs.Changed.{changed_rows}
-use Rattle.txn_space.specs.EntryNet.{database}
+use Rattle.txn_space.specs.Changed.{changed_db, changed_rows}
 use Rattle.txn_space.specs.Put.{put_from}
 use Rattle.txn_space.specs.Sound.{IsBase}
 use Rattle.txn_space.proofs.OverLemmas.{next, same}
@@ -132,19 +131,18 @@ put_none number [] (one ∷ rows) rising = absurd rising
 put_none number (table ∷ tables) [] rising = absurd rising
 put_none number (table ∷ tables) (one ∷ rows) rising = ap (λ rest. one ∷ rest) (put_none (number + 1) tables rows rising.1)
 
-pub no_net : (schema : Schema) (rows : List (List Row)) → AreRising schema.tables rows → IsNetTo (database schema rows) (database schema rows) []
+pub no_net : (db : Db) → AreRising db.schema.tables db.rows → IsNetTo db db []
 unfolding net IsDistinct
-no_net schema rows rising = record {
-  is_net = sym (net_from-same 0 schema.tables rows);
-  made = put_none 0 schema.tables rows rising;
+no_net db rising = record {
+  is_net = sym (net_from-same 0 db.schema.tables db.rows);
+  made = put_none 0 db.schema.tables db.rows rising;
   theirs = tt;
   once = λ number. tt;
 }
 
 -- so it is where nothing was changed
-pub net_unchanged : (schema : Schema) (rows : List (List Row)) (space : List (List Entry)) (changes : List Change) → IsBase schema.tables rows → space ≡ [] → changes ≡ []
-    → IsNetTo (database schema rows) (database schema (changed_rows schema.tables rows space)) changes
-net_unchanged schema rows space changes base none empty =
-    let same : changed_rows schema.tables rows space ≡ rows = ap (changed_rows schema.tables rows) none ∙ changed_none 0 schema.tables rows base.rising in
-    subst (λ changes. IsNetTo (database schema rows) (database schema (changed_rows schema.tables rows space)) changes) (sym empty)
-    (subst (λ after. IsNetTo (database schema rows) (database schema after) []) (sym same) (no_net schema rows base.rising))
+pub net_unchanged : (db : Db) (space : List (List Entry)) (changes : List Change) → IsBase db.schema.tables db.rows → space ≡ [] → changes ≡ [] → IsNetTo db (changed_db db space) changes
+net_unchanged db space changes base none empty =
+    let same : changed_rows db.schema.tables db.rows space ≡ db.rows = ap (changed_rows db.schema.tables db.rows) none ∙ changed_none 0 db.schema.tables db.rows base.rising in
+    subst (λ changes. IsNetTo db (changed_db db space) changes) (sym empty)
+    (subst (λ rows. IsNetTo db (record db { rows = rows }) []) (sym same) (no_net db base.rising))

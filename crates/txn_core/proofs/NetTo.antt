@@ -6,7 +6,6 @@ use Rattle.own_base.specs.declared.change.Change.{Change}
 use Rattle.own_model.specs.declared.bound.Bound.{Bound}
 use Rattle.own_model.specs.declared.bound.Bound.TheVariants.{Delete, Explain, Forget, Get, Insert, Select, Update}
 use Rattle.own_model.specs.declared.reply.Reply.TheVariants.{Counted}
-use Rattle.own_model.specs.declared.schema.CreateText.{CreateText}
 use Rattle.own_model.specs.declared.schema.Schema.{Schema}
 use Rattle.own_model.specs.declared.schema.TableDef.{TableDef}
 use Rattle.own_model.specs.Db.{AreRising, Db, IsOrdered, Row}
@@ -16,12 +15,11 @@ use Rattle.run_model.proofs.SameSchema.{same_schema-bound}
 use Rattle.state_model.specs.Net.{net}
 use Rattle.table_part.specs.Changes.{KeysDiffer}
 use Rattle.txn_space.specs.Changed.{changed_from}
-use Rattle.txn_space.specs.EntryNet.{database}
 use Rattle.txn_space.specs.Put.{IsChangeOf, is_of_table, put_rows}
 use Rattle.txn_space.proofs.OverLemmas.{table_there}
 use Rattle.write_eval.specs.declared.written.Written.{Written}
 use Rattle.write_eval.specs.Write.{IsThere, IsWrite, table_of}
-use Rattle.write_eval.specs.Writes.{Writes, db_of}
+use Rattle.write_eval.specs.Writes.{Writes}
 use Rattle.txn_core.specs.Single.{IsNetTo, NetTo}
 use Rattle.txn_core.proofs.OrderedWrites.{ordered-write}
 use Rattle.txn_core.proofs.PutLeads.{leads_theirs, put_leads}
@@ -35,15 +33,15 @@ changed_none number (table ∷ tables) [] rising = absurd rising
 changed_none number (table ∷ tables) (one ∷ rows) rising = ap (λ rest. one ∷ rest) (changed_none (number + 1) tables rows rising.1)
 
 -- what is said of the changes of a space, said of what it was put
-pub net_to : {E : Type 0} (schema : Schema) (rows after put : List (List Row)) (result : Result (List Change) E) → after ≡ put
-    → IfOk result (λ changes. changes ≡ net (database schema rows) (database schema after))
-    → IfOk result (λ changes. put_rows schema.tables changes rows ≡ after)
-    → IfOk result (λ changes. Each (IsChangeOf schema.tables) changes)
+pub net_to : {E : Type 0} (db : Db) (after put : List (List Row)) (result : Result (List Change) E) → after ≡ put
+    → IfOk result (λ changes. changes ≡ net db (record db { rows = after }))
+    → IfOk result (λ changes. put_rows db.schema.tables changes db.rows ≡ after)
+    → IfOk result (λ changes. Each (IsChangeOf db.schema.tables) changes)
     → IfOk result (λ changes. (number : ℕ) → KeysDiffer (filter (is_of_table number) changes))
-    → IfOk result (IsNetTo (database schema rows) (database schema put))
-net_to schema rows after put (Err e) same is_net made theirs once = tt
-net_to schema rows after put (Ok changes) same is_net made theirs once = record {
-  is_net = is_net ∙ ap (λ rows'. net (database schema rows) (database schema rows')) same;
+    → IfOk result (IsNetTo db (record db { rows = put }))
+net_to db after put (Err e) same is_net made theirs once = tt
+net_to db after put (Ok changes) same is_net made theirs once = record {
+  is_net = is_net ∙ ap (λ rows. net db (record db { rows = rows })) same;
   made = made ∙ same;
   theirs = theirs;
   once = once;
@@ -59,34 +57,31 @@ write_there schema (Get subject) write = absurd write
 write_there schema (Forget subject) write = absurd write
 write_there schema Explain write = absurd write
 
-module _ (schema : Schema) (rows : List (List Row)) (bound : Bound) (creates : List CreateText) (rising : AreRising schema.tables rows) (write : IsWrite schema bound)
-    (written : Written) (writes : Writes (db_of creates schema rows) (run_bound (db_of creates schema rows) bound) (table_of bound) written) where
-  abbrev db : Db
-  db = db_of creates schema rows
-
+module _ (db : Db) (bound : Bound) (rising : AreRising db.schema.tables db.rows) (write : IsWrite db.schema bound)
+    (written : Written) (writes : Writes db (run_bound db bound) (table_of bound) written) where
   abbrev left : Db
   left = (run_bound db bound).db
 
-  same : left.schema ≡ schema
+  same : left.schema ≡ db.schema
   same = (same_schema-bound db bound).schema
 
-  left_rising : AreRising schema.tables left.rows
+  left_rising : AreRising db.schema.tables left.rows
   left_rising =
       let ordered : IsOrdered db = record { rising = rising } in
       let after : IsOrdered left = ordered-write db bound ordered write in
       subst (λ (schema : Schema). AreRising schema.tables left.rows) same after.rising
 
   -- its changes, made in the rows, give those that it leaves
-  pub writes_made : put_rows schema.tables written.changes rows ≡ left.rows
-  writes_made = put_leads schema rows left.rows (table_of bound) written.changes rising left_rising writes.changes
+  pub writes_made : put_rows db.schema.tables written.changes db.rows ≡ left.rows
+  writes_made = put_leads db.schema db.rows left.rows (table_of bound) written.changes rising left_rising writes.changes
 
-  pub writes_theirs : Each (IsChangeOf schema.tables) written.changes
+  pub writes_theirs : Each (IsChangeOf db.schema.tables) written.changes
   writes_theirs =
-      let there = table_there schema.tables (table_of bound).0 (write_there schema bound write) in
-      leads_theirs schema rows left.rows (table_of bound) written.changes there.0 there.1 written.changes writes.changes.each
+      let there = table_there db.schema.tables (table_of bound).0 (write_there db.schema bound write) in
+      leads_theirs db.schema db.rows left.rows (table_of bound) written.changes there.0 there.1 written.changes writes.changes.each
 
   -- so their net is that of the write
-  pub writes_net : (changes : List Change) → IsNetTo (database schema rows) (database schema (put_rows schema.tables written.changes rows)) changes
+  pub writes_net : (changes : List Change) → IsNetTo db (record db { rows = put_rows db.schema.tables written.changes db.rows }) changes
       → NetTo db (run_bound db bound) (Counted written.count) changes
   unfolding net
   writes_net changes leads = record {

@@ -1,4 +1,4 @@
--- What the open transactions of a history changed stands for their blocks.
+-- What the open transactions of a history changed represents their blocks.
 use Rattle.std.proofs.Common.{◌≡◌, ℕ, List, [], ◌∷◌, ◌++◌, length, ap, subst, sym, true, ◌∙◌}
 use Rattle.std.specs.Prelude.{Ok}
 use Rattle.std.specs.List.{AllByRecursion as Each}
@@ -6,7 +6,6 @@ use Rattle.own_base.specs.declared.change.Change.{Change}
 use Rattle.own_model.specs.declared.bound.Bound.{Bound}
 use Rattle.own_model.specs.declared.history.Entry.{Entry as Event}
 use Rattle.own_model.specs.declared.reply.Reply.{Reply}
-use Rattle.own_model.specs.declared.schema.CreateText.{CreateText}
 use Rattle.own_model.specs.declared.schema.Schema.{Schema}
 use Rattle.own_model.specs.Db.{Db}
 use Rattle.query_model.specs.BoundStatement.{bound_statement}
@@ -24,16 +23,14 @@ use Rattle.history_model.proofs.BlockLemmas.{kept-block, schema-block}
 use Rattle.history_model.proofs.EveryHistory.{held-history, serial-world}
 use Rattle.history_model.proofs.Worlds.{IsOpenBlock, held-open, open-block}
 use Rattle.txn_space.specs.declared.entry.Entry.{Entry}
-use Rattle.txn_space.specs.Changed.{changed_rows}
-use Rattle.txn_space.specs.EntryNet.{database}
+use Rattle.txn_space.specs.Changed.{changed_db, changed_rows}
 use Rattle.txn_space.specs.Put.{put_rows}
-use Rattle.write_eval.specs.Writes.{db_of}
 use Rattle.txn_core.specs.Runs.{HasRun}
 use Rattle.txn_core.specs.Single.{IsNetTo}
-use Rattle.txn_core.specs.Standing.{StandsFor}
-use Rattle.txn_core.proofs.Elsewhere.{stands_there}
+use Rattle.txn_core.specs.RepresentsBlock.{RepresentsBlock}
+use Rattle.txn_core.proofs.Elsewhere.{represents_there}
 use Rattle.txn_core.proofs.SoundBases.{base-sound}
-use Rattle.txn_core.proofs.Standing.{reply_ran, stands_ran}
+use Rattle.txn_core.proofs.RepresentsLemmas.{reply_ran, represents_ran}
 
 each_append : {X : Type 0} (P : X → Type 0) (xs ys : List X) → Each P xs → Each P ys → Each P (xs ++ ys)
 each_append P [] ys all more = more
@@ -45,7 +42,7 @@ module _ (base : Db) (history : History) (sound : Sound base) (entered : IsHisto
   unfolding flat
   sound_flat = (serial-world base history sound entered).sound
 
-  module _ (session begun : ℕ) (block : Block) (opened : standing base history session ≡ Open begun block) (space : List (List Entry)) (stands : StandsFor (flat base history) block space) where
+  module _ (session begun : ℕ) (block : Block) (opened : standing base history session ≡ Open begun block) (space : List (List Entry)) (stands : RepresentsBlock (flat base history) block space) where
     own : IsOpenBlock base history (flat base history) session block
     unfolding flat standing
     own = open-block base history (world base history) (serial-world base history sound entered) session begun block opened
@@ -55,18 +52,18 @@ module _ (base : Db) (history : History) (sound : Sound base) (entered : IsHisto
     on_items other agree = subst (λ items. Agree items (flat base history) other) (held-open (world base history) session begun block opened) agree
 
     -- on each sound database that is the same on the rows that the transaction holds
-    pub stands_elsewhere : (other : Db) → Sound other → Agree (held (world base history) session) (flat base history) other → StandsFor other block space
-    stands_elsewhere other sound_other agree =
-        stands_there (length history) (flat base history) other block sound_flat.kept sound_other.kept (base-sound (flat base history) sound_flat) (base-sound other sound_other)
+    pub represents_elsewhere : (other : Db) → Sound other → Agree (held (world base history) session) (flat base history) other → RepresentsBlock other block space
+    represents_elsewhere other sound_other agree =
+        represents_there (length history) (flat base history) other block sound_flat.kept sound_other.kept (base-sound (flat base history) sound_flat) (base-sound other sound_other)
         own.stated (on_items other agree) space stands
 
     -- and with a statement more
-    pub stands_more : (last : Stated) (bound : Bound) (reply : Reply) (after : List (List Entry)) → TakesRows last.statement → bound_statement (flat base history).schema last.statement ≡ Ok bound
-        → ((creates : List CreateText) → HasRun (db_of creates (flat base history).schema (flat base history).rows) bound space reply after)
-        → ((run (after_block (flat base history) block) last.statement).reply ≡ reply) × StandsFor (flat base history) (block ++ last ∷ []) after
-    stands_more last bound reply after takes is ran = (
+    pub represents_more : (last : Stated) (bound : Bound) (reply : Reply) (after : List (List Entry)) → TakesRows last.statement → bound_statement (flat base history).schema last.statement ≡ Ok bound
+        → HasRun (flat base history) bound space reply after
+        → ((run (after_block (flat base history) block) last.statement).reply ≡ reply) × RepresentsBlock (flat base history) (block ++ last ∷ []) after
+    represents_more last bound reply after takes is ran = (
       reply_ran (length history) (flat base history) block space own.stated stands last takes bound is reply after ran,
-      stands_ran (length history) (flat base history) block space own.stated stands last takes bound is reply after ran,
+      represents_ran (length history) (flat base history) block space own.stated stands last takes bound is reply after ran,
     )
 
     -- the schema that the block leaves is that of the database
@@ -82,7 +79,7 @@ module _ (base : Db) (history : History) (sound : Sound base) (entered : IsHisto
 
     -- and their net is that of the block
     pub net_block : (changes : List Change)
-        → IsNetTo (database (flat base history).schema (flat base history).rows) (database (flat base history).schema (changed_rows (flat base history).schema.tables (flat base history).rows space)) changes
+        → IsNetTo (flat base history) (changed_db (flat base history) space) changes
         → (changes ≡ net (flat base history) (after_block (flat base history) block)) × (put_rows (flat base history).schema.tables changes (flat base history).rows ≡ (after_block (flat base history) block).rows)
     unfolding net
     net_block changes is = (
@@ -93,10 +90,10 @@ module _ (base : Db) (history : History) (sound : Sound base) (entered : IsHisto
     )
 
 -- so behind each entry that leaves the transaction open
-pub stands_behind : (base : Db) (history : History) (event : Event) (session begun : ℕ) (block : Block) (space : List (List Entry)) → Sound base → IsHistory history → IsEntry event
+pub represents_behind : (base : Db) (history : History) (event : Event) (session begun : ℕ) (block : Block) (space : List (List Entry)) → Sound base → IsHistory history → IsEntry event
     → standing base history session ≡ Open begun block → is_open (standing base (history ++ event ∷ []) session) ≡ true
-    → StandsFor (flat base history) block space → StandsFor (flat base (history ++ event ∷ [])) block space
-stands_behind base history event session begun block space sound entered is_entry opened stays stands =
-    stands_elsewhere base history sound entered session begun block opened space stands (flat base (history ++ event ∷ []))
+    → RepresentsBlock (flat base history) block space → RepresentsBlock (flat base (history ++ event ∷ [])) block space
+represents_behind base history event session begun block space sound entered is_entry opened stays stands =
+    represents_elsewhere base history sound entered session begun block opened space stands (flat base (history ++ event ∷ []))
     (sound_flat base (history ++ event ∷ []) sound (each_append IsEntry history (event ∷ []) entered (is_entry, tt)))
     (held-history base history event sound entered is_entry session stays)

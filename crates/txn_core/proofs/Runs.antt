@@ -14,7 +14,6 @@ use Rattle.own_model.specs.declared.footprint.FootItem.{FootItem}
 use Rattle.own_model.specs.declared.refusal.Refusal.{Refusal}
 use Rattle.own_model.specs.declared.reply.Reply.{Reply}
 use Rattle.own_model.specs.declared.reply.Reply.TheVariants.{Refused}
-use Rattle.own_model.specs.declared.schema.CreateText.{CreateText}
 use Rattle.own_model.specs.declared.schema.Schema.{Schema}
 use Rattle.own_model.specs.declared.schema.TableDef.{TableDef}
 use Rattle.own_model.specs.Db.{AreRising, Db, Row, key_of}
@@ -40,14 +39,13 @@ use Rattle.table_part.specs.Changes.{KeysDiffer, changed_key}
 use Rattle.table_part.proofs.FoundChanged.{found_with_changes}
 use Rattle.table_part.proofs.InOrder.{is_of}
 use Rattle.txn_space.specs.declared.entry.Entry.{Entry}
-use Rattle.txn_space.specs.Changed.{changed_rows, rows_with}
+use Rattle.txn_space.specs.Changed.{changed_db, changed_rows, rows_with}
 use Rattle.txn_space.specs.Entries.{entries_at, entry_key, entry_of, entry_row}
 use Rattle.txn_space.specs.HasPut.{entries_put}
 use Rattle.txn_space.specs.Put.{is_of_table, put_rows}
 use Rattle.txn_space.specs.Sound.{IsBase, IsSpaceOf}
 use Rattle.txn_space.proofs.OverLemmas.{changed_rise, rows_of_table}
 use Rattle.write_eval.specs.Write.{IsWrite}
-use Rattle.write_eval.specs.Writes.{db_of}
 use Rattle.write_eval.proofs.Kept.{each_passing}
 use Rattle.txn_core.specs.Runs.{HasRun, IsRowStatement, IsSelect, IsStore, is_entered, is_written}
 use Rattle.txn_core.specs.Single.{NetTo}
@@ -57,33 +55,33 @@ use Rattle.txn_core.proofs.PutLeads.{equal_is}
 use Rattle.txn_core.proofs.StoredRows.{all_stored}
 
 -- rows that transactions may stand on, as one of them changed them
-module _ (schema : Schema) (rows : List (List Row)) (space : List (List Entry)) (store : IsStore schema rows) (sound : IsSpaceOf schema.tables space) where
-  pub small : IsBase schema.tables rows
+module _ (db : Db) (space : List (List Entry)) (store : IsStore db) (sound : IsSpaceOf db.schema.tables space) where
+  pub small : IsBase db.schema.tables db.rows
   small = record { rising = store.rising; few = λ number. let few = store.few number in omega arith }
 
-  pub changed_rising : AreRising schema.tables (changed_rows schema.tables rows space)
-  changed_rising = changed_rise schema.tables rows space small sound
+  pub changed_rising : AreRising db.schema.tables (changed_rows db.schema.tables db.rows space)
+  changed_rising = changed_rise db.schema.tables db.rows space small sound
 
-  few_in : (number : ℕ) (table : Option TableDef) → slice_get schema.tables number ≡ table → length (rows_at (changed_rows schema.tables rows space) number) < 2 ^ 63
+  few_in : (number : ℕ) (table : Option TableDef) → slice_get db.schema.tables number ≡ table → length (rows_at (changed_rows db.schema.tables db.rows space) number) < 2 ^ 63
   few_in number None is =
-      let none : rows_at (changed_rows schema.tables rows space) number ≡ [] = no_rows schema.tables (changed_rows schema.tables rows space) number changed_rising is in
-      let long : length (rows_at (changed_rows schema.tables rows space) number) ≡ 0 = ap length none in
+      let none : rows_at (changed_rows db.schema.tables db.rows space) number ≡ [] = no_rows db.schema.tables (changed_rows db.schema.tables db.rows space) number changed_rising is in
+      let long : length (rows_at (changed_rows db.schema.tables db.rows space) number) ≡ 0 = ap length none in
       omega arith
   few_in number (Some table) is =
-      let all = rows_of_table schema.tables rows space number table store.rising is in
-      let long : length (rows_at (changed_rows schema.tables rows space) number) ≡ length (rows_with table (entries_at space number) (rows_at rows number)) = ap length all in
-      let most = length_with_changes (key_of table) key_order entry_key entry_row (entries_at space number) (rows_at rows number) in
+      let all = rows_of_table db.schema.tables db.rows space number table store.rising is in
+      let long : length (rows_at (changed_rows db.schema.tables db.rows space) number) ≡ length (rows_with table (entries_at space number) (rows_at db.rows number)) = ap length all in
+      let most = length_with_changes (key_of table) key_order entry_key entry_row (entries_at space number) (rows_at db.rows number) in
       let few = store.few number in
       let entries = sound.few number in
       omega arith
 
   -- may be one for a transaction in its turn
-  pub changed_base : IsBase schema.tables (changed_rows schema.tables rows space)
-  changed_base = record { rising = changed_rising; few = λ number. few_in number (slice_get schema.tables number) refl }
+  pub changed_base : IsBase db.schema.tables (changed_rows db.schema.tables db.rows space)
+  changed_base = record { rising = changed_rising; few = λ number. few_in number (slice_get db.schema.tables number) refl }
 
   -- and a select may read them
-  pub changed_tables : AreRowsOf schema.tables (changed_rows schema.tables rows space) → AreTables schema (changed_rows schema.tables rows space)
-  changed_tables are = record { rising = changed_rising; stored = all_stored schema.tables (changed_rows schema.tables rows space) are }
+  pub changed_tables : AreRowsOf db.schema.tables (changed_rows db.schema.tables db.rows space) → AreTables db.schema (changed_rows db.schema.tables db.rows space)
+  changed_tables are = record { rising = changed_rising; stored = all_stored db.schema.tables (changed_rows db.schema.tables db.rows space) are }
 
 -- a statement of rows has a footprint
 pub row_footprinted : (schema : Schema) (bound : Bound) → IsRowStatement schema bound → IsFootprinted schema bound
@@ -138,24 +136,21 @@ module _ (seen left : Db) (items : List FootItem) (before after : List (List Ent
   within_put entered = by (find (is_of key_cmp changed_key name.key) own) refl (ap is_some (sym looked) ∙ entered)
 
 -- A statement in a transaction
-module _ (creates : List CreateText) (schema : Schema) (rows : List (List Row)) (space : List (List Entry)) (store : IsStore schema rows) (sound : IsSpaceOf schema.tables space)
-    (are : AreRowsOf schema.tables (changed_rows schema.tables rows space)) where
-  abbrev db : Db
-  db = db_of creates schema rows
-
+module _ (db : Db) (space : List (List Entry)) (store : IsStore db) (sound : IsSpaceOf db.schema.tables space)
+    (are : AreRowsOf db.schema.tables (changed_rows db.schema.tables db.rows space)) where
   abbrev seen : Db
-  seen = db_of creates schema (changed_rows schema.tables rows space)
+  seen = changed_db db space
 
   place : AreInPlace seen
-  place = record { ordered = record { rising = changed_rising schema rows space store sound }; rows = are }
+  place = record { ordered = record { rising = changed_rising db space store sound }; rows = are }
 
   -- that shows rows
-  pub has_read : (query : BoundSelect) (reply : Reply) → reply ≡ reply_of (query_rows schema (changed_rows schema.tables rows space) query) → HasRun db (Select query) space reply space
+  pub has_read : (query : BoundSelect) (reply : Reply) → reply ≡ reply_of (query_rows db.schema (changed_rows db.schema.tables db.rows space) query) → HasRun db (Select query) space reply space
   unfolding run_bound
   has_read query reply is = record { told = sym is; rows = refl; sound = sound; within = λ name entered. inl entered; reads = λ select. refl }
 
   -- that is refused as it runs
-  pub has_refused : (bound : Bound) (why : Refusal) → IsWrite schema bound → (run_bound seen bound).reply ≡ Refused why → HasRun db bound space (Refused why) space
+  pub has_refused : (bound : Bound) (why : Refusal) → IsWrite db.schema bound → (run_bound seen bound).reply ≡ Refused why → HasRun db bound space (Refused why) space
   has_refused bound why write told = record {
     told = told;
     rows = ap (λ (db : Db). db.rows) (sym (refused-bound seen bound why told));
@@ -164,11 +159,11 @@ module _ (creates : List CreateText) (schema : Schema) (rows : List (List Row)) 
     reads = λ select. refl;
   }
 
-  no_select : (bound : Bound) → IsWrite schema bound → IsSelect bound → ⊥
+  no_select : (bound : Bound) → IsWrite db.schema bound → IsSelect bound → ⊥
   no_select (Select query) write select = write
   no_select bound write select = select
 
-  row_write : (bound : Bound) → IsWrite schema bound → IsRowStatement schema bound
+  row_write : (bound : Bound) → IsWrite db.schema bound → IsRowStatement db.schema bound
   row_write (Select query) write = absurd write
   row_write (Insert table tuples) write = write
   row_write (Update table sets cond) write = write
@@ -178,9 +173,9 @@ module _ (creates : List CreateText) (schema : Schema) (rows : List (List Row)) 
   row_write Explain write = absurd write
 
   -- that writes
-  pub has_written : (bound : Bound) (reply : Reply) (changes : List Change) (after : List (List Entry)) → IsWrite schema bound → NetTo seen (run_bound seen bound) reply changes
-      → IsSpaceOf schema.tables after
-      → ((rows : List (List Row)) → IsBase schema.tables rows → changed_rows schema.tables rows after ≡ put_rows schema.tables changes (changed_rows schema.tables rows space))
+  pub has_written : (bound : Bound) (reply : Reply) (changes : List Change) (after : List (List Entry)) → IsWrite db.schema bound → NetTo seen (run_bound seen bound) reply changes
+      → IsSpaceOf db.schema.tables after
+      → ((others : List (List Row)) → IsBase db.schema.tables others → changed_rows db.schema.tables others after ≡ put_rows db.schema.tables changes (changed_rows db.schema.tables others space))
       → ((number : ℕ) → entries_at after number ≡ entries_put number changes (entries_at space number))
       → HasRun db bound space reply after
   has_written bound reply changes after write net sound_after put puts =
@@ -188,10 +183,10 @@ module _ (creates : List CreateText) (schema : Schema) (rows : List (List Row)) 
       subst (Each (IsOfOther seen (run_bound seen bound).db)) (sym net.leads.is_net) (net_others seen (run_bound seen bound).db net.schema) in
       record {
         told = net.told;
-        rows = put rows (small schema rows space store sound) ∙ net.leads.made;
+        rows = put db.rows (small db space store sound) ∙ net.leads.made;
         sound = sound_after;
         within = λ name.
-            within_put seen (run_bound seen bound).db (footprint_of schema bound) space after changes
-            (still-run_bound seen place bound (row_footprinted schema bound (row_write bound write))) others net.leads.once puts name;
+            within_put seen (run_bound seen bound).db (footprint_of db.schema bound) space after changes
+            (still-run_bound seen place bound (row_footprinted db.schema bound (row_write bound write))) others net.leads.once puts name;
         reads = λ select. absurd (no_select bound write select);
       }

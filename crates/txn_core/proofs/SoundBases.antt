@@ -38,7 +38,7 @@ base-sound db sound = record {
 }
 
 -- and with views of tables that are there it is a store
-pub store-sound : (db : Db) → Sound db → AreViewsThere db.schema → IsStore db.schema db.rows
+pub store-sound : (db : Db) → Sound db → AreViewsThere db.schema → IsStore db
 store-sound db sound views = record {
   rising = sound.kept.ordered.rising;
   few = λ number. let all = few_rows db sound.faultless in let one = few-at db.rows number in omega arith;

@@ -5,11 +5,11 @@ use Rattle.own_model.specs.declared.bound.Bound.{Bound}
 use Rattle.own_model.specs.declared.bound.Bound.TheVariants.{Select}
 use Rattle.own_model.specs.Db.{Db}
 use Rattle.history_model.specs.HasWritten.{has_written}
-use Rattle.history_model.specs.World.{Standing, Outside, Open, Doomed}
+use Rattle.history_model.specs.World.{SessionStanding, Outside, Open, Doomed}
 use Rattle.txn_core.specs.declared.kept.Kept.{Kept}
 use Rattle.txn_core.specs.declared.kept.Kept.TheVariants as kept
 use Rattle.txn_core.specs.declared.txn.Txn.{Txn}
-use Rattle.txn_core.specs.Standing.{StandsFor}
+use Rattle.txn_core.specs.RepresentsBlock.{RepresentsBlock}
 
 -- that of the session of a number; nothing where it was never in a transaction
 abbrev pub kept_by : List Kept → ℕ → Kept
@@ -33,10 +33,10 @@ told (kept.Open txn) = kept.Open txn
 told (kept.Doomed place) = kept.Nothing
 
 -- what is kept of a session whose transaction, if it is in one, is doomed by a FORGET at a place
-abbrev pub struck : Place → Kept → Kept
-struck place kept.Nothing = kept.Nothing
-struck place (kept.Open txn) = kept.Doomed place
-struck place (kept.Doomed by) = kept.Doomed by
+abbrev pub once_doomed : Place → Kept → Kept
+once_doomed place kept.Nothing = kept.Nothing
+once_doomed place (kept.Open txn) = kept.Doomed place
+once_doomed place (kept.Doomed by) = kept.Doomed by
 
 abbrev pub is_select : Bound → Bool
 is_select (Select query) = true
@@ -46,10 +46,10 @@ is_select bound = false
 abbrev pub IsQuiet : Txn → Type 0
 IsQuiet txn = txn.wrote ≡ false → txn.space ≡ []
 
--- What is kept stands for how a session stands on a flat database: nothing outside; in a transaction what it changed, which
--- stands for its block, and whether it has run a write; and the place of its doom.
-abbrev pub StandsAs : Db → Kept → Standing → Type 0
-StandsAs flat kept.Nothing Outside = Unit {0}
-StandsAs flat (kept.Open txn) (Open begun block) = StandsFor flat block txn.space × IsQuiet txn × (txn.wrote ≡ true → has_written flat.schema block ≡ true)
-StandsAs flat (kept.Doomed place) (Doomed by) = place.0 ≡ by
-StandsAs flat _ _ = ⊥
+-- What is kept represents how a session stands on a flat database: nothing outside; in a transaction what it changed, which
+-- represents its block, and whether it has run a write; and the place of its doom.
+abbrev pub RepresentsSession : Db → Kept → SessionStanding → Type 0
+RepresentsSession flat kept.Nothing Outside = Unit {0}
+RepresentsSession flat (kept.Open txn) (Open begun block) = RepresentsBlock flat block txn.space × IsQuiet txn × (txn.wrote ≡ true → has_written flat.schema block ≡ true)
+RepresentsSession flat (kept.Doomed place) (Doomed by) = place.0 ≡ by
+RepresentsSession flat _ _ = ⊥

@@ -1,6 +1,6 @@
 pub mod Kept
 pub mod Runs
 pub mod Single
-pub mod Standing
+pub mod RepresentsBlock
 pub mod Transactions
 pub mod Views

@@ -16,7 +16,7 @@ use Rattle.readable_model.specs.Sources.{IsThere}
 use Rattle.run_model.specs.Agree.{overlaps}
 use Rattle.run_model.specs.Run.{run_bound}
 use Rattle.txn_space.specs.declared.entry.Entry.{Entry}
-use Rattle.txn_space.specs.Changed.{changed_rows}
+use Rattle.txn_space.specs.Changed.{changed_db, changed_rows}
 use Rattle.txn_space.specs.Entries.{entries_at, entry_key}
 use Rattle.txn_space.specs.Sound.{IsSpaceOf}
 use Rattle.write_eval.specs.Write.{IsWrite}
@@ -24,10 +24,10 @@ use Rattle.txn_core.specs.Views.{AreViewsThere}
 
 -- rows that transactions may stand on: by rising key, few enough for those of a transaction beside them, and views of tables
 -- that are there
-pub record IsStore (schema : Schema) (rows : List (List Row)) : Type 0 where
-  pub rising : AreRising schema.tables rows
-  pub few : (number : ℕ) → length (rows_at rows number) < 2 ^ 62
-  pub views : AreViewsThere schema
+pub record IsStore (db : Db) : Type 0 where
+  pub rising : AreRising db.schema.tables db.rows
+  pub few : (number : ℕ) → length (rows_at db.rows number) < 2 ^ 62
+  pub views : AreViewsThere db.schema
 
 -- a SELECT whose source is there, or a write, as binding leaves them
 abbrev pub IsRowStatement : Schema → Bound → Type 0
@@ -38,10 +38,6 @@ IsRowStatement schema bound = IsWrite schema bound
 abbrev pub IsSelect : Bound → Type 0
 IsSelect (Select query) = Unit {0}
 IsSelect bound = ⊥
-
--- a database as a transaction sees it, with its own changes
-abbrev pub shown : Db → List (List Entry) → Db
-shown db space = record db { rows = changed_rows db.schema.tables db.rows space }
 
 -- whether a transaction has changed the row of a name
 abbrev pub is_entered : List (List Entry) → RowName → Bool
@@ -54,8 +50,8 @@ is_written items name = list_any (λ own. overlaps own (item name.table (Some na
 -- The reply is that of the statement over what the transaction sees, and afterwards it sees what the statement leaves. It
 -- has changed no further rows than those that the statement may write; a SELECT changes none.
 pub record HasRun (db : Db) (bound : Bound) (before : List (List Entry)) (reply : Reply) (after : List (List Entry)) : Type 0 where
-  pub told : (run_bound (shown db before) bound).reply ≡ reply
-  pub rows : changed_rows db.schema.tables db.rows after ≡ (run_bound (shown db before) bound).db.rows
+  pub told : (run_bound (changed_db db before) bound).reply ≡ reply
+  pub rows : changed_rows db.schema.tables db.rows after ≡ (run_bound (changed_db db before) bound).db.rows
   pub sound : IsSpaceOf db.schema.tables after
   pub within : (name : RowName) → is_entered after name ≡ true → (is_entered before name ≡ true) ⊎ (is_written (footprint_of db.schema bound) name ≡ true)
   pub reads : IsSelect bound → after ≡ before

@@ -15,12 +15,12 @@ use Rattle.subject_model.specs.Get.{table_name}
 use Rattle.run_model.specs.Run.{run_bound}
 use Rattle.history_model.specs.Held.{Holding}
 use Rattle.row_locks.specs.Kept.{kept_by as held_by}
-use Rattle.row_locks.specs.Stands.{StandFor}
+use Rattle.row_locks.specs.RepresentsItems.{RepresentsItems}
 use Rattle.txn_space.specs.declared.entry.Entry.{Entry}
 use Rattle.txn_core.specs.declared.kept.Kept.{Kept}
 use Rattle.txn_core.specs.declared.kept.Kept.TheVariants.{Nothing, Open, Doomed}
 use Rattle.txn_core.specs.declared.txn.Txn.{Txn}
-use Rattle.txn_core.specs.Kept.{IsQuiet, is_select, kept_by, struck}
+use Rattle.txn_core.specs.Kept.{IsQuiet, is_select, kept_by, once_doomed}
 use Rattle.txn_core.specs.Runs.{HasRun}
 
 -- how each session stands, and the items that it holds, both by its number
@@ -60,11 +60,11 @@ pub record AreOthersSame (session : ℕ) (before after : Transactions) : Type 0 
 abbrev pub IsSameOf : ℕ → Transactions → Transactions → Type 0
 IsSameOf session before after = (kept_by after.kept session ≡ kept_by before.kept session) × (held_by after.held session ≡ held_by before.held session)
 
--- What a FORGET at a place leaves of a session, by whether it strikes it: a transaction of it is doomed, and it holds nothing.
-abbrev pub IsStruckIf : Bool → Place → ℕ → Transactions → Transactions → Type 0
-IsStruckIf strikes place session before after =
-    (kept_by after.kept session ≡ (if strikes then struck place (kept_by before.kept session) else kept_by before.kept session))
-    × (held_by after.held session ≡ (if strikes then [] else held_by before.held session))
+-- What a FORGET at a place leaves of a session, by whether it dooms it: a transaction of it is doomed, and it holds nothing.
+abbrev pub IsDoomedIf : Bool → Place → ℕ → Transactions → Transactions → Type 0
+IsDoomedIf dooms place session before after =
+    (kept_by after.kept session ≡ (if dooms then once_doomed place (kept_by before.kept session) else kept_by before.kept session))
+    × (held_by after.held session ≡ (if dooms then [] else held_by before.held session))
 
 -- each of these items is of a table that is there
 abbrev pub AreItemsOf : Schema → List FootItem → Type 0
@@ -81,7 +81,7 @@ pub record HasStated (db : Db) (bound : Bound) (session : ℕ) (before after : T
   pub ran : HasRun db bound (space_of (kept_by before.kept session)) reply txn.space
   pub quiet : IsQuiet txn
   pub wrote : txn.wrote ≡ (wrote_of (kept_by before.kept session) || not (is_select bound))
-  pub holds : (items : List FootItem) → StandFor (held_by before.held session) items → StandFor (held_by after.held session) (items ++ footprint_of db.schema bound)
+  pub holds : (items : List FootItem) → RepresentsItems (held_by before.held session) items → RepresentsItems (held_by after.held session) (items ++ footprint_of db.schema bound)
   pub others : AreOthersSame session before after
 
 -- What a statement came to, by who stands in its way: it is refused and nothing changes; or it ran.

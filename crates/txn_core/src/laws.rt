@@ -4,7 +4,6 @@ ghost use Rattle.own_base.specs.declared.change.Change.{Change};
 ghost use Rattle.own_model.specs.declared.bound.Bound.{Bound};
 ghost use Rattle.own_model.specs.declared.history.Entry.{Entry as Event};
 ghost use Rattle.own_model.specs.declared.reply.Reply.{Reply};
-ghost use Rattle.own_model.specs.declared.schema.CreateText.{CreateText};
 ghost use Rattle.own_model.specs.Db.{Db};
 ghost use Rattle.query_model.specs.BoundStatement.{bound_statement};
 ghost use Rattle.state_model.specs.Net.{net};
@@ -18,51 +17,49 @@ ghost use Rattle.history_model.specs.History.{History, flat, standing, world};
 ghost use Rattle.history_model.specs.Serial.{IsEntry, IsHistory};
 ghost use Rattle.history_model.specs.World.{Block, Open, Stated, after_block};
 ghost use Rattle.txn_space.specs.declared.entry.Entry.{Entry};
-ghost use Rattle.txn_space.specs.Changed.{changed_rows};
-ghost use Rattle.txn_space.specs.EntryNet.{database};
+ghost use Rattle.txn_space.specs.Changed.{changed_db, changed_rows};
 ghost use Rattle.txn_space.specs.Put.{put_rows};
-ghost use Rattle.write_eval.specs.Writes.{db_of};
 ghost use Rattle.txn_core.specs.Runs.{HasRun};
 ghost use Rattle.txn_core.specs.Single.{IsNetTo};
-ghost use Rattle.txn_core.specs.Standing.{StandsFor};
+ghost use Rattle.txn_core.specs.RepresentsBlock.{RepresentsBlock};
 
-/// Where changes stand for an open transaction's statements, they stand for them on each sound database that is the same on
+/// Where changes represent an open transaction's statements, they represent them on each sound database that is the same on
 /// the rows that the transaction holds.
 pub fn changes_stand_where_the_held_rows_are_the_same()
     ensures { (base : Db) (history : History) (session begun : ℕ) (block : Block) (space : List (List Entry)) (other : Db) → Sound base → IsHistory history
-        → standing base history session ≡ Open begun block → StandsFor (flat base history) block space
-        → Sound other → Agree (held (world base history) session) (flat base history) other → StandsFor other block space }
+        → standing base history session ≡ Open begun block → RepresentsBlock (flat base history) block space
+        → Sound other → Agree (held (world base history) session) (flat base history) other → RepresentsBlock other block space }
 {}
 
-/// So they stand for them while others commit: behind each entry that leaves the transaction open.
+/// So they represent them while others commit: behind each entry that leaves the transaction open.
 pub fn changes_stand_while_others_commit()
     ensures { (base : Db) (history : History) (event : Event) (session begun : ℕ) (block : Block) (space : List (List Entry)) → Sound base → IsHistory history
         → IsEntry event → standing base history session ≡ Open begun block → is_open (standing base (history ++ event ∷ []) session) ≡ true
-        → StandsFor (flat base history) block space → StandsFor (flat base (history ++ event ∷ [])) block space }
+        → RepresentsBlock (flat base history) block space → RepresentsBlock (flat base (history ++ event ∷ [])) block space }
 {}
 
 /// A statement that runs over what the changes show replies as it does behind the transaction's statements, and the changes
-/// that it leaves stand for these and it.
-pub fn changes_stand_for_a_statement_more()
+/// that it leaves represent these and it.
+pub fn changes_represent_a_statement_more()
     ensures { (base : Db) (history : History) (session begun : ℕ) (block : Block) (space : List (List Entry)) (last : Stated) (bound : Bound) (reply : Reply) (after : List (List Entry))
-        → Sound base → IsHistory history → standing base history session ≡ Open begun block → StandsFor (flat base history) block space
+        → Sound base → IsHistory history → standing base history session ≡ Open begun block → RepresentsBlock (flat base history) block space
         → TakesRows last.statement → bound_statement (flat base history).schema last.statement ≡ Ok bound
-        → ((creates : List CreateText) → HasRun (db_of creates (flat base history).schema (flat base history).rows) bound space reply after)
-        → ((run (after_block (flat base history) block) last.statement).reply ≡ reply) × StandsFor (flat base history) (block ++ last ∷ []) after }
+        → HasRun (flat base history) bound space reply after
+        → ((run (after_block (flat base history) block) last.statement).reply ≡ reply) × RepresentsBlock (flat base history) (block ++ last ∷ []) after }
 {}
 
 /// The rows that such changes show may stand in their tables, as a statement in a transaction asks.
 pub fn changes_show_rows_that_may_stand_there()
     ensures { (base : Db) (history : History) (session begun : ℕ) (block : Block) (space : List (List Entry)) → Sound base → IsHistory history
-        → standing base history session ≡ Open begun block → StandsFor (flat base history) block space
+        → standing base history session ≡ Open begun block → RepresentsBlock (flat base history) block space
         → AreRowsOf (flat base history).schema.tables (changed_rows (flat base history).schema.tables (flat base history).rows space) }
 {}
 
 /// The net of such changes is that of the transaction's statements, and leads to the rows that these leave.
 pub fn net_of_changes_is_that_of_the_block()
     ensures { (base : Db) (history : History) (session begun : ℕ) (block : Block) (space : List (List Entry)) (changes : List Change) → Sound base → IsHistory history
-        → standing base history session ≡ Open begun block → StandsFor (flat base history) block space
-        → IsNetTo (database (flat base history).schema (flat base history).rows) (database (flat base history).schema (changed_rows (flat base history).schema.tables (flat base history).rows space)) changes
+        → standing base history session ≡ Open begun block → RepresentsBlock (flat base history) block space
+        → IsNetTo (flat base history) (changed_db (flat base history) space) changes
         → (changes ≡ net (flat base history) (after_block (flat base history) block))
         × (put_rows (flat base history).schema.tables changes (flat base history).rows ≡ (after_block (flat base history) block).rows) }
 {}

@@ -17,12 +17,12 @@ fn select_from_view<V: StoreView>(
     number: ViewNo,
     query: &BoundSelect,
 ) -> Result<Reply, AllocError>
-    requires tables { AreTables (V.schema_of view.now) (V.rows view.now) }
-    requires views { AreViewsThere (V.schema_of view.now) }
-    requires there { number.0 < length (V.schema_of view.now).views }
+    requires tables { AreTables (V.db view.now).schema (V.db view.now).rows }
+    requires views { AreViewsThere (V.db view.now).schema }
+    requires there { number.0 < length (V.db view.now).schema.views }
     requires viewed { query.now.source ≡ View number }
     requires plain { query.now.grouped ≡ false }
-    ensures { IfOk result (λ reply. reply ≡ reply_of (query_rows (V.schema_of view.now) (V.rows view.now) query.now)) }
+    ensures { IfOk result (λ reply. reply ≡ reply_of (query_rows (V.db view.now).schema (V.db view.now).rows query.now)) }
 {
     let definition = &view.schema().views.items()[number.0 as usize];
     let rows = view_rows(alloc, view, definition)?;
@@ -36,10 +36,10 @@ pub fn select_reply<V: StoreView>(
     view: &V,
     query: &BoundSelect,
 ) -> Result<Reply, AllocError>
-    requires tables { AreTables (V.schema_of view.now) (V.rows view.now) }
-    requires views { AreViewsThere (V.schema_of view.now) }
-    requires there { IsThere (V.schema_of view.now) query.now }
-    ensures { IfOk result (λ reply. reply ≡ reply_of (query_rows (V.schema_of view.now) (V.rows view.now) query.now)) }
+    requires tables { AreTables (V.db view.now).schema (V.db view.now).rows }
+    requires views { AreViewsThere (V.db view.now).schema }
+    requires there { IsThere (V.db view.now).schema query.now }
+    ensures { IfOk result (λ reply. reply ≡ reply_of (query_rows (V.db view.now).schema (V.db view.now).rows query.now)) }
 {
     if query.grouped {
         return group(alloc, view, query);

@@ -1,15 +1,13 @@
-ghost use Rattle.std.specs.Prelude.{◌≡◌, ◌≢◌, List as Seq, IfErr, IfOk, OnErr};
+ghost use Rattle.std.specs.Prelude.{◌≡◌, ◌≢◌, IfErr, IfOk, OnErr};
 ghost use Rattle.own_model.specs.declared.refusal.Refusal.TheVariants.{Memory};
 ghost use Rattle.own_model.specs.declared.reply.Reply.TheVariants.{Refused};
-ghost use Rattle.own_model.specs.declared.schema.CreateText.{CreateText};
 ghost use Rattle.query_model.specs.Query.{query_rows, reply_of};
 ghost use Rattle.readable_model.specs.Sources.{IsThere};
 ghost use Rattle.state_model.specs.Rows.{AreRowsOf};
 ghost use Rattle.run_model.specs.Run.{run_bound};
-ghost use Rattle.txn_space.specs.Changed.{changed_rows};
+ghost use Rattle.txn_space.specs.Changed.{changed_db};
 ghost use Rattle.txn_space.specs.Sound.{IsSpaceOf};
 ghost use Rattle.write_eval.specs.Write.{IsWrite};
-ghost use Rattle.write_eval.specs.Writes.{db_of};
 ghost use Rattle.txn_core.specs.Runs.{HasRun, IsRowStatement, IsStore};
 ghost use Rattle.txn_core.specs.Single.{NetTo};
 
@@ -28,11 +26,11 @@ fn read_in<V: StoreView>(
     version: &V,
     query: &BoundSelect,
 ) -> Result<Reply, AllocError>
-    requires store { IsStore (V.schema_of version.now) (V.rows version.now) }
-    requires space { IsSpaceOf (V.schema_of version.now).tables space.now }
-    requires rows { AreRowsOf (V.schema_of version.now).tables (changed_rows (V.schema_of version.now).tables (V.rows version.now) space.now) }
-    requires there { IsThere (V.schema_of version.now) query.now }
-    ensures { IfOk result (λ reply. reply ≡ reply_of (query_rows (V.schema_of version.now) (changed_rows (V.schema_of version.now).tables (V.rows version.now) space.now) query.now)) }
+    requires store { IsStore (V.db version.now) }
+    requires space { IsSpaceOf (V.db version.now).schema.tables space.now }
+    requires rows { AreRowsOf (V.db version.now).schema.tables (changed_db (V.db version.now) space.now).rows }
+    requires there { IsThere (V.db version.now).schema query.now }
+    ensures { IfOk result (λ reply. reply ≡ reply_of (query_rows (V.db version.now).schema (changed_db (V.db version.now) space.now).rows query.now)) }
 {
     let over = space.over(version);
     select_reply(alloc, &over, query)
@@ -45,14 +43,12 @@ fn net_over<V: StoreView>(
     version: &V,
     bound: &Bound,
 ) -> Result<(Reply, List<Change>), Refusal>
-    requires store { IsStore (V.schema_of version.now) (V.rows version.now) }
-    requires space { IsSpaceOf (V.schema_of version.now).tables space.now }
-    requires rows { AreRowsOf (V.schema_of version.now).tables (changed_rows (V.schema_of version.now).tables (V.rows version.now) space.now) }
-    requires write { IsWrite (V.schema_of version.now) bound.now }
-    ensures ok { IfOk result (λ written. (creates : Seq CreateText)
-        → NetTo (db_of creates (V.schema_of version.now) (changed_rows (V.schema_of version.now).tables (V.rows version.now) space.now)) (run_bound (db_of creates (V.schema_of version.now) (changed_rows (V.schema_of version.now).tables (V.rows version.now) space.now)) bound.now) written.0 written.1) }
-    ensures err { IfErr result (λ why. why ≢ Memory → (creates : Seq CreateText)
-        → (run_bound (db_of creates (V.schema_of version.now) (changed_rows (V.schema_of version.now).tables (V.rows version.now) space.now)) bound.now).reply ≡ Refused why) }
+    requires store { IsStore (V.db version.now) }
+    requires space { IsSpaceOf (V.db version.now).schema.tables space.now }
+    requires rows { AreRowsOf (V.db version.now).schema.tables (changed_db (V.db version.now) space.now).rows }
+    requires write { IsWrite (V.db version.now).schema bound.now }
+    ensures ok { IfOk result (λ written. NetTo (changed_db (V.db version.now) space.now) (run_bound (changed_db (V.db version.now) space.now) bound.now) written.0 written.1) }
+    ensures err { IfErr result (λ why. why ≢ Memory → (run_bound (changed_db (V.db version.now) space.now) bound.now).reply ≡ Refused why) }
 {
     let over = space.over(version);
     single(alloc, &over, bound)
@@ -76,11 +72,11 @@ fn write_in<V: StoreView>(
     version: &V,
     bound: &Bound,
 ) -> Result<Reply, AllocError>
-    requires store { IsStore (V.schema_of version.now) (V.rows version.now) }
-    requires space { IsSpaceOf (V.schema_of version.now).tables space.old }
-    requires rows { AreRowsOf (V.schema_of version.now).tables (changed_rows (V.schema_of version.now).tables (V.rows version.now) space.old) }
-    requires write { IsWrite (V.schema_of version.now) bound.now }
-    ensures ran { IfOk result (λ reply. (creates : Seq CreateText) → HasRun (db_of creates (V.schema_of version.now) (V.rows version.now)) bound.now space.old reply space.new) }
+    requires store { IsStore (V.db version.now) }
+    requires space { IsSpaceOf (V.db version.now).schema.tables space.old }
+    requires rows { AreRowsOf (V.db version.now).schema.tables (changed_db (V.db version.now) space.old).rows }
+    requires write { IsWrite (V.db version.now).schema bound.now }
+    ensures ran { IfOk result (λ reply. HasRun (V.db version.now) bound.now space.old reply space.new) }
     ensures unchanged { OnErr result (space.new ≡ space.old) }
 {
     match net_over(alloc, space, version, bound) {
@@ -102,11 +98,11 @@ pub(crate) fn run_in<V: StoreView>(
     version: &V,
     bound: &Bound,
 ) -> Result<Reply, AllocError>
-    requires store { IsStore (V.schema_of version.now) (V.rows version.now) }
-    requires space { IsSpaceOf (V.schema_of version.now).tables space.old }
-    requires rows { AreRowsOf (V.schema_of version.now).tables (changed_rows (V.schema_of version.now).tables (V.rows version.now) space.old) }
-    requires bound { IsRowStatement (V.schema_of version.now) bound.now }
-    ensures ran { IfOk result (λ reply. (creates : Seq CreateText) → HasRun (db_of creates (V.schema_of version.now) (V.rows version.now)) bound.now space.old reply space.new) }
+    requires store { IsStore (V.db version.now) }
+    requires space { IsSpaceOf (V.db version.now).schema.tables space.old }
+    requires rows { AreRowsOf (V.db version.now).schema.tables (changed_db (V.db version.now) space.old).rows }
+    requires bound { IsRowStatement (V.db version.now).schema bound.now }
+    ensures ran { IfOk result (λ reply. HasRun (V.db version.now) bound.now space.old reply space.new) }
     ensures unchanged { OnErr result (space.new ≡ space.old) }
 {
     match bound {

@@ -3,7 +3,7 @@ ghost use Rattle.std.specs.List.{find};
 ghost use Rattle.own_model.specs.declared.limit.TheConstants.{SESSIONS as COUNT};
 ghost use Rattle.history_model.specs.Held.{others};
 ghost use Rattle.txn_core.specs.declared.kept.Kept.TheVariants.{Nothing, Open};
-ghost use Rattle.txn_core.specs.Kept.{doom_of, is_open, kept_by, struck, told};
+ghost use Rattle.txn_core.specs.Kept.{doom_of, is_open, kept_by, once_doomed, told};
 
 use crate::kept::Kept;
 use crate::txn::Txn;
@@ -147,9 +147,9 @@ impl Sessions {
     }
 
     /// Ends the transaction of a session by a FORGET at a place, where it is in one. Takes no memory.
-    pub(crate) fn strike(&mut self, session: SessionNo, place: Place)
+    pub(crate) fn doom_session(&mut self, session: SessionNo, place: Place)
         requires { session.0 ≤ COUNT }
-        ensures struck { kept_by self.new session.0 ≡ struck place (kept_by self.old session.0) }
+        ensures once_doomed { kept_by self.new session.0 ≡ once_doomed place (kept_by self.old session.0) }
         ensures others { (other : ℕ) → other ≢ session.0 → kept_by self.new other ≡ kept_by self.old other }
     {
         if self.is_open(session) {

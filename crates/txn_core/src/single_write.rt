@@ -1,15 +1,13 @@
-ghost use Rattle.std.specs.Prelude.{◌≡◌, ◌≢◌, List as Seq, IfErr, IfOk};
+ghost use Rattle.std.specs.Prelude.{◌≡◌, ◌≢◌, IfErr, IfOk, false};
 ghost use Rattle.std.specs.List.{AllByRecursion};
 ghost use Rattle.own_model.specs.declared.refusal.Refusal.TheVariants.{Memory};
 ghost use Rattle.own_model.specs.declared.reply.Reply.TheVariants.{Refused};
-ghost use Rattle.own_model.specs.declared.schema.CreateText.{CreateText};
+ghost use Rattle.history_model.specs.Reply.{is_refusal};
 ghost use Rattle.query_eval.specs.Tables.{AreTables};
 ghost use Rattle.run_model.specs.Run.{run_bound};
-ghost use Rattle.txn_space.specs.EntryNet.{database};
 ghost use Rattle.txn_space.specs.Put.{IsChangeOf, put_rows};
 ghost use Rattle.txn_space.specs.Sound.{IsBase};
 ghost use Rattle.write_eval.specs.Write.{IsWrite};
-ghost use Rattle.write_eval.specs.Writes.{db_of};
 ghost use Rattle.txn_core.specs.Single.{IsNetTo, NetTo};
 
 use own_base::{Change, List};
@@ -24,10 +22,10 @@ fn net_of<V: StoreView>(
     view: &V,
     changes: &[Change],
 ) -> Result<List<Change>, AllocError>
-    requires base { IsBase (V.schema_of view.now).tables (V.rows view.now) }
-    requires changes { AllByRecursion (IsChangeOf (V.schema_of view.now).tables) changes.now }
-    ensures { IfOk result (IsNetTo (database (V.schema_of view.now) (V.rows view.now))
-        (database (V.schema_of view.now) (put_rows (V.schema_of view.now).tables changes.now (V.rows view.now)))) }
+    requires base { IsBase (V.db view.now).schema.tables (V.db view.now).rows }
+    requires changes { AllByRecursion (IsChangeOf (V.db view.now).schema.tables) changes.now }
+    ensures { IfOk result (IsNetTo (V.db view.now)
+        (record (V.db view.now) { rows = put_rows (V.db view.now).schema.tables changes.now (V.db view.now).rows })) }
 {
     let mut space = Space::new(alloc);
     space.put(alloc, view, changes)?;
@@ -41,13 +39,12 @@ pub(crate) fn single<V: StoreView>(
     view: &V,
     bound: &Bound,
 ) -> Result<(Reply, List<Change>), Refusal>
-    requires write { IsWrite (V.schema_of view.now) bound.now }
-    requires tables { AreTables (V.schema_of view.now) (V.rows view.now) }
-    requires base { IsBase (V.schema_of view.now).tables (V.rows view.now) }
-    ensures ok { IfOk result (λ written. (creates : Seq CreateText)
-        → NetTo (db_of creates (V.schema_of view.now) (V.rows view.now)) (run_bound (db_of creates (V.schema_of view.now) (V.rows view.now)) bound.now) written.0 written.1) }
-    ensures err { IfErr result (λ why. why ≢ Memory → (creates : Seq CreateText)
-        → (run_bound (db_of creates (V.schema_of view.now) (V.rows view.now)) bound.now).reply ≡ Refused why) }
+    requires write { IsWrite (V.db view.now).schema bound.now }
+    requires tables { AreTables (V.db view.now).schema (V.db view.now).rows }
+    requires base { IsBase (V.db view.now).schema.tables (V.db view.now).rows }
+    ensures ok { IfOk result (λ written. NetTo (V.db view.now) (run_bound (V.db view.now) bound.now) written.0 written.1) }
+    ensures accepted { IfOk result (λ written. is_refusal written.0 ≡ false) }
+    ensures err { IfErr result (λ why. why ≢ Memory → (run_bound (V.db view.now) bound.now).reply ≡ Refused why) }
 {
     match write_changes(alloc, view, bound) {
         Ok(written) => match net_of(alloc, view, written.changes.items()) {

@@ -1,13 +1,10 @@
-ghost use Rattle.std.specs.Prelude.{◌≡◌, ◌≢◌, ◌||◌, List as Seq, [], false, true, not, IfOk, OnErr};
+ghost use Rattle.std.specs.Prelude.{◌≡◌, ◌≢◌, ◌||◌, [], false, true, not, IfOk, OnErr};
 ghost use Rattle.own_model.specs.declared.refusal.Refusal.TheVariants.{Memory};
 ghost use Rattle.own_model.specs.declared.reply.Reply.TheVariants.{Refused};
-ghost use Rattle.own_model.specs.declared.schema.CreateText.{CreateText};
 ghost use Rattle.state_model.specs.Rows.{AreRowsOf};
-ghost use Rattle.txn_space.specs.Changed.{changed_rows};
+ghost use Rattle.txn_space.specs.Changed.{changed_db};
 ghost use Rattle.txn_space.specs.Sound.{IsBase, IsSpaceOf};
 ghost use Rattle.state_model.specs.Net.{net};
-ghost use Rattle.txn_space.specs.EntryNet.{database};
-ghost use Rattle.write_eval.specs.Writes.{db_of};
 ghost use Rattle.txn_core.specs.Kept.{IsQuiet, is_select};
 ghost use Rattle.txn_core.specs.Runs.{HasRun, IsRowStatement, IsStore};
 ghost use Rattle.txn_core.specs.Single.{IsNetTo};
@@ -61,12 +58,12 @@ impl Txn {
         version: &V,
         bound: &Bound,
     ) -> Result<Reply, AllocError>
-        requires store { IsStore (V.schema_of version.now) (V.rows version.now) }
-        requires space { IsSpaceOf (V.schema_of version.now).tables self.old.space }
-        requires rows { AreRowsOf (V.schema_of version.now).tables (changed_rows (V.schema_of version.now).tables (V.rows version.now) self.old.space) }
-        requires bound { IsRowStatement (V.schema_of version.now) bound.now }
+        requires store { IsStore (V.db version.now) }
+        requires space { IsSpaceOf (V.db version.now).schema.tables self.old.space }
+        requires rows { AreRowsOf (V.db version.now).schema.tables (changed_db (V.db version.now) self.old.space).rows }
+        requires bound { IsRowStatement (V.db version.now).schema bound.now }
         requires quiet { IsQuiet self.old }
-        ensures ran { IfOk result (λ reply. (creates : Seq CreateText) → HasRun (db_of creates (V.schema_of version.now) (V.rows version.now)) bound.now self.old.space reply self.new.space) }
+        ensures ran { IfOk result (λ reply. HasRun (V.db version.now) bound.now self.old.space reply self.new.space) }
         ensures quiet { IsQuiet self.new }
         ensures wrote { self.new.wrote ≡ (self.old.wrote || not (is_select bound.now)) }
         ensures unchanged { OnErr result (self.new.space ≡ self.old.space) }
@@ -82,12 +79,12 @@ impl Txn {
         version: &V,
         bound: &Bound,
     ) -> Result<(Reply, Txn), AllocError>
-        requires store { IsStore (V.schema_of version.now) (V.rows version.now) }
-        requires space { IsSpaceOf (V.schema_of version.now).tables self.now.space }
-        requires rows { AreRowsOf (V.schema_of version.now).tables (changed_rows (V.schema_of version.now).tables (V.rows version.now) self.now.space) }
-        requires bound { IsRowStatement (V.schema_of version.now) bound.now }
+        requires store { IsStore (V.db version.now) }
+        requires space { IsSpaceOf (V.db version.now).schema.tables self.now.space }
+        requires rows { AreRowsOf (V.db version.now).schema.tables (changed_db (V.db version.now) self.now.space).rows }
+        requires bound { IsRowStatement (V.db version.now).schema bound.now }
         requires quiet { IsQuiet self.now }
-        ensures ran { IfOk result (λ after. (creates : Seq CreateText) → HasRun (db_of creates (V.schema_of version.now) (V.rows version.now)) bound.now self.now.space after.0 after.1.space) }
+        ensures ran { IfOk result (λ after. HasRun (V.db version.now) bound.now self.now.space after.0 after.1.space) }
         ensures quiet { IfOk result (λ after. IsQuiet after.1) }
         ensures wrote { IfOk result (λ after. after.1.wrote ≡ (self.now.wrote || not (is_select bound.now))) }
         ensures told { IfOk result (λ after. after.0 ≢ Refused Memory) }
@@ -103,10 +100,10 @@ impl Txn {
         alloc: Global,
         version: &V,
     ) -> Result<List<Change>, AllocError>
-        requires base { IsBase (V.schema_of version.now).tables (V.rows version.now) }
-        requires space { IsSpaceOf (V.schema_of version.now).tables self.now.space }
+        requires base { IsBase (V.db version.now).schema.tables (V.db version.now).rows }
+        requires space { IsSpaceOf (V.db version.now).schema.tables self.now.space }
         requires quiet { IsQuiet self.now }
-        ensures net { IfOk result (IsNetTo (database (V.schema_of version.now) (V.rows version.now)) (database (V.schema_of version.now) (changed_rows (V.schema_of version.now).tables (V.rows version.now) self.now.space))) }
+        ensures net { IfOk result (IsNetTo (V.db version.now) (changed_db (V.db version.now) self.now.space)) }
         ensures spared { self.now.wrote ≡ false → IfOk result (λ changes. changes ≡ []) }
         ensures given { OnErr result (self.now.wrote ≡ true) }
     {

@@ -4,25 +4,23 @@ ghost use Rattle.own_model.specs.declared.footprint.FootItem.{FootItem as Item};
 ghost use Rattle.own_model.specs.declared.limit.TheConstants.{SESSIONS as COUNT};
 ghost use Rattle.own_model.specs.declared.refusal.Refusal.TheVariants.{Memory};
 ghost use Rattle.own_model.specs.declared.reply.Reply.TheVariants.{Refused};
-ghost use Rattle.own_model.specs.declared.schema.CreateText.{CreateText};
 ghost use Rattle.query_model.specs.Footprints.{footprint_of};
 ghost use Rattle.query_eval.specs.Tables.{AreTables};
 ghost use Rattle.state_model.specs.Rows.{AreRowsOf};
 ghost use Rattle.run_model.specs.Run.{run_bound};
 ghost use Rattle.history_model.specs.Held.{others};
 ghost use Rattle.history_model.specs.History.{lie_on};
+ghost use Rattle.history_model.specs.Reply.{is_refusal};
 ghost use Rattle.row_locks.specs.Kept.{kept_by as held_by};
-ghost use Rattle.row_locks.specs.Stands.{AreHeld, StandFor, holder_among};
-ghost use Rattle.txn_space.specs.Changed.{changed_rows};
-ghost use Rattle.txn_space.specs.EntryNet.{database};
+ghost use Rattle.row_locks.specs.RepresentsItems.{AreHeld, RepresentsItems, holder_among};
+ghost use Rattle.txn_space.specs.Changed.{changed_db};
 ghost use Rattle.txn_space.specs.Sound.{IsBase, IsSpaceOf};
 ghost use Rattle.write_eval.specs.Write.{IsWrite};
-ghost use Rattle.write_eval.specs.Writes.{db_of};
 ghost use Rattle.txn_core.specs.declared.kept.Kept.TheVariants.{Nothing, Open};
 ghost use Rattle.txn_core.specs.Kept.{doom_of, is_open, kept_by, told};
 ghost use Rattle.txn_core.specs.Runs.{IsRowStatement, IsStore};
 ghost use Rattle.txn_core.specs.Single.{IsNetTo, NetTo};
-ghost use Rattle.txn_core.specs.Transactions.{AreItemsOf, AreOthersSame, AreSame, IsQuietKept, IsSameOf, IsSingleRefusal, IsStruckIf, Stated, conflict_of, space_of, wrote_of};
+ghost use Rattle.txn_core.specs.Transactions.{AreItemsOf, AreOthersSame, AreSame, IsQuietKept, IsSameOf, IsSingleRefusal, IsDoomedIf, Stated, conflict_of, space_of, wrote_of};
 
 use crate::conflict::conflict;
 use crate::kept::Kept;
@@ -118,13 +116,12 @@ impl Txns {
     ) -> Result<Reply, AllocError>
         requires session { session.0 ≤ COUNT }
         requires open { is_open (kept_by self.old.kept session.0) ≡ true }
-        requires store { IsStore (V.schema_of version.now) (V.rows version.now) }
-        requires space { IsSpaceOf (V.schema_of version.now).tables (space_of (kept_by self.old.kept session.0)) }
-        requires rows { AreRowsOf (V.schema_of version.now).tables (changed_rows (V.schema_of version.now).tables (V.rows version.now) (space_of (kept_by self.old.kept session.0))) }
+        requires store { IsStore (V.db version.now) }
+        requires space { IsSpaceOf (V.db version.now).schema.tables (space_of (kept_by self.old.kept session.0)) }
+        requires rows { AreRowsOf (V.db version.now).schema.tables (changed_db (V.db version.now) (space_of (kept_by self.old.kept session.0))).rows }
         requires quiet { IsQuietKept (kept_by self.old.kept session.0) }
-        requires bound { IsRowStatement (V.schema_of version.now) bound.now }
-        ensures stated { IfOk result (λ reply. (creates : Seq CreateText)
-            → Stated (holder_among (held_by self.old.held) session.0 (footprint_of (V.schema_of version.now) bound.now)) (db_of creates (V.schema_of version.now) (V.rows version.now)) bound.now session.0 self.old self.new reply) }
+        requires bound { IsRowStatement (V.db version.now).schema bound.now }
+        ensures stated { IfOk result (λ reply. Stated (holder_among (held_by self.old.held) session.0 (footprint_of (V.db version.now).schema bound.now)) (V.db version.now) bound.now session.0 self.old self.new reply) }
         ensures told { IfOk result (λ reply. reply ≢ Refused Memory) }
         ensures unmade { OnErr result (AreSame self.old self.new) }
     {
@@ -154,15 +151,14 @@ impl Txns {
     ) -> Result<Reply, Refusal>
         requires session { session.0 ≤ COUNT }
         requires open { is_open (kept_by self.old.kept session.0) ≡ true }
-        requires store { IsStore (V.schema_of version.now) (V.rows version.now) }
-        requires space { IsSpaceOf (V.schema_of version.now).tables (space_of (kept_by self.old.kept session.0)) }
-        requires rows { AreRowsOf (V.schema_of version.now).tables (changed_rows (V.schema_of version.now).tables (V.rows version.now) (space_of (kept_by self.old.kept session.0))) }
+        requires store { IsStore (V.db version.now) }
+        requires space { IsSpaceOf (V.db version.now).schema.tables (space_of (kept_by self.old.kept session.0)) }
+        requires rows { AreRowsOf (V.db version.now).schema.tables (changed_db (V.db version.now) (space_of (kept_by self.old.kept session.0))).rows }
         requires quiet { IsQuietKept (kept_by self.old.kept session.0) }
-        requires bound { IsRowStatement (V.schema_of version.now) bound.now }
-        ensures ok { IfOk result (λ reply. (creates : Seq CreateText)
-            → Stated (holder_among (held_by self.old.held) session.0 (footprint_of (V.schema_of version.now) bound.now)) (db_of creates (V.schema_of version.now) (V.rows version.now)) bound.now session.0 self.old self.new reply) }
-        ensures err { IfErr result (λ why. why ≢ Memory → (creates : Seq CreateText)
-            → Stated (holder_among (held_by self.old.held) session.0 (footprint_of (V.schema_of version.now) bound.now)) (db_of creates (V.schema_of version.now) (V.rows version.now)) bound.now session.0 self.old self.new (Refused why)) }
+        requires bound { IsRowStatement (V.db version.now).schema bound.now }
+        ensures ok { IfOk result (λ reply. Stated (holder_among (held_by self.old.held) session.0 (footprint_of (V.db version.now).schema bound.now)) (V.db version.now) bound.now session.0 self.old self.new reply) }
+        ensures accepted { IfOk result (λ reply. is_refusal reply ≡ false) }
+        ensures err { IfErr result (λ why. why ≢ Memory → Stated (holder_among (held_by self.old.held) session.0 (footprint_of (V.db version.now).schema bound.now)) (V.db version.now) bound.now session.0 self.old self.new (Refused why)) }
         ensures unmade { IfErr result (λ why. why ≡ Memory → AreSame self.old self.new) }
     {
         match self.run(alloc, version, session, bound) {
@@ -196,13 +192,13 @@ impl Txns {
         session: SessionNo,
         bound: &Bound,
     ) -> Result<(Reply, List<Change>), Refusal>
-        requires write { IsWrite (V.schema_of version.now) bound.now }
-        requires tables { AreTables (V.schema_of version.now) (V.rows version.now) }
-        requires base { IsBase (V.schema_of version.now).tables (V.rows version.now) }
-        ensures ok { IfOk result (λ written. (holder_among (held_by self.now.held) session.0 (footprint_of (V.schema_of version.now) bound.now) ≡ None)
-            × ((creates : Seq CreateText) → NetTo (db_of creates (V.schema_of version.now) (V.rows version.now)) (run_bound (db_of creates (V.schema_of version.now) (V.rows version.now)) bound.now) written.0 written.1)) }
-        ensures err { IfErr result (λ why. why ≢ Memory → (creates : Seq CreateText)
-            → IsSingleRefusal (holder_among (held_by self.now.held) session.0 (footprint_of (V.schema_of version.now) bound.now)) (db_of creates (V.schema_of version.now) (V.rows version.now)) bound.now why) }
+        requires write { IsWrite (V.db version.now).schema bound.now }
+        requires tables { AreTables (V.db version.now).schema (V.db version.now).rows }
+        requires base { IsBase (V.db version.now).schema.tables (V.db version.now).rows }
+        ensures ok { IfOk result (λ written. (holder_among (held_by self.now.held) session.0 (footprint_of (V.db version.now).schema bound.now) ≡ None)
+            × (NetTo (V.db version.now) (run_bound (V.db version.now) bound.now) written.0 written.1)) }
+        ensures accepted { IfOk result (λ written. is_refusal written.0 ≡ false) }
+        ensures err { IfErr result (λ why. why ≢ Memory → IsSingleRefusal (holder_among (held_by self.now.held) session.0 (footprint_of (V.db version.now).schema bound.now)) (V.db version.now) bound.now why) }
     {
         match self.conflict_with(alloc, version.schema(), session, bound) {
             Ok(None) => single(alloc, version, bound),
@@ -220,10 +216,10 @@ impl Txns {
     ) -> Result<List<Change>, AllocError>
         requires session { session.0 ≤ COUNT }
         requires open { is_open (kept_by self.now.kept session.0) ≡ true }
-        requires base { IsBase (V.schema_of version.now).tables (V.rows version.now) }
-        requires space { IsSpaceOf (V.schema_of version.now).tables (space_of (kept_by self.now.kept session.0)) }
+        requires base { IsBase (V.db version.now).schema.tables (V.db version.now).rows }
+        requires space { IsSpaceOf (V.db version.now).schema.tables (space_of (kept_by self.now.kept session.0)) }
         requires quiet { IsQuietKept (kept_by self.now.kept session.0) }
-        ensures net { IfOk result (IsNetTo (database (V.schema_of version.now) (V.rows version.now)) (database (V.schema_of version.now) (changed_rows (V.schema_of version.now).tables (V.rows version.now) (space_of (kept_by self.now.kept session.0))))) }
+        ensures net { IfOk result (IsNetTo (V.db version.now) (changed_db (V.db version.now) (space_of (kept_by self.now.kept session.0)))) }
         ensures spared { wrote_of (kept_by self.now.kept session.0) ≡ false → IfOk result (λ changes. changes ≡ []) }
         ensures given { OnErr result (wrote_of (kept_by self.now.kept session.0) ≡ true) }
     {
@@ -243,13 +239,13 @@ impl Txns {
 
     /// Ends the transaction of a session by a FORGET at a place, where one of the names lies on an item that it holds; it
     /// holds nothing then. Takes no memory.
-    fn strike(&mut self, session: SessionNo, names: &[RowName], place: Place)
+    fn doom_session(&mut self, session: SessionNo, names: &[RowName], place: Place)
         requires { session.0 ≤ COUNT }
-        ensures struck { (items : Seq Item) → StandFor (held_by self.old.held session.0) items → IsStruckIf (lie_on names.now items) place session.0 self.old self.new }
+        ensures once_doomed { (items : Seq Item) → RepresentsItems (held_by self.old.held session.0) items → IsDoomedIf (lie_on names.now items) place session.0 self.old self.new }
         ensures others { AreOthersSame session.0 self.old self.new }
     {
         if self.locks.overlaps(session, names) {
-            self.sessions.strike(session, place);
+            self.sessions.doom_session(session, place);
             self.locks.release(session);
         }
     }
@@ -257,11 +253,11 @@ impl Txns {
     /// Ends, by a FORGET at a place, the transaction of each session that holds an item on which one of the names lies; it
     /// holds nothing then. Takes no memory.
     pub fn doom(&mut self, names: &[RowName], place: Place)
-        ensures doomed { (held : ℕ → Seq Item) → AreHeld self.old.held held → (session : ℕ) → 1 ≤ session → session ≤ COUNT → IsStruckIf (lie_on names.now (held session)) place session self.old self.new }
+        ensures doomed { (held : ℕ → Seq Item) → AreHeld self.old.held held → (session : ℕ) → 1 ≤ session → session ≤ COUNT → IsDoomedIf (lie_on names.now (held session)) place session self.old self.new }
         ensures others { (session : ℕ) → (session ≡ 0) ⊎ (COUNT < session) → IsSameOf session self.old self.new }
     {
         for number in 1..SESSIONS + 1 {
-            self.strike(SessionNo(number), names, place);
+            self.doom_session(SessionNo(number), names, place);
         }
     }
 

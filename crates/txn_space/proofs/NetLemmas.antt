@@ -11,7 +11,7 @@ use Rattle.own_base.specs.declared.row_name.RowName.{RowName}
 use Rattle.own_base.specs.declared.value.Key.{Key}
 use Rattle.own_model.specs.declared.schema.Schema.{Schema}
 use Rattle.own_model.specs.declared.schema.TableDef.{TableDef}
-use Rattle.own_model.specs.Db.{AreRising, Row, key_of}
+use Rattle.own_model.specs.Db.{Db, AreRising, Row, key_of}
 use Rattle.own_model.specs.Stored.{has_key, rows_at}
 use Rattle.own_model.proofs.KeyOrder.{key_order}
 use Rattle.page_model.specs.Changed.{AreKeyed}
@@ -26,9 +26,9 @@ use Rattle.table_part.proofs.InOrder.{few_rise}
 use Rattle.table_part.proofs.KeyLemmas.{found-has_key}
 use Rattle.table_part.proofs.SameFound.{same_found}
 use Rattle.txn_space.specs.declared.entry.Entry.{Entry}
-use Rattle.txn_space.specs.Changed.{changed_from, rows_with}
+use Rattle.txn_space.specs.Changed.{changed_db, changed_from, rows_with}
 use Rattle.txn_space.specs.Entries.{entries_at, entry_key, entry_row}
-use Rattle.txn_space.specs.EntryNet.{database, entry_change, entry_changes}
+use Rattle.txn_space.specs.EntryNet.{entry_change, entry_changes}
 use Rattle.txn_space.specs.Sound.{IsBase, IsSpaceOf}
 use Rattle.txn_space.proofs.KeysLemmas.{itself, keys_missing, keys_rise}
 use Rattle.txn_space.proofs.MadeLemmas.{found_has, found_made, rising_made}
@@ -158,11 +158,12 @@ module _ (schema : Schema) (rows : List (List Row)) (space : List (List Entry)) 
       ap (λ changes. changes ++ net_from (number + 1) tables befores (changed_from (number + 1) tables befores space)) first
       ∙ ap (λ changes. filter_map (entry_change schema rows (record { 0 = number })) entries ++ changes) others
 
-  -- the net between a base and its rows as changed
-  pub net_is : IsBase schema.tables rows → net (database schema rows) (database schema (changed_from 0 schema.tables rows space)) ≡ entry_changes schema rows 0 space
-  unfolding net
-  net_is base =
-      net_of 0 schema.tables rows space base.rising sound.within (λ n. ap (entries_at space) (from_none n)) (λ n table found. ap (slice_get schema.tables) (from_none n) ∙ found) (λ n. ap (rows_at rows) (sym (from_none n)))
+-- the net between a base and its rows as changed
+pub net_is : (db : Db) (space : List (List Entry)) → IsSpaceOf db.schema.tables space → IsBase db.schema.tables db.rows → net db (changed_db db space) ≡ entry_changes db.schema db.rows 0 space
+unfolding net
+net_is db space sound base =
+    net_of db.schema db.rows space sound 0 db.schema.tables db.rows space base.rising sound.within (λ n. ap (entries_at space) (from_none n)) (λ n table found. ap (slice_get db.schema.tables) (from_none n) ∙ found)
+    (λ n. ap (rows_at db.rows) (sym (from_none n)))
 
 -- the changes of a table more
 pub table_more : (schema : Schema) (rows : List (List Row)) (number : ℕ) (space : List (List Entry)) (entries : List Entry) (before all : List Change) → number < length space → entries ≡ entries_at space number

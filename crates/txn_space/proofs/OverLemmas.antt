@@ -13,7 +13,6 @@ use Rattle.own_model.proofs.KeyOrder.{key_order}
 use Rattle.page_model.specs.Changed.{AreKeyed, with_changes}
 use Rattle.page_model.specs.Found.{found}
 use Rattle.page_model.specs.Rising.{IsRising}
-use Rattle.page_model.proofs.ChangedLemmas.{rising_with_changes}
 use Rattle.table_part.specs.Changes.{changed_key, row_after}
 use Rattle.table_part.specs.KeyIn.{key_in}
 use Rattle.table_part.proofs.KeyLemmas.{found-has_key}
@@ -23,13 +22,8 @@ use Rattle.txn_space.specs.Entries.{entries_at, entry_key, entry_row}
 use Rattle.txn_space.specs.HasPut.{entries_put}
 use Rattle.txn_space.specs.Put.{is_of_table, put_from, rows_put}
 use Rattle.txn_space.specs.Sound.{IsBase, IsSpaceOf}
+pub use Rattle.txn_space.specs.ChangedRise.{changed_rise, from_none, next, same}
 use Rattle.txn_space.proofs.PutLemmas.{entries_more, row_of}
-
-pub next : (number place : ℕ) → number + 1 + place ≡ number + suc place
-next number place = omega arith
-
-pub same : (number : ℕ) → number + 0 ≡ number
-same number = omega arith
 
 -- a table of a number that is there
 pub table_there : (tables : List TableDef) (place : ℕ) → place < length tables → (table : TableDef) × (slice_get tables place ≡ Some table)
@@ -56,9 +50,6 @@ rows_from number (first ∷ tables) (one ∷ rows) space zero table rising is =
 rows_from number (first ∷ tables) (one ∷ rows) space (suc place) table rising is =
     rows_from (number + 1) tables rows space place table rising.1 is ∙ ap (λ n. rows_with table (entries_at space n) (rows_at rows place)) (next number place)
 
-pub from_none : (place : ℕ) → 0 + place ≡ place
-from_none place = omega arith
-
 pub rows_of_table : (tables : List TableDef) (rows : List (List Row)) (space : List (List Entry)) (place : ℕ) (table : TableDef) → AreRising tables rows → slice_get tables place ≡ Some table
     → rows_at (changed_rows tables rows space) place ≡ rows_with table (entries_at space place) (rows_at rows place)
 rows_of_table tables rows space place table rising is =
@@ -71,23 +62,6 @@ unfolding with_changes
 rows_of_other tables rows space place rising within none =
     let found = table_there tables place within in
     rows_of_table tables rows space place found.0 rising found.1 ∙ ap (λ es. rows_with found.0 es (rows_at rows place)) none
-
--- the rows of each table rise
-rising_from : (number : ℕ) (tables : List TableDef) (rows : List (List Row)) (space : List (List Entry)) → AreRising tables rows
-    → ((place : ℕ) (table : TableDef) → slice_get tables place ≡ Some table → AreKeyed (key_of table) entry_key entry_row (entries_at space (number + place)))
-    → AreRising tables (changed_from number tables rows space)
-unfolding changed_from
-rising_from number [] [] space rising keyed = tt
-rising_from number [] (one ∷ rows) space rising keyed = absurd rising
-rising_from number (table ∷ tables) [] space rising keyed = absurd rising
-rising_from number (table ∷ tables) (one ∷ rows) space rising keyed = (
-  rising_with_changes (key_of table) key_order entry_key entry_row (entries_at space number) one (subst (λ n. AreKeyed (key_of table) entry_key entry_row (entries_at space n)) (same number) (keyed 0 table refl)) rising.0,
-  rising_from (number + 1) tables rows space rising.1 (λ place other is. subst (λ n. AreKeyed (key_of other) entry_key entry_row (entries_at space n)) (sym (next number place)) (keyed (suc place) other is)),
-)
-
-pub changed_rise : (tables : List TableDef) (rows : List (List Row)) (space : List (List Entry)) → IsBase tables rows → IsSpaceOf tables space → AreRising tables (changed_rows tables rows space)
-changed_rise tables rows space base sound =
-    rising_from 0 tables rows space base.rising (λ place table is. subst (λ n. AreKeyed (key_of table) entry_key entry_row (entries_at space n)) (sym (from_none place)) (sound.keyed place table is))
 
 -- after changes of the entries the rows are those before, with the changes
 put_rows_from : (number : ℕ) (tables : List TableDef) (rows : List (List Row)) (changes : List Change) (before after : List (List Entry)) → AreRising tables rows

@@ -2,7 +2,7 @@
 use Rattle.std.specs.Prelude.{ℕ, ◌+◌, List, [], ◌∷◌}
 use Rattle.own_base.specs.Key.{key_cmp}
 use Rattle.own_model.specs.declared.schema.TableDef.{TableDef}
-use Rattle.own_model.specs.Db.{Row, key_of}
+use Rattle.own_model.specs.Db.{Db, Row, key_of}
 use Rattle.page_model.specs.Changed.{with_changes}
 use Rattle.txn_space.specs.declared.entry.Entry.{Entry}
 use Rattle.txn_space.specs.Entries.{entries_at, entry_key, entry_row}
@@ -19,3 +19,7 @@ changed_from number _ _ space = []
 -- and of all tables
 abbrev pub changed_rows : List TableDef → List (List Row) → List (List Entry) → List (List Row)
 changed_rows tables rows space = changed_from 0 tables rows space
+
+-- a database with these rows
+abbrev pub changed_db : Db → List (List Entry) → Db
+changed_db db space = record db { rows = changed_rows db.schema.tables db.rows space }

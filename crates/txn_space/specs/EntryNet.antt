@@ -4,7 +4,7 @@ use Rattle.own_base.specs.declared.change.Change.{Change}
 use Rattle.own_base.specs.declared.number.TableNo.{TableNo}
 use Rattle.own_base.specs.declared.row_name.RowName.{RowName}
 use Rattle.own_model.specs.declared.schema.Schema.{Schema}
-use Rattle.own_model.specs.Db.{Db, Row}
+use Rattle.own_model.specs.Db.{Row}
 use Rattle.own_model.specs.Stored.{row_named}
 use Rattle.state_model.specs.Net.{change_unless_same}
 use Rattle.txn_space.specs.declared.entry.Entry.{Entry}
@@ -23,7 +23,3 @@ unfoldable pub entry_changes : Schema → List (List Row) → ℕ → List (List
 entry_changes schema rows number [] = []
 entry_changes schema rows number (entries ∷ space) =
     filter_map (entry_change schema rows (record { 0 = number })) entries ++ entry_changes schema rows (number + 1) space
-
--- a database of such tables and rows, whatever its texts
-abbrev pub database : Schema → List (List Row) → Db
-database schema rows = record { creates = []; schema = schema; rows = rows }

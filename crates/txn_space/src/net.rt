@@ -67,8 +67,8 @@ fn change_of<V: StoreView>(
     table: TableNo,
     entry: &Entry,
 ) -> Result<Option<Change>, AllocError>
-    requires { table.0 < length (V.schema_of base.now).tables }
-    ensures { IfOk result (λ change. change ≡ entry_change (V.schema_of base.now) (V.rows base.now) table entry.now) }
+    requires { table.0 < length (V.db base.now).schema.tables }
+    ensures { IfOk result (λ change. change ≡ entry_change (V.db base.now).schema (V.db base.now).rows table entry.now) }
 {
     let key = entry.key.copy(alloc)?;
     let name = RowName { table, key };
@@ -103,8 +103,8 @@ pub(crate) fn add_changes<V: StoreView>(
     entries: &Entries,
     changes: &mut List<Change>,
 ) -> Result<(), AllocError>
-    requires { table.0 < length (V.schema_of base.now).tables }
-    ensures { OnOk result (changes.new ≡ changes.old ++ filter_map (entry_change (V.schema_of base.now) (V.rows base.now) table) (items entries.now)) }
+    requires { table.0 < length (V.db base.now).schema.tables }
+    ensures { OnOk result (changes.new ≡ changes.old ++ filter_map (entry_change (V.db base.now).schema (V.db base.now).rows table) (items entries.now)) }
 {
     for number in 0..entries.len() {
         let change = change_of(alloc, base, table, entry_at(entries, number))?;

@@ -22,8 +22,8 @@ pub(crate) fn compare(table: &TableDef, row: &Row, key: &Key) -> Ordering
 
 /// The table of a number. Takes no memory.
 pub(crate) fn definition_of<V: StoreView>(base: &V, table: TableNo) -> &TableDef
-    requires { table.0 < length (V.schema_of base.now).tables }
-    ensures { slice_get (V.schema_of base.now).tables table.0 ≡ Some result.now }
+    requires { table.0 < length (V.db base.now).schema.tables }
+    ensures { slice_get (V.db base.now).schema.tables table.0 ≡ Some result.now }
 {
     &base.schema().tables.items()[table.0 as usize]
 }

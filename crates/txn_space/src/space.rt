@@ -1,14 +1,13 @@
 ghost use Rattle.std.specs.Prelude.{ℕ, List, filter, ◌≡◌, ◌<◌, [], IfOk, MatchOption, OnErr, OnOk, length, slice_get};
 ghost use Rattle.std.specs.List.{AllByRecursion};
 ghost use Rattle.std.specs.Option.{option_copied};
-ghost use Rattle.own_model.specs.Db.{AreRising, Row as Values};
+ghost use Rattle.own_model.specs.Db.{Row as Values};
 ghost use Rattle.own_model.specs.Stored.{IsRunFrom, row_named, rows_at};
 ghost use Rattle.page_model.specs.Paged.{items};
 ghost use Rattle.state_model.specs.Net.{net};
 ghost use Rattle.table_part.specs.Changes.{KeysDiffer};
-ghost use Rattle.txn_space.specs.Changed.{changed_rows};
+ghost use Rattle.txn_space.specs.Changed.{changed_db, changed_rows};
 ghost use Rattle.txn_space.specs.Entries.{entries_at};
-ghost use Rattle.txn_space.specs.EntryNet.{database};
 ghost use Rattle.txn_space.specs.HasPut.{entries_put};
 ghost use Rattle.txn_space.specs.Put.{IsChangeOf, is_of_table, put_rows};
 ghost use Rattle.txn_space.specs.Sound.{IsBase, IsSpaceOf};
@@ -63,11 +62,9 @@ impl Space {
 
     /// The base's rows, as changed. Takes no memory.
     pub fn over<'a, V: StoreView>(&'a self, base: &'a V) -> Over<'a, V>
-        requires base { IsBase (V.schema_of base.now).tables (V.rows base.now) }
-        requires space { IsSpaceOf (V.schema_of base.now).tables self.now }
-        ensures schema { result.schema ≡ V.schema_of base.now }
-        ensures rows { result.rows ≡ changed_rows (V.schema_of base.now).tables (V.rows base.now) self.now }
-        ensures rising { AreRising (V.schema_of base.now).tables result.rows }
+        requires base { IsBase (V.db base.now).schema.tables (V.db base.now).rows }
+        requires space { IsSpaceOf (V.db base.now).schema.tables self.now }
+        ensures { ⟦<Over<'a, V> as StoreView>⟧.db result ≡ changed_db (V.db base.now) self.now }
     {
         Over::new(self, base)
     }
@@ -80,11 +77,11 @@ impl Space {
         base: &V,
         changes: &[Change],
     ) -> Result<(), AllocError>
-        requires space { IsSpaceOf (V.schema_of base.now).tables self.old }
-        requires changes { AllByRecursion (IsChangeOf (V.schema_of base.now).tables) changes.now }
-        ensures sound { IsSpaceOf (V.schema_of base.now).tables self.new }
-        ensures put { OnOk result ((rows : List (List Values)) → IsBase (V.schema_of base.now).tables rows
-            → changed_rows (V.schema_of base.now).tables rows self.new ≡ put_rows (V.schema_of base.now).tables changes.now (changed_rows (V.schema_of base.now).tables rows self.old)) }
+        requires space { IsSpaceOf (V.db base.now).schema.tables self.old }
+        requires changes { AllByRecursion (IsChangeOf (V.db base.now).schema.tables) changes.now }
+        ensures sound { IsSpaceOf (V.db base.now).schema.tables self.new }
+        ensures put { OnOk result ((rows : List (List Values)) → IsBase (V.db base.now).schema.tables rows
+            → changed_rows (V.db base.now).schema.tables rows self.new ≡ put_rows (V.db base.now).schema.tables changes.now (changed_rows (V.db base.now).schema.tables rows self.old)) }
         ensures entries { OnOk result ((number : ℕ) → entries_at self.new number ≡ entries_put number changes.now (entries_at self.old number)) }
         ensures unchanged { OnErr result (self.new ≡ self.old) }
     {
@@ -98,11 +95,11 @@ impl Space {
     /// The rows that differ between the base and its rows as changed: by table, then key, each with what it was and what
     /// it is. Made in the base, they give its rows as changed.
     pub fn changes<V: StoreView>(&self, alloc: Global, base: &V) -> Result<List<Change>, AllocError>
-        requires base { IsBase (V.schema_of base.now).tables (V.rows base.now) }
-        requires space { IsSpaceOf (V.schema_of base.now).tables self.now }
-        ensures net { IfOk result (λ changes. changes ≡ net (database (V.schema_of base.now) (V.rows base.now)) (database (V.schema_of base.now) (changed_rows (V.schema_of base.now).tables (V.rows base.now) self.now))) }
-        ensures applied { IfOk result (λ changes. put_rows (V.schema_of base.now).tables changes (V.rows base.now) ≡ changed_rows (V.schema_of base.now).tables (V.rows base.now) self.now) }
-        ensures theirs { IfOk result (λ changes. AllByRecursion (IsChangeOf (V.schema_of base.now).tables) changes) }
+        requires base { IsBase (V.db base.now).schema.tables (V.db base.now).rows }
+        requires space { IsSpaceOf (V.db base.now).schema.tables self.now }
+        ensures net { IfOk result (λ changes. changes ≡ net (V.db base.now) (changed_db (V.db base.now) self.now)) }
+        ensures applied { IfOk result (λ changes. put_rows (V.db base.now).schema.tables changes (V.db base.now).rows ≡ changed_rows (V.db base.now).schema.tables (V.db base.now).rows self.now) }
+        ensures theirs { IfOk result (λ changes. AllByRecursion (IsChangeOf (V.db base.now).schema.tables) changes) }
         ensures once { IfOk result (λ changes. (number : ℕ) → KeysDiffer (filter (is_of_table number) changes)) }
     {
         let mut changes = List::new(alloc);
@@ -128,10 +125,10 @@ impl Space {
 
     /// How many rows a table has. Takes no memory.
     pub(crate) fn count<V: StoreView>(&self, base: &V, table: TableNo) -> u64
-        requires base { IsBase (V.schema_of base.now).tables (V.rows base.now) }
-        requires space { IsSpaceOf (V.schema_of base.now).tables self.now }
-        requires there { table.0 < length (V.schema_of base.now).tables }
-        ensures { result ≡ length (rows_at (changed_rows (V.schema_of base.now).tables (V.rows base.now) self.now) table.0) }
+        requires base { IsBase (V.db base.now).schema.tables (V.db base.now).rows }
+        requires space { IsSpaceOf (V.db base.now).schema.tables self.now }
+        requires there { table.0 < length (V.db base.now).schema.tables }
+        ensures { result ≡ length (rows_at (changed_db (V.db base.now) self.now).rows table.0) }
     {
         match self.entries(table) {
             None => base.count(table),
@@ -146,10 +143,10 @@ impl Space {
         table: TableNo,
         at: u64,
     ) -> &'a [Row]
-        requires base { IsBase (V.schema_of base.now).tables (V.rows base.now) }
-        requires space { IsSpaceOf (V.schema_of base.now).tables self.now }
-        requires there { table.0 < length (V.schema_of base.now).tables }
-        ensures { IsRunFrom (rows_at (changed_rows (V.schema_of base.now).tables (V.rows base.now) self.now) table.0) at result.now }
+        requires base { IsBase (V.db base.now).schema.tables (V.db base.now).rows }
+        requires space { IsSpaceOf (V.db base.now).schema.tables self.now }
+        requires there { table.0 < length (V.db base.now).schema.tables }
+        ensures { IsRunFrom (rows_at (changed_db (V.db base.now) self.now).rows table.0) at result.now }
     {
         match self.entries(table) {
             None => base.rows_from(table, at),
@@ -164,20 +161,20 @@ impl Space {
         table: TableNo,
         at: u64,
     ) -> Option<&'a Row>
-        requires base { IsBase (V.schema_of base.now).tables (V.rows base.now) }
-        requires space { IsSpaceOf (V.schema_of base.now).tables self.now }
-        requires there { table.0 < length (V.schema_of base.now).tables }
-        ensures { option_copied result ≡ slice_get (rows_at (changed_rows (V.schema_of base.now).tables (V.rows base.now) self.now) table.0) at }
+        requires base { IsBase (V.db base.now).schema.tables (V.db base.now).rows }
+        requires space { IsSpaceOf (V.db base.now).schema.tables self.now }
+        requires there { table.0 < length (V.db base.now).schema.tables }
+        ensures { option_copied result ≡ slice_get (rows_at (changed_db (V.db base.now) self.now).rows table.0) at }
     {
         self.rows_from(base, table, at).first()
     }
 
     /// The row of a name. Takes no memory.
     pub(crate) fn row<'a, V: StoreView>(&'a self, base: &'a V, name: &RowName) -> Option<&'a Row>
-        requires base { IsBase (V.schema_of base.now).tables (V.rows base.now) }
-        requires space { IsSpaceOf (V.schema_of base.now).tables self.now }
-        requires there { name.now.table.0 < length (V.schema_of base.now).tables }
-        ensures { option_copied result ≡ row_named (V.schema_of base.now) (changed_rows (V.schema_of base.now).tables (V.rows base.now) self.now) name.now }
+        requires base { IsBase (V.db base.now).schema.tables (V.db base.now).rows }
+        requires space { IsSpaceOf (V.db base.now).schema.tables self.now }
+        requires there { name.now.table.0 < length (V.db base.now).schema.tables }
+        ensures { option_copied result ≡ row_named (V.db base.now).schema (changed_db (V.db base.now) self.now).rows name.now }
     {
         match self.entries(name.table) {
             None => base.row(name),

@@ -19,8 +19,8 @@ fn is_below<V: StoreView>(
     key: &Key,
     place: u64,
 ) -> bool
-    requires { table.0 < length (V.schema_of base.now).tables }
-    ensures { (row : Values) → slice_get (rows_at (V.rows base.now) table.0) place ≡ Some row → result ≡ is_lt (key_cmp (key_of definition.now row) key.now) }
+    requires { table.0 < length (V.db base.now).schema.tables }
+    ensures { (row : Values) → slice_get (rows_at (V.db base.now).rows table.0) place ≡ Some row → result ≡ is_lt (key_cmp (key_of definition.now row) key.now) }
 {
     match base.row_at(table, place) {
         None => false,
@@ -36,12 +36,12 @@ fn place_from<V: StoreView>(
     key: &Key,
     from: u64,
 ) -> u64
-    requires there { table.0 < length (V.schema_of base.now).tables }
-    requires rising { IsRising (key_of definition.now) key_cmp (rows_at (V.rows base.now) table.0) }
-    requires within { from ≤ length (rows_at (V.rows base.now) table.0) }
+    requires there { table.0 < length (V.db base.now).schema.tables }
+    requires rising { IsRising (key_of definition.now) key_cmp (rows_at (V.db base.now).rows table.0) }
+    requires within { from ≤ length (rows_at (V.db base.now).rows table.0) }
     ensures behind { from ≤ result }
-    ensures counted { length (rows_at (V.rows base.now) table.0) < 2 ^ 64 }
-    ensures place { IsPlaceOf (key_of definition.now) key_cmp key.now (drop from (rows_at (V.rows base.now) table.0)) (result - from) }
+    ensures counted { length (rows_at (V.db base.now).rows table.0) < 2 ^ 64 }
+    ensures place { IsPlaceOf (key_of definition.now) key_cmp key.now (drop from (rows_at (V.db base.now).rows table.0)) (result - from) }
 {
     let mut low = from;
     let mut high = base.count(table);
@@ -64,14 +64,14 @@ pub(crate) fn spot_from<V: StoreView>(
     key: &Key,
     from: u64,
 ) -> (u64, u64)
-    requires there { table.0 < length (V.schema_of base.now).tables }
-    requires rising { IsRising (key_of definition.now) key_cmp (rows_at (V.rows base.now) table.0) }
-    requires within { from ≤ length (rows_at (V.rows base.now) table.0) }
+    requires there { table.0 < length (V.db base.now).schema.tables }
+    requires rising { IsRising (key_of definition.now) key_cmp (rows_at (V.db base.now).rows table.0) }
+    requires within { from ≤ length (rows_at (V.db base.now).rows table.0) }
     ensures behind { from ≤ result.0 }
     ensures order { result.0 ≤ result.1 }
-    ensures within { result.1 ≤ length (rows_at (V.rows base.now) table.0) }
-    ensures below { below_key (key_of definition.now) key_cmp key.now (drop from (rows_at (V.rows base.now) table.0)) ≡ take (result.0 - from) (drop from (rows_at (V.rows base.now) table.0)) }
-    ensures above { above_key (key_of definition.now) key_cmp key.now (drop from (rows_at (V.rows base.now) table.0)) ≡ drop result.1 (rows_at (V.rows base.now) table.0) }
+    ensures within { result.1 ≤ length (rows_at (V.db base.now).rows table.0) }
+    ensures below { below_key (key_of definition.now) key_cmp key.now (drop from (rows_at (V.db base.now).rows table.0)) ≡ take (result.0 - from) (drop from (rows_at (V.db base.now).rows table.0)) }
+    ensures above { above_key (key_of definition.now) key_cmp key.now (drop from (rows_at (V.db base.now).rows table.0)) ≡ drop result.1 (rows_at (V.db base.now).rows table.0) }
 {
     let place = place_from(base, table, definition, key, from);
     match base.row_at(table, place) {

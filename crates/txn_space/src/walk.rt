@@ -54,10 +54,10 @@ fn pass<'a, V: StoreView>(
     from: u64,
     place: u64,
 ) -> Passed<'a>
-    requires there { table.0 < length (V.schema_of base.now).tables }
-    requires rising { IsRising (key_of definition.now) key_cmp (rows_at (V.rows base.now) table.0) }
-    requires within { from ≤ length (rows_at (V.rows base.now) table.0) }
-    ensures { IsPassed definition.now entry.now (rows_at (V.rows base.now) table.0) from place result }
+    requires there { table.0 < length (V.db base.now).schema.tables }
+    requires rising { IsRising (key_of definition.now) key_cmp (rows_at (V.db base.now).rows table.0) }
+    requires within { from ≤ length (rows_at (V.db base.now).rows table.0) }
+    ensures { IsPassed definition.now entry.now (rows_at (V.db base.now).rows table.0) from place result }
 {
     let (below, behind) = spot_from(base, table, definition, &entry.key, from);
     let count = below - from;
@@ -84,10 +84,10 @@ pub(crate) fn run_from<'a, V: StoreView>(
     entries: &'a Entries,
     at: u64,
 ) -> &'a [Row]
-    requires there { table.0 < length (V.schema_of base.now).tables }
-    requires rising { IsRising (key_of definition.now) key_cmp (rows_at (V.rows base.now) table.0) }
+    requires there { table.0 < length (V.db base.now).schema.tables }
+    requires rising { IsRising (key_of definition.now) key_cmp (rows_at (V.db base.now).rows table.0) }
     requires keyed { AreKeyed (key_of definition.now) entry_key entry_row (items entries.now) }
-    ensures { IsRunFrom (rows_with definition.now (items entries.now) (rows_at (V.rows base.now) table.0)) at result.now }
+    ensures { IsRunFrom (rows_with definition.now (items entries.now) (rows_at (V.db base.now).rows table.0)) at result.now }
 {
     let mut from = 0;
     let mut left = at;
@@ -115,12 +115,12 @@ pub(crate) fn count_with<V: StoreView>(
     definition: &TableDef,
     entries: &Entries,
 ) -> u64
-    requires there { table.0 < length (V.schema_of base.now).tables }
-    requires rising { IsRising (key_of definition.now) key_cmp (rows_at (V.rows base.now) table.0) }
+    requires there { table.0 < length (V.db base.now).schema.tables }
+    requires rising { IsRising (key_of definition.now) key_cmp (rows_at (V.db base.now).rows table.0) }
     requires keyed { AreKeyed (key_of definition.now) entry_key entry_row (items entries.now) }
-    requires few { length (rows_at (V.rows base.now) table.0) < 2 ^ 63 }
+    requires few { length (rows_at (V.db base.now).rows table.0) < 2 ^ 63 }
     requires entries { length (items entries.now) ≤ 2 ^ 62 }
-    ensures { result ≡ length (rows_with definition.now (items entries.now) (rows_at (V.rows base.now) table.0)) }
+    ensures { result ≡ length (rows_with definition.now (items entries.now) (rows_at (V.db base.now).rows table.0)) }
 {
     let mut count = 0;
     let mut from = 0;

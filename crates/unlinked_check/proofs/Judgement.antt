@@ -8,8 +8,7 @@ use Rattle.own_model.specs.declared.limit.TheConstants.{STORE_ROWS, STORE_WEIGHT
 use Rattle.own_model.specs.declared.refusal.Refusal.{Refusal}
 use Rattle.own_model.specs.declared.refusal.Refusal.TheVariants.{Limit}
 use Rattle.own_model.specs.declared.schema.Schema.{Schema}
-use Rattle.own_model.specs.Db.{IsOrdered, Row}
-use Rattle.owner_sets.specs.Sets.{db_of}
+use Rattle.own_model.specs.Db.{Db, IsOrdered, Row}
 use Rattle.schema_model.specs.OwnerSchema.{IsOwnerSchema}
 use Rattle.schema_model.proofs.Places.{append-none}
 use Rattle.subject_model.proofs.Members.{all_passes}
@@ -27,7 +26,7 @@ use Rattle.commit_check.proofs.WholeLemmas.{by_judged, by_rows, past}
 use Rattle.unlinked_check.specs.NetWeight.{weight_come, weight_gone}
 use Rattle.unlinked_check.specs.Unlinked.{are_unlinked, is_unlinked}
 use Rattle.unlinked_check.proofs.FaultsLeft.{owner-left, reference-left, unique-left}
-use Rattle.unlinked_check.proofs.LinkedRows.{AreSameElsewhere}
+use Rattle.unlinked_check.proofs.LinkedRows.{AreSameElsewhere, under}
 use Rattle.unlinked_check.proofs.RowSums.{Exchanged, exchanged_as}
 use Rattle.unlinked_check.proofs.TableLeads.{LeadsFrom, leads-all}
 use Rattle.unlinked_check.proofs.WeightLemmas.{AreLone, same-elsewhere, weight-sum}
@@ -36,55 +35,55 @@ none_if : {X : Type 0} (test : Bool) (x : X) → (if test then x ∷ [] else [])
 none_if true x none = let never : ⊥ = cc in absurd never
 none_if false x none = refl
 
-module _ (schema : Schema) (rows news : List (List Row)) (changes : List Change) (owner : IsOwnerSchema schema) (before : IsOrdered (db_of schema rows)) (after : IsOrdered (db_of schema news))
-    (is : changes ≡ net (db_of schema rows) (db_of schema news)) (put : put_rows schema.tables changes rows ≡ news) (once : (number : ℕ) → KeysDiffer (filter (is_of_table number) changes))
-    (unlinked : IsTrue (are_unlinked schema changes)) (none : fault (db_of schema rows) ≡ None) where
-  lone : AreLone schema changes
-  lone = all_passes (λ change. is_unlinked schema change.name.table.0) changes unlinked
+module _ (db next : Db) (changes : List Change) (owner : IsOwnerSchema db.schema) (before : IsOrdered db) (after : IsOrdered (under db next))
+    (is : changes ≡ net db (under db next)) (put : put_rows db.schema.tables changes db.rows ≡ next.rows) (once : (number : ℕ) → KeysDiffer (filter (is_of_table number) changes))
+    (unlinked : IsTrue (are_unlinked db.schema changes)) (none : fault db ≡ None) where
+  lone : AreLone db.schema changes
+  lone = all_passes (λ change. is_unlinked db.schema change.name.table.0) changes unlinked
 
-  leads : LeadsFrom 0 schema.tables rows news
+  leads : LeadsFrom 0 db.schema.tables db.rows next.rows
   unfolding net
-  leads = leads-all changes once schema.tables rows news before.rising after.rising is put
+  leads = leads-all changes once db.schema.tables db.rows next.rows before.rising after.rising is put
 
   -- what went is taken off the weight before, and what came is added
-  weight_now : Exchanged (weight (db_of schema rows)) (weight (db_of schema news)) (weight_gone schema changes) (weight_come schema changes)
+  weight_now : Exchanged (weight db) (weight (under db next)) (weight_gone db.schema changes) (weight_come db.schema changes)
   unfolding net
   weight_now =
-      exchanged_as _ _ _ _ _ _ _ _ (weight-sum schema rows news leads owner before after (subst (AreLone schema) is lone)) refl refl (ap (weight_gone schema) is) (ap (weight_come schema) is)
+      exchanged_as _ _ _ _ _ _ _ _ (weight-sum db next leads owner before after (subst (AreLone db.schema) is lone)) refl refl (ap (weight_gone db.schema) is) (ap (weight_come db.schema) is)
 
-  same : AreSameElsewhere schema rows news
+  same : AreSameElsewhere db.schema db.rows next.rows
   unfolding net
-  same = same-elsewhere schema rows news leads (subst (AreLone schema) is lone)
+  same = same-elsewhere db.schema db.rows next.rows leads (subst (AreLone db.schema) is lone)
 
   -- and there is no fault but of the limits
-  no_unique : first_of (unique_faults (db_of schema news)) ≡ None
-  no_unique = ap first_of (unique-left schema rows news before after same (faultless-from (db_of schema rows) none).unique)
+  no_unique : first_of (unique_faults (under db next)) ≡ None
+  no_unique = ap first_of (unique-left db next before after same (faultless-from db none).unique)
 
-  no_reference : first_of (reference_faults (db_of schema news)) ≡ None
-  no_reference = ap first_of (reference-left schema rows news before after same (faultless-from (db_of schema rows) none).reference)
+  no_reference : first_of (reference_faults (under db next)) ≡ None
+  no_reference = ap first_of (reference-left db next before after same (faultless-from db none).reference)
 
-  no_owner : first_of (owner_faults (db_of schema news)) ≡ None
-  no_owner = ap first_of (owner-left schema rows news before after same owner (faultless-from (db_of schema rows) none).owner)
+  no_owner : first_of (owner_faults (under db next)) ≡ None
+  no_owner = ap first_of (owner-left db next before after same owner (faultless-from db none).owner)
 
   -- the weight before is no greater than a store may have
-  weight_most : weight (db_of schema rows) ≤ STORE_WEIGHT
+  weight_most : weight db ≤ STORE_WEIGHT
   weight_most =
-      let both = append-none _ _ (faultless-from (db_of schema rows) none).limit in
-      ltb-false STORE_WEIGHT (weight (db_of schema rows)) (none_if _ _ both.1)
+      let both = append-none _ _ (faultless-from db none).limit in
+      ltb-false STORE_WEIGHT (weight db) (none_if _ _ both.1)
 
   -- so the first fault is that there are too many rows, or what is judged of the weight
-  pub judged_rows : (first : Refusal) → past (nat_lt STORE_ROWS (row_count (db_of schema news))) (Limit limit.Rows) ≡ Some first → IsJudged (db_of schema news) (Fault first)
-  judged_rows first over = by_rows (db_of schema news) no_unique no_reference no_owner first over
+  pub judged_rows : (first : Refusal) → past (nat_lt STORE_ROWS (row_count (under db next))) (Limit limit.Rows) ≡ Some first → IsJudged (under db next) (Fault first)
+  judged_rows first over = by_rows (under db next) no_unique no_reference no_owner first over
 
-  pub judged_weight : (judged : Judged) → past (nat_lt STORE_ROWS (row_count (db_of schema news))) (Limit limit.Rows) ≡ None → IsWeighed (weight (db_of schema news)) judged → IsJudged (db_of schema news) judged
-  judged_weight judged few weighed = by_judged (db_of schema news) no_unique no_reference no_owner few judged weighed
+  pub judged_weight : (judged : Judged) → past (nat_lt STORE_ROWS (row_count (under db next))) (Limit limit.Rows) ≡ None → IsWeighed (weight (under db next)) judged → IsJudged (under db next) judged
+  judged_weight judged few weighed = by_judged (under db next) no_unique no_reference no_owner few judged weighed
 
   -- what went was there
-  pub gone_within : (gone weighs : ℕ) → gone ≡ saturated (weight_gone schema changes) → weight (db_of schema rows) ≡ weighs → gone ≤ weighs
+  pub gone_within : (gone weighs : ℕ) → gone ≡ saturated (weight_gone db.schema changes) → weight db ≡ weighs → gone ≤ weighs
   gone_within gone weighs counts was = let now = weight_now.was in omega arith
 
   -- the weight after, counted as far as 64 bits tell it
-  pub weight_counted : (gone come weighs total : ℕ) → gone ≡ saturated (weight_gone schema changes) → come ≡ saturated (weight_come schema changes) → weight (db_of schema rows) ≡ weighs
-      → total ≡ saturated (weighs - gone + come) → total ≡ saturated (weight (db_of schema news))
+  pub weight_counted : (gone come weighs total : ℕ) → gone ≡ saturated (weight_gone db.schema changes) → come ≡ saturated (weight_come db.schema changes) → weight db ≡ weighs
+      → total ≡ saturated (weighs - gone + come) → total ≡ saturated (weight (under db next))
   weight_counted gone come weighs total goes comes was counts =
       let before = weight_now.was in let now = weight_now.is in let most = weight_most in omega arith

@@ -6,10 +6,9 @@ use Rattle.own_base.specs.declared.number.TableNo.{TableNo}
 use Rattle.own_base.specs.declared.row_name.RowName.{RowName}
 use Rattle.own_model.specs.declared.schema.Edge.{Edge}
 use Rattle.own_model.specs.declared.schema.Schema.{Schema}
-use Rattle.own_model.specs.Db.{IsOrdered, Row}
+use Rattle.own_model.specs.Db.{Db, IsOrdered, Row}
 use Rattle.own_model.specs.Stored.{has_key, row_named, rows_at}
 use Rattle.owner_model.specs.Joins.{Joins, holder_of, other_of, value_of}
-use Rattle.owner_sets.specs.Sets.{db_of}
 use Rattle.schema_model.specs.OwnerSchema.{IsOwnerSchema}
 use Rattle.schema_model.specs.Tables.{is_subject}
 use Rattle.subject_model.specs.Owners.{Owns, Reaches, has_owner, owners, reach}
@@ -22,6 +21,10 @@ use Rattle.state_model.proofs.OwnerCounts.{seers-owners}
 use Rattle.unlinked_check.specs.Unlinked.{is_unlinked}
 use Rattle.unlinked_check.proofs.LinkLemmas.{lower-linked, upper-linked}
 
+-- the rows of another database under the schema of this one
+abbrev pub under : Db → Db → Db
+under db next = record next { schema = db.schema }
+
 -- each table that is linked has the same rows in two lists
 pub record AreSameElsewhere (schema : Schema) (rows news : List (List Row)) : Type 0 where
   pub same : (number : ℕ) → is_unlinked schema number ≡ false → rows_at rows number ≡ rows_at news number
@@ -29,35 +32,35 @@ pub record AreSameElsewhere (schema : Schema) (rows news : List (List Row)) : Ty
 pub same_back : (schema : Schema) (rows news : List (List Row)) → AreSameElsewhere schema rows news → AreSameElsewhere schema news rows
 same_back schema rows news are = record { same = λ number linked. sym (are.same number linked) }
 
-module _ (schema : Schema) (rows news : List (List Row)) (are : AreSameElsewhere schema rows news) where
+module _ (db next : Db) (are : AreSameElsewhere db.schema db.rows next.rows) where
   -- a row of a linked table is found by its name in both
-  pub same_row : (name : RowName) → is_unlinked schema name.table.0 ≡ false → row_named schema rows name ≡ row_named schema news name
+  pub same_row : (name : RowName) → is_unlinked db.schema name.table.0 ≡ false → row_named db.schema db.rows name ≡ row_named db.schema next.rows name
   unfolding row_named
-  same_row name linked = ap (λ (own : List Row). option_and_then (λ table. find (has_key table name.key) own) (slice_get schema.tables name.table.0)) (are.same name.table.0 linked)
+  same_row name linked = ap (λ (own : List Row). option_and_then (λ table. find (has_key table name.key) own) (slice_get db.schema.tables name.table.0)) (are.same name.table.0 linked)
 
-  same_subject : (name : RowName) → is_unlinked schema name.table.0 ≡ false → is_subject_row (db_of schema rows) name ≡ is_subject_row (db_of schema news) name
+  same_subject : (name : RowName) → is_unlinked db.schema name.table.0 ≡ false → is_subject_row db name ≡ is_subject_row (under db next) name
   unfolding is_subject_row
-  same_subject name linked = ap (λ (found : Option Row). is_subject schema name.table.0 && is_some found) (same_row name linked)
+  same_subject name linked = ap (λ (found : Option Row). is_subject db.schema name.table.0 && is_some found) (same_row name linked)
 
   -- the tables of the rows that an edge joins are linked
-  lower_linked : (lower : RowName) (edge : Edge) (upper : RowName) → Joins (db_of schema rows) lower edge upper → is_unlinked schema lower.table.0 ≡ false
-  lower_linked lower edge upper joins = subst (λ (t : TableNo). is_unlinked schema t.0 ≡ false) (sym joins.of_lower) (lower-linked schema edge joins.among)
+  lower_linked : (lower : RowName) (edge : Edge) (upper : RowName) → Joins db lower edge upper → is_unlinked db.schema lower.table.0 ≡ false
+  lower_linked lower edge upper joins = subst (λ (t : TableNo). is_unlinked db.schema t.0 ≡ false) (sym joins.of_lower) (lower-linked db.schema edge joins.among)
 
-  upper_linked : (lower : RowName) (edge : Edge) (upper : RowName) → Joins (db_of schema rows) lower edge upper → is_unlinked schema upper.table.0 ≡ false
-  upper_linked lower edge upper joins = subst (λ (t : TableNo). is_unlinked schema t.0 ≡ false) (sym joins.of_upper) (upper-linked schema edge joins.among)
+  upper_linked : (lower : RowName) (edge : Edge) (upper : RowName) → Joins db lower edge upper → is_unlinked db.schema upper.table.0 ≡ false
+  upper_linked lower edge upper joins = subst (λ (t : TableNo). is_unlinked db.schema t.0 ≡ false) (sym joins.of_upper) (upper-linked db.schema edge joins.among)
 
-  holder_linked : (lower upper : RowName) (b : Bool) → is_unlinked schema lower.table.0 ≡ false → is_unlinked schema upper.table.0 ≡ false
-      → is_unlinked schema (if b then lower else upper).table.0 ≡ false
+  holder_linked : (lower upper : RowName) (b : Bool) → is_unlinked db.schema lower.table.0 ≡ false → is_unlinked db.schema upper.table.0 ≡ false
+      → is_unlinked db.schema (if b then lower else upper).table.0 ≡ false
   holder_linked lower upper true low high = low
   holder_linked lower upper false low high = high
 
   -- an edge joins the same rows in both
-  joins_kept : (lower : RowName) (edge : Edge) (upper : RowName) → Joins (db_of schema rows) lower edge upper → Joins (db_of schema news) lower edge upper
+  joins_kept : (lower : RowName) (edge : Edge) (upper : RowName) → Joins db lower edge upper → Joins (under db next) lower edge upper
   joins_kept lower edge upper joins =
       let low = lower_linked lower edge upper joins in
       let high = upper_linked lower edge upper joins in
       let holder = holder_of edge lower upper in
-      let held : is_unlinked schema holder.table.0 ≡ false = holder_linked lower upper _ low high in
+      let held : is_unlinked db.schema holder.table.0 ≡ false = holder_linked lower upper _ low high in
       record {
         among = joins.among;
         of_lower = joins.of_lower;
@@ -68,53 +71,53 @@ module _ (schema : Schema) (rows news : List (List Row)) (are : AreSameElsewhere
       }
 
   -- a path from a row of a linked table is one in both
-  path_kept : (from : RowName) (path : Path) (subject : RowName) → is_unlinked schema from.table.0 ≡ false → IsPath (db_of schema rows) from path subject → IsPath (db_of schema news) from path subject
+  path_kept : (from : RowName) (path : Path) (subject : RowName) → is_unlinked db.schema from.table.0 ≡ false → IsPath db from path subject → IsPath (under db next) from path subject
   path_kept from [] subject linked leads = (subst IsTrue (same_subject from linked) leads.0, leads.1)
   path_kept from (step ∷ rest) subject linked leads =
       let high = upper_linked from step.edge step.upper leads.0 in
       (joins_kept from step.edge step.upper leads.0, ((λ first. leads.1.0 (subst IsTrue (sym (same_subject step.upper high)) first)), path_kept step.upper rest subject high leads.1.1))
 
-  owns_kept : (subject name : RowName) → is_unlinked schema name.table.0 ≡ false → Owns (db_of schema rows) subject name → Owns (db_of schema news) subject name
+  owns_kept : (subject name : RowName) → is_unlinked db.schema name.table.0 ≡ false → Owns db subject name → Owns (under db next) subject name
   owns_kept subject name linked own = record { path = own.path; leads = path_kept name own.path subject linked own.leads; owner = own.owner }
 
-  reaches_kept : (subject name : RowName) → is_unlinked schema name.table.0 ≡ false → Reaches (db_of schema rows) subject name → Reaches (db_of schema news) subject name
+  reaches_kept : (subject name : RowName) → is_unlinked db.schema name.table.0 ≡ false → Reaches db subject name → Reaches (under db next) subject name
   reaches_kept subject name linked own = record { path = own.path; leads = path_kept name own.path subject linked own.leads }
 
   -- and one that has an owner has one in both
-  pub owner_kept : (name : RowName) → IsOrdered (db_of schema news) → IsOwnerSchema schema → is_unlinked schema name.table.0 ≡ false
-      → has_owner (db_of schema rows) name ≡ true → has_owner (db_of schema news) name ≡ true
+  pub owner_kept : (name : RowName) → IsOrdered (under db next) → IsOwnerSchema db.schema → is_unlinked db.schema name.table.0 ≡ false
+      → has_owner db name ≡ true → has_owner (under db next) name ≡ true
   owner_kept name ordered owner linked has =
-      let (subject, own) = owner_from (db_of schema rows) name has in
-      from_owner (db_of schema news) name ordered owner (subject, owns_kept subject name linked own)
+      let (subject, own) = owner_from db name has in
+      from_owner (under db next) name ordered owner (subject, owns_kept subject name linked own)
 
-module _ (schema : Schema) (rows news : List (List Row)) (are : AreSameElsewhere schema rows news) (owner : IsOwnerSchema schema) (before : IsOrdered (db_of schema rows)) (after : IsOrdered (db_of schema news))
-    (name : RowName) (linked : is_unlinked schema name.table.0 ≡ false) where
-  back : AreSameElsewhere schema news rows
-  back = same_back schema rows news are
+module _ (db next : Db) (are : AreSameElsewhere db.schema db.rows next.rows) (owner : IsOwnerSchema db.schema) (before : IsOrdered db) (after : IsOrdered (under db next))
+    (name : RowName) (linked : is_unlinked db.schema name.table.0 ≡ false) where
+  back : AreSameElsewhere db.schema next.rows db.rows
+  back = same_back db.schema db.rows next.rows are
 
-  same_owners : owners (db_of schema rows) name ≡ owners (db_of schema news) name
+  same_owners : owners db name ≡ owners (under db next) name
   same_owners =
-      same_rising name_order _ _ (owners_rise (db_of schema rows) name before) (owners_rise (db_of schema news) name after) (λ subject.
-      let here = owners-iff_Owns (db_of schema rows) name subject before owner in
-      let there = owners-iff_Owns (db_of schema news) name subject after owner in
-      ((λ among. there.1 (owns_kept schema rows news are subject name linked (here.0 among))), (λ among. here.1 (owns_kept schema news rows back subject name linked (there.0 among)))))
+      same_rising name_order _ _ (owners_rise db name before) (owners_rise (under db next) name after) (λ subject.
+      let here = owners-iff_Owns db name subject before owner in
+      let there = owners-iff_Owns (under db next) name subject after owner in
+      ((λ among. there.1 (owns_kept db next are subject name linked (here.0 among))), (λ among. here.1 (owns_kept (under db next) db back subject name linked (there.0 among)))))
 
-  same_reach : reach (db_of schema rows) name ≡ reach (db_of schema news) name
+  same_reach : reach db name ≡ reach (under db next) name
   same_reach =
-      same_rising name_order _ _ (reach_rise (db_of schema rows) name before) (reach_rise (db_of schema news) name after) (λ subject.
-      let here = reach-iff_Reaches (db_of schema rows) name subject before owner in
-      let there = reach-iff_Reaches (db_of schema news) name subject after owner in
-      ((λ among. there.1 (reaches_kept schema rows news are subject name linked (here.0 among))), (λ among. here.1 (reaches_kept schema news rows back subject name linked (there.0 among)))))
+      same_rising name_order _ _ (reach_rise db name before) (reach_rise (under db next) name after) (λ subject.
+      let here = reach-iff_Reaches db name subject before owner in
+      let there = reach-iff_Reaches (under db next) name subject after owner in
+      ((λ among. there.1 (reaches_kept db next are subject name linked (here.0 among))), (λ among. here.1 (reaches_kept (under db next) db back subject name linked (there.0 among)))))
 
-  same_seers : seers (db_of schema rows) name ≡ seers (db_of schema news) name
+  same_seers : seers db name ≡ seers (under db next) name
   unfolding reach
   same_seers =
-      let here = seers-owners (db_of schema rows) name in
-      let there = seers-owners (db_of schema news) name in
+      let here = seers-owners db name in
+      let there = seers-owners (under db next) name in
       let owned = ap length same_owners in
       let reached = ap length same_reach in
       omega arith
 
   -- so it weighs the same in both
-  pub same_weight : (row : Row) → row_weight (db_of schema rows) (record { name = name; row = row }) ≡ row_weight (db_of schema news) (record { name = name; row = row })
+  pub same_weight : (row : Row) → row_weight db (record { name = name; row = row }) ≡ row_weight (under db next) (record { name = name; row = row })
   same_weight row = rw (same_owners, same_seers) refl

@@ -13,7 +13,6 @@ use Rattle.own_model.specs.declared.schema.TableDef.{TableDef}
 use Rattle.own_model.specs.declared.schema.ViewDef.{ViewDef}
 use Rattle.own_model.specs.Db.{Db, IsOrdered, Row}
 use Rattle.own_model.specs.Stored.{rows_at}
-use Rattle.owner_sets.specs.Sets.{db_of}
 use Rattle.page_model.specs.Changed.{with_changes}
 use Rattle.page_model.proofs.RisingLemmas.{each_back, each_front}
 use Rattle.schema_model.specs.OwnerSchema.{IsOwnerSchema}
@@ -23,7 +22,7 @@ use Rattle.state_model.specs.Weight.{item_size, row_weight, view_weight, weight}
 use Rattle.table_part.specs.Changes.{row_after}
 use Rattle.unlinked_check.specs.NetWeight.{shown_size, weight_come, weight_gone}
 use Rattle.unlinked_check.specs.Unlinked.{is_unlinked}
-use Rattle.unlinked_check.proofs.LinkedRows.{AreSameElsewhere, same_weight}
+use Rattle.unlinked_check.proofs.LinkedRows.{AreSameElsewhere, same_weight, under}
 use Rattle.unlinked_check.proofs.LoneRows.{lone_table}
 use Rattle.unlinked_check.proofs.RowSums.{Exchanged, counted, each_all, exchanged_as, exchanged_both, sum_by-both, sum_by-none}
 use Rattle.unlinked_check.proofs.TableLeads.{IsChangeIn, Leads, LeadsFrom, net-changes}
@@ -75,35 +74,35 @@ module _ (schema : Schema) where
         same_from 0 number schema.tables befores afters leads lone (subst (λ n. is_unlinked schema n ≡ false) n linked);
   }
 
-module _ (schema : Schema) (rows news : List (List Row)) (owner : IsOwnerSchema schema) (before : IsOrdered (db_of schema rows)) (after : IsOrdered (db_of schema news)) (are : AreSameElsewhere schema rows news) where
+module _ (db next : Db) (owner : IsOwnerSchema db.schema) (before : IsOrdered db) (after : IsOrdered (under db next)) (are : AreSameElsewhere db.schema db.rows next.rows) where
   -- the rows of a table that is linked weigh what they weighed
-  linked_table : (number : ℕ) (table : TableDef) (own : List Row) → is_unlinked schema number ≡ false
-      → sum_by (row_weight (db_of schema rows)) (rows_in number table own) ≡ sum_by (row_weight (db_of schema news)) (rows_in number table own)
+  linked_table : (number : ℕ) (table : TableDef) (own : List Row) → is_unlinked db.schema number ≡ false
+      → sum_by (row_weight db) (rows_in number table own) ≡ sum_by (row_weight (under db next)) (rows_in number table own)
   linked_table number table [] linked = refl
   linked_table number table (row ∷ own) linked =
       let named : NamedRow = record { name = name_of number table row; row = row } in
-      let first = same_weight schema rows news are owner before after (name_of number table row) linked row in
+      let first = same_weight db next are owner before after (name_of number table row) linked row in
       let later = linked_table number table own linked in
-      let one = sum_by-cons (row_weight (db_of schema rows)) named (rows_in number table own) in
-      let other = sum_by-cons (row_weight (db_of schema news)) named (rows_in number table own) in
+      let one = sum_by-cons (row_weight db) named (rows_in number table own) in
+      let other = sum_by-cons (row_weight (under db next)) named (rows_in number table own) in
       omega arith
 
-  table_step : (number : ℕ) (table : TableDef) (own new : List Row) → Leads number table own new → AreLone schema (net_in number table own new) → (lone : Bool) → is_unlinked schema number ≡ lone
-      → Exchanged (sum_by (row_weight (db_of schema rows)) (rows_in number table own)) (sum_by (row_weight (db_of schema news)) (rows_in number table new))
+  table_step : (number : ℕ) (table : TableDef) (own new : List Row) → Leads number table own new → AreLone db.schema (net_in number table own new) → (lone : Bool) → is_unlinked db.schema number ≡ lone
+      → Exchanged (sum_by (row_weight db) (rows_in number table own)) (sum_by (row_weight (under db next)) (rows_in number table new))
       (sum_before row_size (net_in number table own new)) (sum_after row_size (net_in number table own new))
   table_step number table own new leads changes true lone =
-      exchanged_as _ _ _ _ _ _ _ _ (table-sum row_size number table own new leads) (lone_table (db_of schema rows) before owner number table own lone)
-      (lone_table (db_of schema news) after owner number table new lone) refl refl
+      exchanged_as _ _ _ _ _ _ _ _ (table-sum row_size number table own new leads) (lone_table db before owner number table own lone)
+      (lone_table (under db next) after owner number table new lone) refl refl
   table_step number table own new leads changes false linked =
-      let none = net_linked schema number table own new linked changes in
-      let same : own ≡ new = rows_linked schema number table own new leads linked changes in
+      let none = net_linked db.schema number table own new linked changes in
+      let same : own ≡ new = rows_linked db.schema number table own new leads linked changes in
       let kept = linked_table number table own linked in
-      let moved = ap (λ some. sum_by (row_weight (db_of schema news)) (rows_in number table some)) same in
-      record { kept = sum_by (row_weight (db_of schema rows)) (rows_in number table own); was = rw none (omega arith); is = rw none (omega arith) }
+      let moved = ap (λ some. sum_by (row_weight (under db next)) (rows_in number table some)) same in
+      record { kept = sum_by (row_weight db) (rows_in number table own); was = rw none (omega arith); is = rw none (omega arith) }
 
   -- all rows
-  rows_from_sum : (number : ℕ) (tables : List TableDef) (befores afters : List (List Row)) → LeadsFrom number tables befores afters → AreLone schema (net_from number tables befores afters)
-      → Exchanged (sum_by (row_weight (db_of schema rows)) (rows_from number tables befores)) (sum_by (row_weight (db_of schema news)) (rows_from number tables afters))
+  rows_from_sum : (number : ℕ) (tables : List TableDef) (befores afters : List (List Row)) → LeadsFrom number tables befores afters → AreLone db.schema (net_from number tables befores afters)
+      → Exchanged (sum_by (row_weight db) (rows_from number tables befores)) (sum_by (row_weight (under db next)) (rows_from number tables afters))
       (sum_before row_size (net_from number tables befores afters)) (sum_after row_size (net_from number tables befores afters))
   unfolding net_from rows_from
   rows_from_sum number [] [] [] leads lone = record { kept = 0; was = refl; is = refl }
@@ -117,8 +116,8 @@ module _ (schema : Schema) (rows news : List (List Row)) (owner : IsOwnerSchema 
       let first = table_step number table own new leads.0 (each_front _ net more lone) _ refl in
       let later = rows_from_sum (number + 1) tables befores afters leads.1 (each_back _ net more lone) in
       exchanged_as _ _ _ _ _ _ _ _ (exchanged_both _ _ _ _ _ _ _ _ first later)
-      (sum_by-append (row_weight (db_of schema rows)) (rows_in number table own) (rows_from (number + 1) tables befores))
-      (sum_by-append (row_weight (db_of schema news)) (rows_in number table new) (rows_from (number + 1) tables afters))
+      (sum_by-append (row_weight db) (rows_in number table own) (rows_from (number + 1) tables befores))
+      (sum_by-append (row_weight (under db next)) (rows_in number table new) (rows_from (number + 1) tables afters))
       (sum_by-append (λ change. counted row_size (row_before change)) net more) (sum_by-append (λ change. counted row_size (row_after change)) net more)
 
 none_counted : (f : Row → ℕ) (item : Option Row) → ((row : Row) → f row ≡ 0) → counted f item ≡ 0
@@ -129,9 +128,9 @@ counted-both : (f g h : Row → ℕ) (item : Option Row) → ((row : Row) → h 
 counted-both f g h None both = refl
 counted-both f g h (Some row) both = both row
 
-module _ (schema : Schema) (rows news : List (List Row)) (leads : LeadsFrom 0 schema.tables rows news) where
+module _ (db next : Db) (leads : LeadsFrom 0 db.schema.tables db.rows next.rows) where
   abbrev changes : List Change
-  changes = net_from 0 schema.tables rows news
+  changes = net_from 0 db.schema.tables db.rows next.rows
 
   -- the sizes of what views show of the rows of changes
   abbrev shown : (Change → Option Row) → List ViewDef → ℕ
@@ -149,38 +148,38 @@ module _ (schema : Schema) (rows news : List (List Row)) (leads : LeadsFrom 0 sc
 
   -- a view that isn't over one table weighs nothing, and shows nothing of changes
   nothing_shown : (view : ViewDef) → ((db : Db) → view_weight db view ≡ 0) → ((number : ℕ) (row : Row) → shown_size number row view ≡ 0)
-      → Exchanged (view_weight (db_of schema rows) view) (view_weight (db_of schema news) view) (shown_one row_before view) (shown_one row_after view)
+      → Exchanged (view_weight db view) (view_weight (under db next) view) (shown_one row_before view) (shown_one row_after view)
   nothing_shown view light bare =
       let gone : shown_one row_before view ≡ 0 = sum_by-none _ changes (each_all _ changes (λ change. none_counted _ (row_before change) (bare change.name.table.0))) in
       let come : shown_one row_after view ≡ 0 = sum_by-none _ changes (each_all _ changes (λ change. none_counted _ (row_after change) (bare change.name.table.0))) in
-      exchanged_as 0 0 0 0 _ _ _ _ (record { kept = 0; was = refl; is = refl }) (light (db_of schema rows)) (light (db_of schema news)) gone come
+      exchanged_as 0 0 0 0 _ _ _ _ (record { kept = 0; was = refl; is = refl }) (light db) (light (under db next)) gone come
 
   view_step : (view : ViewDef) (source : Source1) → view.query.source ≡ source
-      → Exchanged (view_weight (db_of schema rows) view) (view_weight (db_of schema news) view) (shown_one row_before view) (shown_one row_after view)
+      → Exchanged (view_weight db view) (view_weight (under db next) view) (shown_one row_before view) (shown_one row_after view)
   view_step view (Table table) is =
-      rw is (only-sum (λ row. ROW_SIZE + sum_by (item_size row) view.query.items) table.0 0 table.0 schema.tables rows news leads (omega arith))
+      rw is (only-sum (λ row. ROW_SIZE + sum_by (item_size row) view.query.items) table.0 0 table.0 db.schema.tables db.rows next.rows leads (omega arith))
   view_step view (Pair left right left_column right_column) is = nothing_shown view (λ db. rw is refl) (λ number row. rw is refl)
   view_step view (View of) is = nothing_shown view (λ db. rw is refl) (λ number row. rw is refl)
 
   -- all views
   views_sum : (views : List ViewDef)
-      → Exchanged (sum_by (view_weight (db_of schema rows)) views) (sum_by (view_weight (db_of schema news)) views) (shown row_before views) (shown row_after views)
+      → Exchanged (sum_by (view_weight db) views) (sum_by (view_weight (under db next)) views) (shown row_before views) (shown row_after views)
   views_sum [] = exchanged_as 0 0 0 0 _ _ _ _ (record { kept = 0; was = refl; is = refl }) refl refl (shown_none row_before) (shown_none row_after)
   views_sum (view ∷ views) =
       exchanged_as _ _ _ _ _ _ _ _ (exchanged_both _ _ _ _ _ _ _ _ (view_step view view.query.source refl) (views_sum views))
-      (sum_by-cons (view_weight (db_of schema rows)) view views) (sum_by-cons (view_weight (db_of schema news)) view views) (shown_cons row_before view views) (shown_cons row_after view views)
+      (sum_by-cons (view_weight db) view views) (sum_by-cons (view_weight (under db next)) view views) (shown_cons row_before view views) (shown_cons row_after view views)
 
-  gone_parts : weight_gone schema changes ≡ sum_before row_size changes + shown row_before schema.views
+  gone_parts : weight_gone db.schema changes ≡ sum_before row_size changes + shown row_before db.schema.views
   gone_parts = sum_by-both _ _ _ (λ (change : Change). counted-both _ _ _ (row_before change) (λ row. refl)) changes
 
-  come_parts : weight_come schema changes ≡ sum_after row_size changes + shown row_after schema.views
+  come_parts : weight_come db.schema changes ≡ sum_after row_size changes + shown row_after db.schema.views
   come_parts = sum_by-both _ _ _ (λ (change : Change). counted-both _ _ _ (row_after change) (λ row. refl)) changes
 
   -- The changes take off the weight of the rows that went, and add that of those that came.
-  pub weight-sum : IsOwnerSchema schema → IsOrdered (db_of schema rows) → IsOrdered (db_of schema news) → AreLone schema changes
-      → Exchanged (weight (db_of schema rows)) (weight (db_of schema news)) (weight_gone schema changes) (weight_come schema changes)
+  pub weight-sum : IsOwnerSchema db.schema → IsOrdered db → IsOrdered (under db next) → AreLone db.schema changes
+      → Exchanged (weight db) (weight (under db next)) (weight_gone db.schema changes) (weight_come db.schema changes)
   unfolding weight
   weight-sum owner before after lone =
-      let are = same-elsewhere schema rows news leads lone in
-      let all = rows_from_sum schema rows news owner before after are 0 schema.tables rows news leads lone in
-      exchanged_as _ _ _ _ _ _ _ _ (exchanged_both _ _ _ _ _ _ _ _ all (views_sum schema.views)) refl refl gone_parts come_parts
+      let are = same-elsewhere db.schema db.rows next.rows leads lone in
+      let all = rows_from_sum db next owner before after are 0 db.schema.tables db.rows next.rows leads lone in
+      exchanged_as _ _ _ _ _ _ _ _ (exchanged_both _ _ _ _ _ _ _ _ all (views_sum db.schema.views)) refl refl gone_parts come_parts

@@ -1,6 +1,4 @@
 ghost use Rattle.std.specs.Prelude.{ℕ, ◌≡◌, IsTrue, None, filter};
-ghost use Rattle.own_model.specs.Db.{IsOrdered};
-ghost use Rattle.owner_sets.specs.Sets.{db_of};
 ghost use Rattle.schema_model.specs.OwnerSchema.{IsOwnerSchema};
 ghost use Rattle.schema_model.specs.WithinLimits.{IsWithinLimits};
 ghost use Rattle.state_model.specs.Fault.{fault};
@@ -25,18 +23,16 @@ pub fn judge_unlinked<B: StoreView, V: StoreView>(
     weight: u64,
     changes: &[Change],
 ) -> Judged
-    requires schema { V.schema_of after.now ≡ B.schema_of before.now }
-    requires limits { IsWithinLimits (B.schema_of before.now) }
-    requires owner { IsOwnerSchema (B.schema_of before.now) }
-    requires ordered { IsOrdered (db_of (B.schema_of before.now) (B.rows before.now)) }
-    requires ordered_after { IsOrdered (db_of (B.schema_of before.now) (V.rows after.now)) }
-    requires faultless { fault (db_of (B.schema_of before.now) (B.rows before.now)) ≡ None }
-    requires weight { weight_of (db_of (B.schema_of before.now) (B.rows before.now)) ≡ weight }
-    requires net { changes.now ≡ net (db_of (B.schema_of before.now) (B.rows before.now)) (db_of (B.schema_of before.now) (V.rows after.now)) }
-    requires applied { put_rows (B.schema_of before.now).tables changes.now (B.rows before.now) ≡ V.rows after.now }
+    requires schema { (V.db after.now).schema ≡ (B.db before.now).schema }
+    requires limits { IsWithinLimits (B.db before.now).schema }
+    requires owner { IsOwnerSchema (B.db before.now).schema }
+    requires faultless { fault (B.db before.now) ≡ None }
+    requires weight { weight_of (B.db before.now) ≡ weight }
+    requires net { changes.now ≡ net (B.db before.now) (V.db after.now) }
+    requires applied { put_rows (B.db before.now).schema.tables changes.now (B.db before.now).rows ≡ (V.db after.now).rows }
     requires once { (number : ℕ) → KeysDiffer (filter (is_of_table number) changes.now) }
-    requires unlinked { IsTrue (are_unlinked (B.schema_of before.now) changes.now) }
-    ensures { IsJudged (db_of (V.schema_of after.now) (V.rows after.now)) result }
+    requires unlinked { IsTrue (are_unlinked (B.db before.now).schema changes.now) }
+    ensures { IsJudged (V.db after.now) result }
 {
     if let Some(rows) = row_limit_fault(after) {
         return Judged::Fault(rows);

@@ -38,7 +38,7 @@ ChangesRows (Update table sets cond) = Unit {0}
 ChangesRows (Delete table cond) = Unit {0}
 ChangesRows _ = ⊥
 
-given : (told : Option Refusal) (meant got : Bound) → bound_unless told meant ≡ Ok got → (told ≡ None) × (meant ≡ got)
+given : (reported : Option Refusal) (meant got : Bound) → bound_unless reported meant ≡ Ok got → (reported ≡ None) × (meant ≡ got)
 given None meant got is = (refl, cc)
 given (Some fault) meant got is = absurd (cc)
 
@@ -48,16 +48,16 @@ spare schema number table sets is keyless =
     let same : key_column schema number ≡ table.key.0 = ap (λ found. option_map_or (λ (table : TableDef). table.key.0) found 0) is in
     subst (λ key. Each (λ (set : ColNo × BoundExpr). (set.0.0 == key) ≡ false) sets) (sym same) keyless
 
-module _ (schema : Schema) (name : NameBytes) (sets : List (NameBytes × Expr)) (cond : Option Cond) (told : lowest (update_faults schema name sets cond) ≡ None) where
+module _ (schema : Schema) (name : NameBytes) (sets : List (NameBytes × Expr)) (cond : Option Cond) (reported : lowest (update_faults schema name sets cond) ≡ None) where
   update_there : IsThere schema (table_number schema name)
   unfolding update_faults
-  update_there = table-there schema name (none-first (no_table schema name) _ (none-first _ (where_faults (table_scope schema name) cond) (none-lowest _ told)))
+  update_there = table-there schema name (none-first (no_table schema name) _ (none-first _ (where_faults (table_scope schema name) cond) (none-lowest _ reported)))
 
   -- an UPDATE without faults sets no primary key
   update_spares : SpareKey schema (table_number schema name) (option_map_or (λ found. bound_sets found.1 sets) (table_named schema name) [])
   update_spares = elim ((slice_get_cases schema.tables (table_number schema name).0).1) [
     | inl (table, within, found, is) ↦
-        let over = sets_over schema name sets cond table told found in
+        let over = sets_over schema name sets cond table reported found in
         spare schema (table_number schema name) table _ found (rw over.bound (keyless-bound_sets table sets over.none))
     | inr (past, none) ↦ let there : IsThere schema (table_number schema name) = update_there in absurd (omega arith)
   ]
@@ -65,10 +65,10 @@ module _ (schema : Schema) (name : NameBytes) (sets : List (NameBytes × Expr)) 
 -- what a statement means that has no fault
 meant_write : (schema : Schema) (found : Statement) → ChangesRows found → lowest (faults schema found) ≡ None → IsWrite schema (meaning schema found)
 unfolding faults meaning insert_faults delete_faults
-meant_write schema (Insert name columns rows) changes told = table-there schema name (none-first (no_table schema name) (faults_in schema name (insert_faults_in columns rows)) (none-lowest _ told))
-meant_write schema (Update name sets cond) changes told = (update_there schema name sets cond told, update_spares schema name sets cond told)
-meant_write schema (Delete name cond) changes told = table-there schema name (none-first (no_table schema name) (where_faults (table_scope schema name) cond) (none-lowest _ told))
-meant_write schema _ changes told = absurd changes
+meant_write schema (Insert name columns rows) changes reported = table-there schema name (none-first (no_table schema name) (faults_in schema name (insert_faults_in columns rows)) (none-lowest _ reported))
+meant_write schema (Update name sets cond) changes reported = (update_there schema name sets cond reported, update_spares schema name sets cond reported)
+meant_write schema (Delete name cond) changes reported = table-there schema name (none-first (no_table schema name) (where_faults (table_scope schema name) cond) (none-lowest _ reported))
+meant_write schema _ changes reported = absurd changes
 
 -- So what binding answers to an INSERT, an UPDATE or a DELETE is a write.
 pub bound_write : (schema : Schema) (found : Statement) (meant : Bound) → bound_statement schema found ≡ Ok meant → ChangesRows found → IsWrite schema meant

@@ -8,10 +8,9 @@ use Rattle.own_base.specs.declared.number.TableNo.{TableNo}
 use Rattle.own_base.specs.declared.value.Key.{Key}
 use Rattle.own_model.specs.declared.bound.BoundCond.{BoundCond}
 use Rattle.own_model.specs.declared.reply.Reply.TheVariants.{Counted}
-use Rattle.own_model.specs.declared.schema.CreateText.{CreateText}
 use Rattle.own_model.specs.declared.schema.Schema.{Schema}
 use Rattle.own_model.specs.declared.schema.TableDef.{TableDef}
-use Rattle.own_model.specs.Db.{IsRising, Row, key_of}
+use Rattle.own_model.specs.Db.{Db, IsRising, Row, key_of}
 use Rattle.own_model.specs.Stored.{has_key, rows_at}
 use Rattle.query_model.specs.Truth.{keeps}
 use Rattle.query_eval.specs.Tables.{AreTables}
@@ -21,7 +20,7 @@ use Rattle.run_model.proofs.FoundRows.{find-filter}
 use Rattle.run_model.proofs.RisingKeys.{rising-at, rising-filter}
 use Rattle.write_eval.specs.Deletions.{deletion}
 use Rattle.write_eval.specs.Leads.{key_changed}
-use Rattle.write_eval.specs.Writes.{Writes, db_of}
+use Rattle.write_eval.specs.Writes.{Writes}
 use Rattle.write_eval.specs.declared.written.Written.{Written}
 use Rattle.write_eval.proofs.Kept.{IsFound, each_passing, found_rows, found_spared}
 use Rattle.write_eval.proofs.OneTable.{IsWithin, LeadWithin, is_of, lead_of}
@@ -72,20 +71,20 @@ module _ (number : TableNo) (table : TableDef) (kept : Row → Bool) where
   }
 
 -- a DELETE writes that the rows go which its condition keeps
-pub deletes : (schema : Schema) (rows : List (List Row)) (number : TableNo) (table : TableDef) (condition : Option BoundCond) (written : Written)
-    → AreTables schema rows → slice_get schema.tables number.0 ≡ Some table
-    → written.count ≡ length (filter (keeps condition) (rows_at rows number.0))
-    → written.changes ≡ map (deletion number table) (filter (keeps condition) (rows_at rows number.0))
-    → (creates : List CreateText) → Writes (db_of creates schema rows) (delete (db_of creates schema rows) number.0 condition) number written
+pub deletes : (db : Db) (number : TableNo) (table : TableDef) (condition : Option BoundCond) (written : Written)
+    → AreTables db.schema db.rows → slice_get db.schema.tables number.0 ≡ Some table
+    → written.count ≡ length (filter (keeps condition) (rows_at db.rows number.0))
+    → written.changes ≡ map (deletion number table) (filter (keeps condition) (rows_at db.rows number.0))
+    → Writes db (delete db number.0 condition) number written
 unfolding delete rows_left
-deletes schema rows number table condition written tables is count changes creates =
-    let rising = rising-at schema.tables rows number.0 table tables.rising is in
+deletes db number table condition written tables is count changes =
+    let rising = rising-at db.schema.tables db.rows number.0 table tables.rising is in
     record {
       reply = ap Counted (sym count);
-      counted = ap length changes ∙ (length-map (filter (keeps condition) (rows_at rows number.0)) (deletion number table) ∙ sym count);
+      counted = ap length changes ∙ (length-map (filter (keeps condition) (rows_at db.rows number.0)) (deletion number table) ∙ sym count);
       changes =
           rw changes
-          (lead_of schema rows number table (filter (λ row. not (keeps condition row)) (rows_at rows number.0)) tables.rising is
-          (map (deletion number table) (filter (keeps condition) (rows_at rows number.0)))
-          (lead_within number table (keeps condition) (rows_at rows number.0) rising));
+          (lead_of db.schema db.rows number table (filter (λ row. not (keeps condition row)) (rows_at db.rows number.0)) tables.rising is
+          (map (deletion number table) (filter (keeps condition) (rows_at db.rows number.0)))
+          (lead_within number table (keeps condition) (rows_at db.rows number.0) rising));
     }

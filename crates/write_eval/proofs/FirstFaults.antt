@@ -5,7 +5,7 @@ use Rattle.std.proofs.lemmas.List.{append-nil, take_more}
 use Rattle.std.proofs.lemmas.Grind.{flat_map-append}
 use Rattle.own_model.specs.declared.refusal.Refusal.{Refusal}
 use Rattle.state_model.specs.Fault.{first_of}
-use Rattle.write_eval.specs.FirstFaults.{Faults, none_yet, or_first, told, with_faults}
+use Rattle.write_eval.specs.FirstFaults.{Faults, none_yet, or_first, reported, with_faults}
 
 -- what comes first of two lists
 or_first-append : (first : Option Refusal) (faults more : List Refusal) → or_first (or_first first faults) more ≡ or_first first (faults ++ more)
@@ -36,8 +36,8 @@ pub flat_map-lent : {X Y : Type 0} (of : X → Y) (faults : Y → List Refusal) 
 flat_map-lent of faults [] = refl
 flat_map-lent of faults (x ∷ xs) = ap (λ more. faults (of x) ++ more) (flat_map-lent of faults xs)
 
--- NULLs are told before sums
-pub told_first : (nulls ranges : List Refusal) → told (with_faults none_yet nulls ranges) ≡ first_of (nulls ++ ranges)
-told_first [] [] = refl
-told_first [] (fault ∷ ranges) = refl
-told_first (fault ∷ nulls) ranges = refl
+-- NULLs are reported before sums
+pub reported_first : (nulls ranges : List Refusal) → reported (with_faults none_yet nulls ranges) ≡ first_of (nulls ++ ranges)
+reported_first [] [] = refl
+reported_first [] (fault ∷ ranges) = refl
+reported_first (fault ∷ nulls) ranges = refl

@@ -9,7 +9,6 @@ use Rattle.own_base.specs.declared.number.TableNo.{TableNo}
 use Rattle.own_base.specs.declared.value.Key.{Key}
 use Rattle.own_model.specs.declared.refusal.Refusal.TheVariants.{Duplicate}
 use Rattle.own_model.specs.declared.reply.Reply.TheVariants.{Counted, Refused}
-use Rattle.own_model.specs.declared.schema.CreateText.{CreateText}
 use Rattle.own_model.specs.declared.schema.Schema.{Schema}
 use Rattle.own_model.specs.declared.schema.TableDef.{TableDef}
 use Rattle.own_model.specs.Db.{AreRising, Db, Row}
@@ -18,7 +17,7 @@ use Rattle.run_model.specs.Insert.{with_tuples}
 use Rattle.run_model.specs.Run.{insert, put}
 use Rattle.write_eval.specs.Insertions.{Given, given_tuples, insertion}
 use Rattle.write_eval.specs.Leads.{key_changed}
-use Rattle.write_eval.specs.Writes.{Writes, db_of}
+use Rattle.write_eval.specs.Writes.{Writes}
 use Rattle.write_eval.specs.declared.written.Written.{Written}
 use Rattle.write_eval.proofs.GivenEntries.{IsFound, found_given, lookup-none}
 use Rattle.write_eval.proofs.GivenTuples.{AreAlike, AreWith, alike-tuples, length-given}
@@ -48,37 +47,34 @@ module _ (number : TableNo) (table : TableDef) (rows merged : List Row) (given :
     others = λ key none. sym (with.found key ∙ rw (lookup-none key given (sym (any_of key given) ∙ none)) refl);
   }
 
-module _ (schema : Schema) (all : List (List Row)) (number : TableNo) (table : TableDef) (tuples : List Row) (creates : List CreateText)
-    (rising : AreRising schema.tables all) (is : slice_get schema.tables number.0 ≡ Some table) where
-  abbrev db : Db
-  db = db_of creates schema all
-
-  puts : insert db number.0 tuples ≡ put db number.0 table (length tuples) (with_tuples table (rows_at all number.0) tuples)
+module _ (db : Db) (number : TableNo) (table : TableDef) (tuples : List Row)
+    (rising : AreRising db.schema.tables db.rows) (is : slice_get db.schema.tables number.0 ≡ Some table) where
+  puts : insert db number.0 tuples ≡ put db number.0 table (length tuples) (with_tuples table (rows_at db.rows number.0) tuples)
   unfolding insert
   puts = rw is refl
 
-  alike : (given : Result Given Key) → given_tuples schema all number table tuples ≡ given → AreAlike table (rows_at all number.0) (with_tuples table (rows_at all number.0) tuples) given
-  alike given is_given = rw (← is_given) (alike-tuples schema all number table is tuples)
+  alike : (given : Result Given Key) → given_tuples db.schema db.rows number table tuples ≡ given → AreAlike table (rows_at db.rows number.0) (with_tuples table (rows_at db.rows number.0) tuples) given
+  alike given is_given = rw (← is_given) (alike-tuples db.schema db.rows number table is tuples)
 
   write_given : (written : Written) (given : Given) → written.count ≡ length tuples → written.changes ≡ map (insertion number) given → length given ≡ length tuples
-      → (merged : Result (List Row) Key) → AreAlike table (rows_at all number.0) merged (Ok given) → Writes db (put db number.0 table (length tuples) merged) number written
+      → (merged : Result (List Row) Key) → AreAlike table (rows_at db.rows number.0) merged (Ok given) → Writes db (put db number.0 table (length tuples) merged) number written
   write_given written given count changes long (Ok merged) with = record {
     reply = ap Counted (sym count);
     counted = ap length changes ∙ (length-map given (insertion number) ∙ (long ∙ sym count));
-    changes = rw changes (lead_of schema all number table merged rising is (map (insertion number) given) (lead_within number table (rows_at all number.0) merged given with));
+    changes = rw changes (lead_of db.schema db.rows number table merged rising is (map (insertion number) given) (lead_within number table (rows_at db.rows number.0) merged given with));
   }
   write_given written given count changes long (Err key) with = absurd with
 
   -- an INSERT whose tuples have free keys writes that they come
   pub inserts : (written : Written) (given : Given) → written.count ≡ length tuples → written.changes ≡ map (insertion number) given
-      → given_tuples schema all number table tuples ≡ Ok given → Writes db (insert db number.0 tuples) number written
-  inserts written given count changes is_given = rw puts (write_given written given count changes (length-given schema all number table tuples given is_given) _ (alike (Ok given) is_given))
+      → given_tuples db.schema db.rows number table tuples ≡ Ok given → Writes db (insert db number.0 tuples) number written
+  inserts written given count changes is_given = rw puts (write_given written given count changes (length-given db.schema db.rows number table tuples given is_given) _ (alike (Ok given) is_given))
 
-  refuse : (key : Key) (merged : Result (List Row) Key) → AreAlike table (rows_at all number.0) merged (Err key)
+  refuse : (key : Key) (merged : Result (List Row) Key) → AreAlike table (rows_at db.rows number.0) merged (Err key)
       → (put db number.0 table (length tuples) merged).reply ≡ Refused (Duplicate table.name key)
   refuse key (Err other) same = ap (λ key. Refused (Duplicate table.name key)) same
   refuse key (Ok merged) same = absurd same
 
   -- one of whose keys is taken is refused
-  pub is_duplicate : (key : Key) → given_tuples schema all number table tuples ≡ Err key → (insert db number.0 tuples).reply ≡ Refused (Duplicate table.name key)
+  pub is_duplicate : (key : Key) → given_tuples db.schema db.rows number table tuples ≡ Err key → (insert db number.0 tuples).reply ≡ Refused (Duplicate table.name key)
   is_duplicate key is_given = rw puts (refuse key _ (alike (Err key) is_given))

@@ -11,7 +11,6 @@ use Rattle.own_model.specs.declared.bound.BoundCond.{BoundCond}
 use Rattle.own_model.specs.declared.bound.BoundExpr.{BoundExpr}
 use Rattle.own_model.specs.declared.refusal.Refusal.{Refusal}
 use Rattle.own_model.specs.declared.reply.Reply.TheVariants.{Counted, Refused}
-use Rattle.own_model.specs.declared.schema.CreateText.{CreateText}
 use Rattle.own_model.specs.declared.schema.Schema.{Schema}
 use Rattle.own_model.specs.declared.schema.TableDef.{TableDef}
 use Rattle.own_model.specs.Db.{AreRising, Db, IsRising, Row, key_of}
@@ -26,7 +25,7 @@ use Rattle.run_model.proofs.UpdateLookups.{changed, found-updated}
 use Rattle.write_eval.specs.Leads.{key_changed}
 use Rattle.write_eval.specs.Updates.{replacement}
 use Rattle.write_eval.specs.Write.{SpareKey}
-use Rattle.write_eval.specs.Writes.{Writes, db_of}
+use Rattle.write_eval.specs.Writes.{Writes}
 use Rattle.write_eval.specs.declared.written.Written.{Written}
 use Rattle.write_eval.proofs.Kept.{IsFound, each_passing, found_rows, found_spared}
 use Rattle.write_eval.proofs.OneTable.{IsWithin, LeadWithin, is_of, lead_of}
@@ -76,35 +75,32 @@ keyless_sets schema number table sets is spare =
     let same : key_column schema number ≡ table.key.0 = ap (λ found. option_map_or (λ (table : TableDef). table.key.0) found 0) is in
     subst (λ key. Each (λ (set : ColNo × BoundExpr). (set.0.0 == key) ≡ false) sets) same spare
 
-module _ (schema : Schema) (all : List (List Row)) (number : TableNo) (table : TableDef) (sets : Sets) (condition : Option BoundCond) (creates : List CreateText)
-    (rising : AreRising schema.tables all) (is : slice_get schema.tables number.0 ≡ Some table) where
-  abbrev db : Db
-  db = db_of creates schema all
-
+module _ (db : Db) (number : TableNo) (table : TableDef) (sets : Sets) (condition : Option BoundCond)
+    (rising : AreRising db.schema.tables db.rows) (is : slice_get db.schema.tables number.0 ≡ Some table) where
   abbrev kept : List Row
-  kept = filter (keeps condition) (rows_at all number.0)
+  kept = filter (keeps condition) (rows_at db.rows number.0)
 
   -- what an UPDATE comes to, by its first fault
   runs : (fault : Option Refusal) → first_of (update_faults table sets kept) ≡ fault
-      → update db number.0 sets condition ≡ stored_unless db number.0 (updated_rows sets condition (rows_at all number.0)) (length kept) fault
+      → update db number.0 sets condition ≡ stored_unless db number.0 (updated_rows sets condition (rows_at db.rows number.0)) (length kept) fault
   unfolding update
-  runs fault told = rw (is, told) refl
+  runs fault reported = rw (is, reported) refl
 
   -- one with a fault is refused
   pub is_refused : (why : Refusal) → Some why ≡ first_of (update_faults table sets kept) → (update db number.0 sets condition).reply ≡ Refused why
-  is_refused why told = rw (runs (Some why) (sym told)) refl
+  is_refused why reported = rw (runs (Some why) (sym reported)) refl
 
   -- one without a fault writes that the rows are updated which its condition keeps
-  pub updates : (written : Written) → SpareKey schema number sets → None ≡ first_of (update_faults table sets kept) → written.count ≡ length kept
+  pub updates : (written : Written) → SpareKey db.schema number sets → None ≡ first_of (update_faults table sets kept) → written.count ≡ length kept
       → written.changes ≡ map (replacement number table sets) kept → Writes db (update db number.0 sets condition) number written
-  updates written spare told count changes =
-      let write : Writes db (stored_unless db number.0 (updated_rows sets condition (rows_at all number.0)) (length kept) None) number written = record {
+  updates written spare reported count changes =
+      let write : Writes db (stored_unless db number.0 (updated_rows sets condition (rows_at db.rows number.0)) (length kept) None) number written = record {
         reply = ap Counted (sym count);
         counted = ap length changes ∙ (length-map kept (replacement number table sets) ∙ sym count);
         changes =
             rw changes
-            (lead_of schema all number table (updated_rows sets condition (rows_at all number.0)) rising is (map (replacement number table sets) kept)
-            (lead_within number table sets (keyless_sets schema number table sets is spare) condition (rows_at all number.0)
-            (rising-at schema.tables all number.0 table rising is)));
+            (lead_of db.schema db.rows number table (updated_rows sets condition (rows_at db.rows number.0)) rising is (map (replacement number table sets) kept)
+            (lead_within number table sets (keyless_sets db.schema number table sets is spare) condition (rows_at db.rows number.0)
+            (rising-at db.schema.tables db.rows number.0 table rising is)));
       } in
-      rw (runs None (sym told)) write
+      rw (runs None (sym reported)) write

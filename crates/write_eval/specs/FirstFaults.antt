@@ -43,9 +43,9 @@ set_nulls table row set = set_fault table (null_fault (value_of set.1 row)) set
 abbrev pub set_ranges : TableDef → Row → ColNo × BoundExpr → List Refusal
 set_ranges table row set = set_fault table (range_fault (value_of set.1 row)) set
 
--- NULLs are told before sums
-abbrev pub told : Faults → Option Refusal
-told first = by first.null first.range
+-- NULLs are reported before sums
+abbrev pub reported : Faults → Option Refusal
+reported first = by first.null first.range
   where
     by : Option Refusal → Option Refusal → Option Refusal
     by (Some fault) range = Some fault

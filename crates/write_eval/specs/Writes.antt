@@ -1,18 +1,12 @@
 -- What a write comes to.
-use Rattle.std.specs.Prelude.{◌≡◌, List, length, Result, Ok, Err}
+use Rattle.std.specs.Prelude.{◌≡◌, length, Result, Ok, Err}
 use Rattle.own_base.specs.declared.number.TableNo.{TableNo}
 use Rattle.own_model.specs.declared.refusal.Refusal.{Refusal}
 use Rattle.own_model.specs.declared.reply.Reply.TheVariants.{Counted, Refused}
-use Rattle.own_model.specs.declared.schema.CreateText.{CreateText}
-use Rattle.own_model.specs.declared.schema.Schema.{Schema}
-use Rattle.own_model.specs.Db.{Db, Row}
+use Rattle.own_model.specs.Db.{Db}
 use Rattle.run_model.specs.Run.{Outcome}
 use Rattle.write_eval.specs.Leads.{LeadTo}
 use Rattle.write_eval.specs.declared.written.Written.{Written}
-
--- a database of a schema and rows
-abbrev pub db_of : List CreateText → Schema → List (List Row) → Db
-db_of creates schema rows = record { creates = creates; schema = schema; rows = rows }
 
 -- What is written is what an outcome says: its count is the answer, and its changes, one for each row that is counted, lead to
 -- the rows that are left.

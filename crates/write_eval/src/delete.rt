@@ -1,10 +1,9 @@
-ghost use Rattle.std.specs.Prelude.{◌≡◌, ◌<◌, List as Seq, length, map, slice_get, IfOk};
+ghost use Rattle.std.specs.Prelude.{◌≡◌, ◌<◌, length, map, slice_get, IfOk};
 ghost use Rattle.std.specs.Option.{option_copied};
-ghost use Rattle.own_model.specs.declared.schema.CreateText.{CreateText};
 ghost use Rattle.query_eval.specs.Tables.{AreTables};
 ghost use Rattle.run_model.specs.Run as outcome;
 ghost use Rattle.write_eval.specs.Deletions as spec;
-ghost use Rattle.write_eval.specs.Writes.{Writes, db_of};
+ghost use Rattle.write_eval.specs.Writes.{Writes};
 
 use crate::definition::definition;
 use crate::row_key::key_of;
@@ -55,10 +54,9 @@ pub(crate) fn delete<V: StoreView>(
     table: TableNo,
     cond: Option<&BoundCond>,
 ) -> Result<Written, AllocError>
-    requires there { table.0 < length (V.schema_of view.now).tables }
-    requires tables { AreTables (V.schema_of view.now) (V.rows view.now) }
-    ensures { IfOk result (λ written. (creates : Seq CreateText)
-        → Writes (db_of creates (V.schema_of view.now) (V.rows view.now)) (outcome.delete (db_of creates (V.schema_of view.now) (V.rows view.now)) table.0 (option_copied cond.entry)) table written) }
+    requires there { table.0 < length (V.db view.now).schema.tables }
+    requires tables { AreTables (V.db view.now).schema (V.db view.now).rows }
+    ensures { IfOk result (λ written. Writes (V.db view.now) (outcome.delete (V.db view.now) table.0 (option_copied cond.entry)) table written) }
 {
     let targets = target_rows(alloc, view, table, cond)?;
     let changes = deletions(alloc, table, definition(view, table), targets.rows())?;

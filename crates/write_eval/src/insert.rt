@@ -1,9 +1,8 @@
-ghost use Rattle.std.specs.Prelude.{◌≡◌, ◌<◌, List as Seq, length, map, IfOk};
-ghost use Rattle.own_model.specs.declared.schema.CreateText.{CreateText};
+ghost use Rattle.std.specs.Prelude.{◌≡◌, ◌<◌, length, map, IfOk};
 ghost use Rattle.query_eval.specs.Tables.{AreTables};
 ghost use Rattle.run_model.specs.Run as outcome;
 ghost use Rattle.write_eval.specs.Insertions as spec;
-ghost use Rattle.write_eval.specs.Writes.{Answers, db_of};
+ghost use Rattle.write_eval.specs.Writes.{Answers};
 
 use crate::definition::definition;
 use crate::row_key::key_of;
@@ -16,8 +15,8 @@ use std::mem::drop;
 
 /// Whether a key is that of a row that is there, or of a tuple given before. Takes no memory.
 fn is_taken<V: StoreView>(view: &V, name: &RowName, given: &BTreeMap<Key, Row>) -> bool
-    requires { name.now.table.0 < length (V.schema_of view.now).tables }
-    ensures { result ≡ spec.is_taken (V.schema_of view.now) (V.rows view.now) given.now.entries name.now }
+    requires { name.now.table.0 < length (V.db view.now).schema.tables }
+    ensures { result ≡ spec.is_taken (V.db view.now).schema (V.db view.now).rows given.now.entries name.now }
 {
     view.row(name).is_some() || given.contains_key(&name.key)
 }
@@ -31,8 +30,8 @@ fn give<V: StoreView>(
     given: &mut BTreeMap<Key, Row>,
     tuple: &Row,
 ) -> Result<Option<Key>, AllocError>
-    requires { number.0 < length (V.schema_of view.now).tables }
-    ensures { IfOk result (λ taken. spec.given_unless given.new.entries taken ≡ spec.give (V.schema_of view.now) (V.rows view.now) number table.now given.old.entries tuple.now) }
+    requires { number.0 < length (V.db view.now).schema.tables }
+    ensures { IfOk result (λ taken. spec.given_unless given.new.entries taken ≡ spec.give (V.db view.now).schema (V.db view.now).rows number table.now given.old.entries tuple.now) }
 {
     let key = key_of(alloc, table, tuple)?;
     let name = RowName { table: number, key };
@@ -53,8 +52,8 @@ fn give_each<V: StoreView>(
     table: &TableDef,
     tuples: &[Row],
 ) -> Result<Result<BTreeMap<Key, Row>, Key>, AllocError>
-    requires { number.0 < length (V.schema_of view.now).tables }
-    ensures { IfOk result (λ given. spec.entries_unless given ≡ spec.given_tuples (V.schema_of view.now) (V.rows view.now) number table.now tuples.now) }
+    requires { number.0 < length (V.db view.now).schema.tables }
+    ensures { IfOk result (λ given. spec.entries_unless given ≡ spec.given_tuples (V.db view.now).schema (V.db view.now).rows number table.now tuples.now) }
 {
     let mut given = BTreeMap::new(alloc);
     for tuple in tuples {
@@ -86,17 +85,16 @@ fn insertions(
 }
 
 /// What an INSERT changes: its tuples come. Where the key of one is that of a row, or of a tuple before it, the INSERT is
-/// refused, and the first such key is told.
+/// refused, and the first such key is reported.
 pub(crate) fn insert<V: StoreView>(
     alloc: Global,
     view: &V,
     number: TableNo,
     tuples: &[Row],
 ) -> Result<Result<Written, Refusal>, AllocError>
-    requires there { number.0 < length (V.schema_of view.now).tables }
-    requires tables { AreTables (V.schema_of view.now) (V.rows view.now) }
-    ensures { IfOk result (λ answer. (creates : Seq CreateText)
-        → Answers (db_of creates (V.schema_of view.now) (V.rows view.now)) (outcome.insert (db_of creates (V.schema_of view.now) (V.rows view.now)) number.0 tuples.now) number answer) }
+    requires there { number.0 < length (V.db view.now).schema.tables }
+    requires tables { AreTables (V.db view.now).schema (V.db view.now).rows }
+    ensures { IfOk result (λ answer. Answers (V.db view.now) (outcome.insert (V.db view.now) number.0 tuples.now) number answer) }
 {
     let table = definition(view, number);
     match give_each(alloc, view, number, table, tuples)? {

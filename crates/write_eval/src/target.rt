@@ -78,8 +78,8 @@ fn target_of_key<'a, V: StoreView>(
     name: &RowName,
     cond: Option<&BoundCond>,
 ) -> Result<Targets<'a>, AllocError>
-    requires { name.now.table.0 < length (V.schema_of view.now).tables }
-    ensures { IfOk result (λ targets. targets ≡ filter (keeps (option_copied cond.entry)) (option_to_list (row_named (V.schema_of view.now) (V.rows view.now) name.now))) }
+    requires { name.now.table.0 < length (V.db view.now).schema.tables }
+    ensures { IfOk result (λ targets. targets ≡ filter (keeps (option_copied cond.entry)) (option_to_list (row_named (V.db view.now).schema (V.db view.now).rows name.now))) }
 {
     let mut targets = Targets::new(alloc);
     if let Some(row) = view.row(name) {
@@ -95,8 +95,8 @@ fn targets_by_runs<'a, V: StoreView>(
     table: TableNo,
     cond: Option<&BoundCond>,
 ) -> Result<Targets<'a>, AllocError>
-    requires { table.0 < length (V.schema_of view.now).tables }
-    ensures { IfOk result (λ targets. targets ≡ filter (keeps (option_copied cond.entry)) (rows_at (V.rows view.now) table.0)) }
+    requires { table.0 < length (V.db view.now).schema.tables }
+    ensures { IfOk result (λ targets. targets ≡ filter (keeps (option_copied cond.entry)) (rows_at (V.db view.now).rows table.0)) }
 {
     let mut targets = Targets::new(alloc);
     let count = view.count(table);
@@ -117,9 +117,9 @@ pub(crate) fn target_rows<'a, V: StoreView>(
     table: TableNo,
     cond: Option<&BoundCond>,
 ) -> Result<Targets<'a>, AllocError>
-    requires there { table.0 < length (V.schema_of view.now).tables }
-    requires tables { AreTables (V.schema_of view.now) (V.rows view.now) }
-    ensures { IfOk result (λ targets. targets ≡ filter (keeps (option_copied cond.entry)) (rows_at (V.rows view.now) table.0)) }
+    requires there { table.0 < length (V.db view.now).schema.tables }
+    requires tables { AreTables (V.db view.now).schema (V.db view.now).rows }
+    ensures { IfOk result (λ targets. targets ≡ filter (keeps (option_copied cond.entry)) (rows_at (V.db view.now).rows table.0)) }
 {
     match pinned_key(alloc, cond, definition(view, table).key)? {
         Some(key) => target_of_key(alloc, view, &RowName { table, key }, cond),

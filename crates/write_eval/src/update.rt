@@ -1,12 +1,11 @@
-ghost use Rattle.std.specs.Prelude.{◌≡◌, ◌<◌, List as Seq, length, map, IfOk};
+ghost use Rattle.std.specs.Prelude.{◌≡◌, ◌<◌, length, map, IfOk};
 ghost use Rattle.std.specs.Option.{option_copied};
-ghost use Rattle.own_model.specs.declared.schema.CreateText.{CreateText};
 ghost use Rattle.query_eval.specs.Tables.{AreTables};
 ghost use Rattle.run_model.specs.Run as outcome;
 ghost use Rattle.run_model.specs.Update.{set_value, updated};
 ghost use Rattle.write_eval.specs.Updates as spec;
 ghost use Rattle.write_eval.specs.Write.{SpareKey};
-ghost use Rattle.write_eval.specs.Writes.{Answers, db_of};
+ghost use Rattle.write_eval.specs.Writes.{Answers};
 
 use crate::definition::definition;
 use crate::row_key::key_of;
@@ -75,11 +74,10 @@ pub(crate) fn update<V: StoreView>(
     sets: &[(ColNo, BoundExpr)],
     cond: Option<&BoundCond>,
 ) -> Result<Result<Written, Refusal>, AllocError>
-    requires there { number.0 < length (V.schema_of view.now).tables }
-    requires spare { SpareKey (V.schema_of view.now) number sets.now }
-    requires tables { AreTables (V.schema_of view.now) (V.rows view.now) }
-    ensures { IfOk result (λ answer. (creates : Seq CreateText)
-        → Answers (db_of creates (V.schema_of view.now) (V.rows view.now)) (outcome.update (db_of creates (V.schema_of view.now) (V.rows view.now)) number.0 sets.now (option_copied cond.entry)) number answer) }
+    requires there { number.0 < length (V.db view.now).schema.tables }
+    requires spare { SpareKey (V.db view.now).schema number sets.now }
+    requires tables { AreTables (V.db view.now).schema (V.db view.now).rows }
+    ensures { IfOk result (λ answer. Answers (V.db view.now) (outcome.update (V.db view.now) number.0 sets.now (option_copied cond.entry)) number answer) }
 {
     let table = definition(view, number);
     let targets = target_rows(alloc, view, number, cond)?;

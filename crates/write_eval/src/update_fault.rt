@@ -130,7 +130,7 @@ impl<'a> FirstFaults<'a> {
 
     /// The refusal of the first NULL, else of the first sum out of range.
     fn refusal(&self, alloc: Global) -> Result<Option<Refusal>, AllocError>
-        ensures { IfOk result (λ told. told ≡ spec.told self.now) }
+        ensures { IfOk result (λ reported. reported ≡ spec.reported self.now) }
     {
         match (self.null, self.range) {
             (Some(column), _) => Ok(Some(Refusal::NullValue(column.copy(alloc)?))),
@@ -157,7 +157,7 @@ fn faults_of<'a>(
 }
 
 /// The refusal of an UPDATE of rows, if there is one: of the first NULL, else of the first sum out of range.
-#[tactic(auto, using(crate::proofs::FirstFaults::told_first), unfolding(run_model::specs::Update::update_faults))]
+#[tactic(auto, using(crate::proofs::FirstFaults::reported_first), unfolding(run_model::specs::Update::update_faults))]
 pub(crate) fn first_fault(
     alloc: Global,
     table: &TableDef,

@@ -1,11 +1,10 @@
-ghost use Rattle.std.specs.Prelude.{◌≡◌, ◌≢◌, List as Seq, IfOk, IfErr};
+ghost use Rattle.std.specs.Prelude.{◌≡◌, ◌≢◌, IfOk, IfErr};
 ghost use Rattle.own_model.specs.declared.refusal.Refusal.TheVariants.{Memory};
 ghost use Rattle.own_model.specs.declared.reply.Reply.TheVariants.{Refused};
-ghost use Rattle.own_model.specs.declared.schema.CreateText.{CreateText};
 ghost use Rattle.query_eval.specs.Tables.{AreTables};
 ghost use Rattle.run_model.specs.Run.{run_bound};
 ghost use Rattle.write_eval.specs.Write.{IsWrite, table_of};
-ghost use Rattle.write_eval.specs.Writes.{Answers, Writes, db_of};
+ghost use Rattle.write_eval.specs.Writes.{Answers, Writes};
 
 use crate::delete::delete;
 use crate::insert::insert;
@@ -21,10 +20,9 @@ fn written_or_refused<V: StoreView>(
     view: &V,
     bound: &Bound,
 ) -> Result<Result<Written, Refusal>, AllocError>
-    requires write { IsWrite (V.schema_of view.now) bound.now }
-    requires tables { AreTables (V.schema_of view.now) (V.rows view.now) }
-    ensures { IfOk result (λ answer. (creates : Seq CreateText)
-        → Answers (db_of creates (V.schema_of view.now) (V.rows view.now)) (run_bound (db_of creates (V.schema_of view.now) (V.rows view.now)) bound.now) (table_of bound.now) answer) }
+    requires write { IsWrite (V.db view.now).schema bound.now }
+    requires tables { AreTables (V.db view.now).schema (V.db view.now).rows }
+    ensures { IfOk result (λ answer. Answers (V.db view.now) (run_bound (V.db view.now) bound.now) (table_of bound.now) answer) }
 {
     match bound {
         Bound::Insert { table, rows } => insert(alloc, view, *table, rows.items()),
@@ -44,12 +42,10 @@ pub fn write_changes<V: StoreView>(
     view: &V,
     bound: &Bound,
 ) -> Result<Written, Refusal>
-    requires write { IsWrite (V.schema_of view.now) bound.now }
-    requires tables { AreTables (V.schema_of view.now) (V.rows view.now) }
-    ensures ok { IfOk result (λ written. (creates : Seq CreateText)
-        → Writes (db_of creates (V.schema_of view.now) (V.rows view.now)) (run_bound (db_of creates (V.schema_of view.now) (V.rows view.now)) bound.now) (table_of bound.now) written) }
-    ensures err { IfErr result (λ why. why ≢ Memory → (creates : Seq CreateText)
-        → (run_bound (db_of creates (V.schema_of view.now) (V.rows view.now)) bound.now).reply ≡ Refused why) }
+    requires write { IsWrite (V.db view.now).schema bound.now }
+    requires tables { AreTables (V.db view.now).schema (V.db view.now).rows }
+    ensures ok { IfOk result (λ written. Writes (V.db view.now) (run_bound (V.db view.now) bound.now) (table_of bound.now) written) }
+    ensures err { IfErr result (λ why. why ≢ Memory → (run_bound (V.db view.now) bound.now).reply ≡ Refused why) }
 {
     match written_or_refused(alloc, view, bound) {
         Ok(answer) => answer,

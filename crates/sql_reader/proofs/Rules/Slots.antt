@@ -1,4 +1,4 @@
--- An item after that many others, and the slot that stands for one too many.
+-- An item after that many others, and the slot that represents one too many.
 use Rattle.std.proofs.Common.{◌≡◌, ◌≤◌, ◌+◌, ℕ, zero, suc, Bool, true, false, List, [], ◌∷◌, length, map, Result, Ok, Err, refl, sym, ap, inl, inr, arith, codes}
 use Rattle.std.specs.Prelude.{if◌then◌else◌, Option, None}
 use Rattle.std.specs.Char.{to_ascii_lowercase}

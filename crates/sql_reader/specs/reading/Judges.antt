@@ -40,7 +40,7 @@ abbrev pub with_byte : ℕ → Option (List ℕ) → Option (List ℕ)
 with_byte byte None = None
 with_byte byte (Some value) = Some (byte ∷ value)
 
--- What stands between the quotes, of the bytes after the first: a quote closes the text, or is doubled and stands for
+-- What stands between the quotes, of the bytes after the first: a quote closes the text, or is doubled and represents
 -- one; after the one that closes it nothing may come. With true, the byte before was a quote.
 abbrev pub inside : Bool → List ℕ → Option (List ℕ)
 inside false [] = None

@@ -6,4 +6,4 @@ use Rattle.annot_schema.proofs.rows.check_rows.Given as goal
 
 -- what is found is found among the references that are left
 abbrev pub invariant-loop-reference : goal.invariant-loop-reference
-invariant-loop-reference g l = Goes (g.V.StoreView.schema_of l.view) (g.V.StoreView.rows l.view) (map reference_seen (drop l.reference-index l.reference-items)) (references_of l.draft)
+invariant-loop-reference g l = Goes (g.V.StoreView.db l.view).schema (g.V.StoreView.db l.view).rows (map reference_seen (drop l.reference-index l.reference-items)) (references_of l.draft)

@@ -3,8 +3,8 @@ use Rattle.annot_schema.proofs.EdgesWithin.{edges_within}
 use Rattle.annot_schema.proofs.walks.check_walks.Goals as goal
 
 -- the edges are between the tables of the schema and the new one
-pub closed_walk-requires : goal.closed_walk-requires
-closed_walk-requires c =
+pub found_cycle-requires : goal.found_cycle-requires
+found_cycle-requires c =
     rw (c.items.ensures, c.items-2.ensures, c.in_ok-edges.ensures, c.in_ok-copy.ensures, c.requires.new) (edges_within c.args.schema.now c.args.create.now c.requires.owner)
 
 -- so are those of the walk

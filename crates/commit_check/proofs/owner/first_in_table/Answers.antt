@@ -3,7 +3,6 @@ use Rattle.std.specs.Prelude.{Some}
 use Rattle.std.proofs.lemmas.Option.{slice_get_within}
 use Rattle.own_model.specs.declared.schema.Schema.{Schema}
 use Rattle.own_model.specs.Stored.{rows_at}
-use Rattle.owner_sets.specs.Sets.{db_of}
 use Rattle.schema_model.specs.Tables.{is_private}
 use Rattle.subject_model.specs.Named.{name_of}
 use Rattle.subject_model.specs.Owners.{owners}
@@ -14,21 +13,21 @@ use Rattle.commit_check.proofs.OwnerFaults.{owned-none, public-none, unowned-som
 use Rattle.commit_check.proofs.owner.first_in_table.Goals as goal
 
 pub count-at-end-requires : goal.count-at-end-requires
-count-at-end-requires g c = slice_get_within (g.V.StoreView.schema_of c.args.view.now).tables c.args.table.0 c.args.definition.now c.requires.there
+count-at-end-requires g c = slice_get_within (g.V.StoreView.db c.args.view.now).schema.tables c.args.table.0 c.args.definition.now c.requires.there
 
 pub row_at-requires : goal.row_at-requires
-row_at-requires g c = slice_get_within (g.V.StoreView.schema_of c.args.view.now).tables c.args.table.0 c.args.definition.now c.requires.there
+row_at-requires g c = slice_get_within (g.V.StoreView.db c.args.view.now).schema.tables c.args.table.0 c.args.definition.now c.requires.there
 
 pub returns-then-not-is_private : goal.returns-then-not-is_private
 returns-then-not-is_private g c =
-    let db = db_of (g.V.StoreView.schema_of c.args.view.now) (g.V.StoreView.rows c.args.view.now) in
+    let db = g.V.StoreView.db c.args.view.now in
     let public : is_private db.schema c.args.table.0 ≡ false =
     ap (λ (schema : Schema). is_private schema c.args.table.0) (sym c.schema.ensures) ∙ (sym c.is_private.ensures ∙ c.if-not-is_private.true) in
     sym (public-none db c.args.table.0 c.args.definition.now (rows_at db.rows c.args.table.0) public)
 
 pub loop-at-preserved : goal.loop-at-preserved
 loop-at-preserved g c =
-    let db = db_of (g.V.StoreView.schema_of c.args.view.now) (g.V.StoreView.rows c.args.view.now) in
+    let db = g.V.StoreView.db c.args.view.now in
     let rows = rows_at db.rows c.args.table.0 in
     let row = c.in-Some.row.now in
     let listed = Sets-at db (owners db) c.args.sets.now.owners c.args.table.0 c.loop-at.at c.args.definition.now row c.requires.owners c.requires.there (sym c.in-Some.ensures) in
@@ -39,13 +38,13 @@ loop-at-preserved g c =
 
 pub returns-in-None : goal.returns-in-None
 returns-in-None g c =
-    let db = db_of (g.V.StoreView.schema_of c.args.view.now) (g.V.StoreView.rows c.args.view.now) in
+    let db = g.V.StoreView.db c.args.view.now in
     let rows = rows_at db.rows c.args.table.0 in
     sym (none_before-gone (owner_rule db c.args.table.0 c.args.definition.now rows) rows c.loop-at.at c.loop-at.invariant (sym c.in-None.ensures))
 
 pub returns-then-is_empty : goal.returns-then-is_empty
 returns-then-is_empty g c =
-    let db = db_of (g.V.StoreView.schema_of c.args.view.now) (g.V.StoreView.rows c.args.view.now) in
+    let db = g.V.StoreView.db c.args.view.now in
     let rows = rows_at db.rows c.args.table.0 in
     let row = c.in-Some.row.now in
     let listed = Sets-at db (owners db) c.args.sets.now.owners c.args.table.0 c.loop-at.at c.args.definition.now row c.requires.owners c.requires.there (sym c.in-Some.ensures) in
@@ -55,11 +54,11 @@ returns-then-is_empty g c =
     ap (λ (schema : Schema). is_private schema c.args.table.0) (sym c.schema.ensures) ∙ (sym c.is_private.ensures ∙ c.if-not-is_private.false) in
     ap Some c.in_ok-fault.ensures
     ∙ sym (none_before-found (owner_rule db c.args.table.0 c.args.definition.now rows) rows c.loop-at.at c.loop-at.invariant row _ (sym c.in-Some.ensures)
-    (unowned-some db c.args.table.0 c.args.definition.now rows row c.requires.ordered c.requires.owner private none))
+    (unowned-some db c.args.table.0 c.args.definition.now rows row (g.met.V.StoreView.ordered c.args.view.now) c.requires.owner private none))
 
 pub returns : goal.returns
 returns g c =
-    let db = db_of (g.V.StoreView.schema_of c.args.view.now) (g.V.StoreView.rows c.args.view.now) in
+    let db = g.V.StoreView.db c.args.view.now in
     let rows = rows_at db.rows c.args.table.0 in
     let past : length rows ≤ c.loop-at.at = subst (λ n. n ≤ c.loop-at.at) c.count-at-end.ensures c.loop-at-test.false in
     sym (none_before-end (owner_rule db c.args.table.0 c.args.definition.now rows) rows c.loop-at.at c.loop-at.invariant past)

@@ -1,5 +1,4 @@
 use Rattle.own_model.specs.Stored.{rows_at}
-use Rattle.owner_sets.specs.Sets.{db_of}
 use Rattle.state_model.specs.Fault.{owner_rule}
 use Rattle.commit_check.proofs.FirstLemmas.{NoneBefore}
 use Rattle.commit_check.proofs.owner.first_in_table.Given as goal
@@ -7,5 +6,5 @@ use Rattle.commit_check.proofs.owner.first_in_table.Given as goal
 -- the rows so far are in order
 abbrev pub invariant-loop-at : goal.invariant-loop-at
 invariant-loop-at g l =
-    let rows = rows_at (g.V.StoreView.rows l.view) l.table.0 in
-    NoneBefore (owner_rule (db_of (g.V.StoreView.schema_of l.view) (g.V.StoreView.rows l.view)) l.table.0 l.definition rows) rows l.at
+    let rows = rows_at (g.V.StoreView.db l.view).rows l.table.0 in
+    NoneBefore (owner_rule (g.V.StoreView.db l.view) l.table.0 l.definition rows) rows l.at

@@ -4,11 +4,10 @@ use Rattle.std.proofs.lemmas.Option.{slice_get_read}
 use Rattle.own_model.specs.declared.refusal.Refusal.{Refusal}
 use Rattle.own_model.specs.declared.refusal.Refusal.TheVariants.{Reference}
 use Rattle.own_model.specs.Db.{key_of}
-use Rattle.owner_sets.specs.Sets.{db_of}
 use Rattle.state_model.specs.Fault.{Held, breaks_reference, held_in}
 use Rattle.state_model.proofs.FaultLemmas.{held_at}
 use Rattle.commit_check.proofs.FirstLemmas.{none_before-end, none_before-found, none_before-more}
-use Rattle.commit_check.proofs.HeldLemmas.{held_in-at, length-held_in}
+use Rattle.commit_check.proofs.LentLemmas.{held_in-at, length-held_in}
 use Rattle.commit_check.proofs.ReferenceLemmas.{refers-within, refused, refused-none, refused-some}
 use Rattle.commit_check.proofs.reference.first_in_row.Goals as goal
 
@@ -18,11 +17,11 @@ breaks_reference-requires g c = λ link refers.
     let is : slice_get c.args.definition.now.columns c.loop-at.at ≡ Some column =
     subst (λ columns. slice_get columns c.loop-at.at ≡ Some column) c.items-column-items.ensures
     (slice_get_read c.items-column-items.result.now _ c.loop-at.at column refl c.loop-at-test.true c.column-item.is) in
-    refers-within (g.V.StoreView.schema_of c.args.view.now) c.args.definition.now c.loop-at.at column link c.requires.refer is refers
+    refers-within (g.V.StoreView.db c.args.view.now).schema c.args.definition.now c.loop-at.at column link c.requires.refer is refers
 
 pub loop-at-preserved : goal.loop-at-preserved
 loop-at-preserved g c =
-    let db = db_of (g.V.StoreView.schema_of c.args.view.now) (g.V.StoreView.rows c.args.view.now) in
+    let db = g.V.StoreView.db c.args.view.now in
     let definition = c.args.definition.now in
     let row = c.args.row.now in
     let column = c.column-item.result in
@@ -35,7 +34,7 @@ loop-at-preserved g c =
 
 pub returns-then-breaks : goal.returns-then-breaks
 returns-then-breaks g c =
-    let db = db_of (g.V.StoreView.schema_of c.args.view.now) (g.V.StoreView.rows c.args.view.now) in
+    let db = g.V.StoreView.db c.args.view.now in
     let definition = c.args.definition.now in
     let row = c.args.row.now in
     let column = c.column-item.result in
@@ -49,7 +48,7 @@ returns-then-breaks g c =
 
 pub returns : goal.returns
 returns g c =
-    let db = db_of (g.V.StoreView.schema_of c.args.view.now) (g.V.StoreView.rows c.args.view.now) in
+    let db = g.V.StoreView.db c.args.view.now in
     let definition = c.args.definition.now in
     let row = c.args.row.now in
     let past : length (held_in definition row) ≤ c.loop-at.at =

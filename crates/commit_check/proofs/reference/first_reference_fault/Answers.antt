@@ -2,7 +2,6 @@ use Rattle.std.proofs.Common.{◌≡◌, ◌≤◌, length, refl, sym, ap, ◌�
 use Rattle.std.specs.Prelude.{Some, slice_get}
 use Rattle.std.proofs.lemmas.Option.{slice_get_read}
 use Rattle.own_model.specs.declared.schema.Schema.{Schema}
-use Rattle.owner_sets.specs.Sets.{db_of}
 use Rattle.schema_model.specs.OwnerSchema.{ColumnsRefer}
 use Rattle.schema_model.proofs.Places.{all-at}
 use Rattle.state_model.specs.Fault.{reference_faults, reference_rule}
@@ -11,7 +10,7 @@ use Rattle.commit_check.proofs.reference.first_reference_fault.Goals as goal
 
 pub first_in_table-requires-clause-refer : goal.first_in_table-requires-clause-refer
 first_in_table-requires-clause-refer g c =
-    let schema = g.V.StoreView.schema_of c.args.view.now in
+    let schema = (g.V.StoreView.db c.args.view.now).schema in
     let definition = c.definition-item.result in
     let is : slice_get schema.tables c.loop-number.number ≡ Some definition =
     subst (λ tables. slice_get tables c.loop-number.number ≡ Some definition) (c.items-definition-items.ensures ∙ ap (λ (s : Schema). s.tables) c.schema.ensures)
@@ -20,7 +19,7 @@ first_in_table-requires-clause-refer g c =
 
 pub loop-number-preserved : goal.loop-number-preserved
 loop-number-preserved g c =
-    let db = db_of (g.V.StoreView.schema_of c.args.view.now) (g.V.StoreView.rows c.args.view.now) in
+    let db = g.V.StoreView.db c.args.view.now in
     let definition = c.definition-item.result in
     let is : slice_get db.schema.tables c.loop-number.number ≡ Some definition =
     subst (λ tables. slice_get tables c.loop-number.number ≡ Some definition) (c.items-definition-items.ensures ∙ ap (λ (s : Schema). s.tables) c.schema.ensures)
@@ -30,7 +29,7 @@ loop-number-preserved g c =
 pub returns-in-Some : goal.returns-in-Some
 unfolding reference_faults
 returns-in-Some g c =
-    let db = db_of (g.V.StoreView.schema_of c.args.view.now) (g.V.StoreView.rows c.args.view.now) in
+    let db = g.V.StoreView.db c.args.view.now in
     let definition = c.definition-item.result in
     let is : slice_get db.schema.tables c.loop-number.number ≡ Some definition =
     subst (λ tables. slice_get tables c.loop-number.number ≡ Some definition) (c.items-definition-items.ensures ∙ ap (λ (s : Schema). s.tables) c.schema.ensures)
@@ -40,7 +39,7 @@ returns-in-Some g c =
 pub returns : goal.returns
 unfolding reference_faults
 returns g c =
-    let db = db_of (g.V.StoreView.schema_of c.args.view.now) (g.V.StoreView.rows c.args.view.now) in
+    let db = g.V.StoreView.db c.args.view.now in
     let past : length db.schema.tables ≤ c.loop-number.number =
     subst (λ n. n ≤ c.loop-number.number) (ap length (c.items-definition-items.ensures ∙ ap (λ (s : Schema). s.tables) c.schema.ensures)) c.loop-number-test.false in
     sym (table-end (reference_rule db) db c.loop-number.number c.loop-number.invariant past)

@@ -1,4 +1,3 @@
-use Rattle.owner_sets.specs.Sets.{db_of}
 use Rattle.state_model.specs.Fault.{reference_rule}
 use Rattle.commit_check.proofs.FirstLemmas.{NoneBeforeTable}
 use Rattle.commit_check.proofs.reference.first_reference_fault.Given as goal
@@ -6,4 +5,4 @@ use Rattle.commit_check.proofs.reference.first_reference_fault.Given as goal
 -- the tables so far are in order
 abbrev pub invariant-loop-number : goal.invariant-loop-number
 invariant-loop-number g l =
-    let db = db_of (g.V.StoreView.schema_of l.view) (g.V.StoreView.rows l.view) in NoneBeforeTable (reference_rule db) db l.number
+    let db = g.V.StoreView.db l.view in NoneBeforeTable (reference_rule db) db l.number

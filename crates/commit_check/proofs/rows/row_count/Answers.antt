@@ -8,9 +8,9 @@ use Rattle.commit_check.proofs.rows.row_count.Goals as goal
 
 pub loop-number-preserved : goal.loop-number-preserved
 loop-number-preserved g c =
-    let rows = g.V.StoreView.rows c.args.view.now in
-    let tables = (g.V.StoreView.schema_of c.args.view.now).tables in
-    let listed : length rows ≡ length tables = length-rising tables rows c.requires.ordered.rising in
+    let rows = (g.V.StoreView.db c.args.view.now).rows in
+    let tables = (g.V.StoreView.db c.args.view.now).schema.tables in
+    let listed : length rows ≡ length tables = length-rising tables rows (g.met.V.StoreView.ordered c.args.view.now).rising in
     let named : length c.items.result.now ≡ length tables = ap length (c.items.ensures ∙ ap (λ (s : Schema). s.tables) c.schema.ensures) in
     let within : c.loop-number.number < length rows = omega arith in
     let more = sum_by_more length rows c.loop-number.number [] within in
@@ -21,9 +21,9 @@ loop-number-preserved g c =
 
 pub returns : goal.returns
 returns g c =
-    let rows = g.V.StoreView.rows c.args.view.now in
-    let tables = (g.V.StoreView.schema_of c.args.view.now).tables in
-    let listed : length rows ≡ length tables = length-rising tables rows c.requires.ordered.rising in
+    let rows = (g.V.StoreView.db c.args.view.now).rows in
+    let tables = (g.V.StoreView.db c.args.view.now).schema.tables in
+    let listed : length rows ≡ length tables = length-rising tables rows (g.met.V.StoreView.ordered c.args.view.now).rising in
     let named : length c.items.result.now ≡ length tables = ap length (c.items.ensures ∙ ap (λ (s : Schema). s.tables) c.schema.ensures) in
     let past : length rows ≤ c.loop-number.number = omega arith in
     c.loop-number.invariant ∙ ap (λ list. min (sum_by length list) (2 ^ 64 - 1)) (take_all c.loop-number.number rows past)

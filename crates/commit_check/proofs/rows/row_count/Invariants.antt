@@ -4,4 +4,4 @@ use Rattle.commit_check.proofs.rows.row_count.Given as goal
 
 -- the tables so far are counted
 abbrev pub invariant-loop-number : goal.invariant-loop-number
-invariant-loop-number g l = l.count ≡ min (sum_by length (take l.number (g.V.StoreView.rows l.view))) (2 ^ 64 - 1)
+invariant-loop-number g l = l.count ≡ min (sum_by length (take l.number (g.V.StoreView.db l.view).rows)) (2 ^ 64 - 1)

@@ -8,14 +8,14 @@ use Rattle.own_model.specs.Stored.{rows_at}
 use Rattle.state_model.specs.Fault.{Held, breaks_unique, held_in}
 use Rattle.state_model.proofs.FaultLemmas.{held_at}
 use Rattle.commit_check.proofs.FirstLemmas.{none_before-end, none_before-found, none_before-more}
-use Rattle.commit_check.proofs.HeldLemmas.{held_in-at, length-held_in}
+use Rattle.commit_check.proofs.LentLemmas.{held_in-at, length-held_in}
 use Rattle.commit_check.proofs.ReferenceLemmas.{refused, refused-none, refused-some}
 use Rattle.commit_check.proofs.UniqueLemmas.{breaks-counted}
 use Rattle.commit_check.proofs.unique.first_in_row.Goals as goal
 
 pub loop-at-preserved : goal.loop-at-preserved
 loop-at-preserved g c =
-    let rows = rows_at (g.V.StoreView.rows c.args.view.now) c.args.table.0 in
+    let rows = rows_at (g.V.StoreView.db c.args.view.now).rows c.args.table.0 in
     let definition = c.args.definition.now in
     let row = c.args.row.now in
     let column = c.column-item.result in
@@ -31,7 +31,7 @@ loop-at-preserved g c =
 
 pub returns-then-breaks : goal.returns-then-breaks
 returns-then-breaks g c =
-    let rows = rows_at (g.V.StoreView.rows c.args.view.now) c.args.table.0 in
+    let rows = rows_at (g.V.StoreView.db c.args.view.now).rows c.args.table.0 in
     let definition = c.args.definition.now in
     let row = c.args.row.now in
     let column = c.column-item.result in
@@ -48,7 +48,7 @@ returns-then-breaks g c =
 
 pub returns : goal.returns
 returns g c =
-    let rows = rows_at (g.V.StoreView.rows c.args.view.now) c.args.table.0 in
+    let rows = rows_at (g.V.StoreView.db c.args.view.now).rows c.args.table.0 in
     let definition = c.args.definition.now in
     let row = c.args.row.now in
     let past : length (held_in definition row) ≤ c.loop-at.at =

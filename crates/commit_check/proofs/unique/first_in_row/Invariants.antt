@@ -9,5 +9,5 @@ use Rattle.commit_check.proofs.unique.first_in_row.Given as goal
 -- the columns so far are in order
 abbrev pub invariant-loop-at : goal.invariant-loop-at
 invariant-loop-at g l =
-    NoneBefore (refused (breaks_unique l.definition (rows_at (g.V.StoreView.rows l.view) l.fn.table.0) l.row) (λ held. Unique l.definition.name (key_of l.definition l.row) held.column.name))
+    NoneBefore (refused (breaks_unique l.definition (rows_at (g.V.StoreView.db l.view).rows l.fn.table.0) l.row) (λ held. Unique l.definition.name (key_of l.definition l.row) held.column.name))
     (held_in l.definition l.row) l.at

@@ -2,7 +2,6 @@ use Rattle.std.proofs.Common.{◌≡◌, ◌≤◌, length, refl, sym, ap, ◌�
 use Rattle.std.specs.Prelude.{Some, slice_get}
 use Rattle.std.proofs.lemmas.Option.{slice_get_read}
 use Rattle.own_model.specs.declared.schema.Schema.{Schema}
-use Rattle.owner_sets.specs.Sets.{db_of}
 use Rattle.owner_sets.proofs.Searched.{rising_at}
 use Rattle.state_model.specs.Fault.{unique_faults, unique_rule}
 use Rattle.commit_check.proofs.FirstLemmas.{table-end, table-found, table-more}
@@ -10,16 +9,16 @@ use Rattle.commit_check.proofs.unique.first_unique_fault.Goals as goal
 
 pub first_in_table-requires-clause-rising : goal.first_in_table-requires-clause-rising
 first_in_table-requires-clause-rising g c =
-    let schema = g.V.StoreView.schema_of c.args.view.now in
+    let schema = (g.V.StoreView.db c.args.view.now).schema in
     let definition = c.definition-item.result in
     let is : slice_get schema.tables c.loop-number.number ≡ Some definition =
     subst (λ tables. slice_get tables c.loop-number.number ≡ Some definition) (c.items-definition-items.ensures ∙ ap (λ (s : Schema). s.tables) c.schema.ensures)
     (slice_get_read c.items-definition-items.result.now _ c.loop-number.number definition refl c.loop-number-test.true c.definition-item.is) in
-    rising_at schema.tables (g.V.StoreView.rows c.args.view.now) c.loop-number.number definition c.requires.ordered.rising is
+    rising_at schema.tables (g.V.StoreView.db c.args.view.now).rows c.loop-number.number definition (g.met.V.StoreView.ordered c.args.view.now).rising is
 
 pub loop-number-preserved : goal.loop-number-preserved
 loop-number-preserved g c =
-    let db = db_of (g.V.StoreView.schema_of c.args.view.now) (g.V.StoreView.rows c.args.view.now) in
+    let db = g.V.StoreView.db c.args.view.now in
     let definition = c.definition-item.result in
     let is : slice_get db.schema.tables c.loop-number.number ≡ Some definition =
     subst (λ tables. slice_get tables c.loop-number.number ≡ Some definition) (c.items-definition-items.ensures ∙ ap (λ (s : Schema). s.tables) c.schema.ensures)
@@ -29,7 +28,7 @@ loop-number-preserved g c =
 pub returns-in-Some : goal.returns-in-Some
 unfolding unique_faults
 returns-in-Some g c =
-    let db = db_of (g.V.StoreView.schema_of c.args.view.now) (g.V.StoreView.rows c.args.view.now) in
+    let db = g.V.StoreView.db c.args.view.now in
     let definition = c.definition-item.result in
     let is : slice_get db.schema.tables c.loop-number.number ≡ Some definition =
     subst (λ tables. slice_get tables c.loop-number.number ≡ Some definition) (c.items-definition-items.ensures ∙ ap (λ (s : Schema). s.tables) c.schema.ensures)
@@ -39,7 +38,7 @@ returns-in-Some g c =
 pub returns : goal.returns
 unfolding unique_faults
 returns g c =
-    let db = db_of (g.V.StoreView.schema_of c.args.view.now) (g.V.StoreView.rows c.args.view.now) in
+    let db = g.V.StoreView.db c.args.view.now in
     let past : length db.schema.tables ≤ c.loop-number.number =
     subst (λ n. n ≤ c.loop-number.number) (ap length (c.items-definition-items.ensures ∙ ap (λ (s : Schema). s.tables) c.schema.ensures)) c.loop-number-test.false in
     sym (table-end unique_rule db c.loop-number.number c.loop-number.invariant past)

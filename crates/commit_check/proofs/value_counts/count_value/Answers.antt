@@ -2,7 +2,7 @@ use Rattle.std.proofs.Common.{◌≡◌, ap, ◌∙◌, arith}
 use Rattle.std.specs.Prelude.{unwrap_or}
 use Rattle.commit_check.specs.ValueCounts.{count_at, value_of}
 use Rattle.commit_check.proofs.CountLemmas.{added}
-use Rattle.commit_check.proofs.HeldOrder.{looked_up}
+use Rattle.commit_check.proofs.LentOrder.{looked_up}
 use Rattle.commit_check.proofs.value_counts.count_value.Goals as goal
 
 pub overflow_add-had : goal.overflow_add-had

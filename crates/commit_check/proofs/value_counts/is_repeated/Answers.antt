@@ -2,7 +2,7 @@ use Rattle.std.proofs.Common.{ap, ◌∙◌}
 use Rattle.std.specs.Prelude.{unwrap_or}
 use Rattle.query_model.specs.Truth.{cell}
 use Rattle.commit_check.proofs.CountLemmas.{repeated}
-use Rattle.commit_check.proofs.HeldOrder.{looked_up}
+use Rattle.commit_check.proofs.LentOrder.{looked_up}
 use Rattle.commit_check.proofs.value_counts.is_repeated.Goals as goal
 
 pub returns-in-Some : goal.returns-in-Some

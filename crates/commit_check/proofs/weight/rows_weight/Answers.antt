@@ -2,13 +2,12 @@ use Rattle.std.proofs.Common.{◌≡◌, ◌≤◌, length, refl, sym, ap, ◌�
 use Rattle.std.specs.Prelude.{Some, slice_get}
 use Rattle.std.proofs.lemmas.Option.{slice_get_read}
 use Rattle.own_model.specs.declared.schema.Schema.{Schema}
-use Rattle.owner_sets.specs.Sets.{db_of}
 use Rattle.commit_check.proofs.WeightLemmas.{WeighedTo, weighed-end, weighed-more}
 use Rattle.commit_check.proofs.weight.rows_weight.Goals as goal
 
 pub loop-number-preserved : goal.loop-number-preserved
 loop-number-preserved g c =
-    let db = db_of (g.V.StoreView.schema_of c.args.view.now) (g.V.StoreView.rows c.args.view.now) in
+    let db = g.V.StoreView.db c.args.view.now in
     let definition = c.definition-item.result in
     let is : slice_get db.schema.tables c.loop-number.number ≡ Some definition =
     subst (λ tables. slice_get tables c.loop-number.number ≡ Some definition) (c.items-definition-items.ensures ∙ ap (λ (s : Schema). s.tables) c.schema.ensures)
@@ -17,7 +16,7 @@ loop-number-preserved g c =
 
 pub returns : goal.returns
 returns g c =
-    let db = db_of (g.V.StoreView.schema_of c.args.view.now) (g.V.StoreView.rows c.args.view.now) in
+    let db = g.V.StoreView.db c.args.view.now in
     let past : length db.schema.tables ≤ c.loop-number.number =
     subst (λ n. n ≤ c.loop-number.number) (ap length (c.items-definition-items.ensures ∙ ap (λ (s : Schema). s.tables) c.schema.ensures)) c.loop-number-test.false in
     weighed-end db c.loop-number.number c.loop-number.total c.loop-number.invariant past

@@ -8,4 +8,4 @@ use Rattle.commit_check.proofs.weight.shown_weight.Given as goal
 
 -- the rows so far are counted
 abbrev pub invariant-loop-at : goal.invariant-loop-at
-invariant-loop-at g l = l.total ≡ saturated (sum_by (λ row. ROW_SIZE + sum_by (item_size row) l.items) (take l.at (rows_at (g.V.StoreView.rows l.view) l.table.0)))
+invariant-loop-at g l = l.total ≡ saturated (sum_by (λ row. ROW_SIZE + sum_by (item_size row) l.items) (take l.at (rows_at (g.V.StoreView.db l.view).rows l.table.0)))

@@ -1,7 +1,6 @@
 use Rattle.std.proofs.Common.{◌≡◌, ℕ, length, sym, ap, ◌∙◌}
 use Rattle.own_model.specs.Db.{Row}
 use Rattle.own_model.specs.Stored.{rows_at}
-use Rattle.owner_sets.specs.Sets.{db_of}
 use Rattle.subject_model.specs.Named.{NamedRow, name_of}
 use Rattle.subject_model.specs.Owners.{owners, reach}
 use Rattle.state_model.specs.Weight.{row_weight}
@@ -13,7 +12,7 @@ use Rattle.commit_check.proofs.weight.table_weight.Goals as goal
 
 pub loop-at-preserved : goal.loop-at-preserved
 loop-at-preserved g c =
-    let db = db_of (g.V.StoreView.schema_of c.args.view.now) (g.V.StoreView.rows c.args.view.now) in
+    let db = g.V.StoreView.db c.args.view.now in
     let row = c.in-Some.row.now in
     let named : Row → NamedRow = λ row. record { name = name_of c.args.table.0 c.args.definition.now row; row = row } in
     let weight : Row → ℕ = λ row. row_weight db (named row) in

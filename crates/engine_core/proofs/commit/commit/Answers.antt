@@ -3,7 +3,7 @@ use Rattle.std.specs.Prelude.{Option}
 use Rattle.own_model.specs.declared.history.Verdict.TheVariants.{Took}
 use Rattle.own_model.specs.declared.refusal.Refusal.{Refusal}
 use Rattle.own_model.specs.Db.{Db}
-use Rattle.state_model.specs.Settle.{settle}
+use Rattle.state_model.specs.CommitRefusal.{commit_refusal}
 use Rattle.history_model.specs.Reply.{changes, committing}
 use Rattle.engine_core.specs.Answered.{Tells}
 use Rattle.engine_core.specs.Changed.{changed}
@@ -25,6 +25,6 @@ pub returns-in-Ok-clause-tells : goal.returns-in-Ok-clause-tells
 returns-in-Ok-clause-tells c =
     let db = c.args.version.now in
     let next = c.in_ok-next.next in
-    let told = c.settled.ensures.tells db (changes db next) in
-    let settled = subst (λ (cause : Option Refusal). Tells db (committing Took (changes db next) cause c.args.reply) next c.settled.result) c.cause_of-cause.ensures told in
-    subst (λ (next : Db). Tells db (committing Took (changes db next) (settle db next) c.args.reply) next c.settled.result) c.in_ok-next.ensures settled
+    let told = c.decided.ensures.tells db (changes db next) in
+    let decided = subst (λ (cause : Option Refusal). Tells db (committing Took (changes db next) cause c.args.reply) next c.decided.result) c.cause_of-cause.ensures told in
+    subst (λ (next : Db). Tells db (committing Took (changes db next) (commit_refusal db next) c.args.reply) next c.decided.result) c.in_ok-next.ensures decided

@@ -1,13 +1,8 @@
-use Rattle.std.proofs.lemmas.Result.{IfOk-weaker}
 use Rattle.state_model.proofs.CreatedSchema.{owner_schema-created, within-created}
-use Rattle.engine_core.proofs.NoCreates.{judged-same}
 use Rattle.engine_core.proofs.commit.judged.Goals as goal
 
-pub judge_flat-requires-clause-limits : goal.judge_flat-requires-clause-limits
-judge_flat-requires-clause-limits c = within-created c.args.next.now c.requires.created
+pub judge-requires-clause-limits : goal.judge-requires-clause-limits
+judge-requires-clause-limits c = rw c.version-after.ensures (within-created c.args.next.now c.requires.created)
 
-pub judge_flat-requires-clause-owner : goal.judge_flat-requires-clause-owner
-judge_flat-requires-clause-owner c = owner_schema-created c.args.next.now c.requires.created
-
-pub returns : goal.returns
-returns c = IfOk-weaker c.judge_flat.result _ _ (λ judged is. judged-same c.args.next.now judged is) c.judge_flat.ensures
+pub judge-requires-clause-owner : goal.judge-requires-clause-owner
+judge-requires-clause-owner c = rw c.version-after.ensures (owner_schema-created c.args.next.now c.requires.created)

@@ -1,5 +1,5 @@
 use Rattle.std.proofs.Common.{◌∙◌, rules}
-use Rattle.engine_core.proofs.Standing.{made-of}
+use Rattle.engine_core.proofs.RepresentsLemmas.{made-of}
 use Rattle.engine_core.proofs.engine.make.Goals as goal
 
 pub returns-in-Ok-clause-made : goal.returns-in-Ok-clause-made

@@ -1,7 +1,7 @@
 use Rattle.std.proofs.Common.{◌∙◌, ap}
 use Rattle.state_model.specs.Weight.{weight}
 use Rattle.engine_core.proofs.Judged.{weight-empty}
-use Rattle.engine_core.proofs.Standing.{stands-none}
+use Rattle.engine_core.proofs.RepresentsLemmas.{stands-none}
 use Rattle.engine_core.proofs.engine.opened.Goals as goal
 
 -- nothing was made yet, and weighs nothing

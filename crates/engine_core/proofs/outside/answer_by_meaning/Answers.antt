@@ -2,7 +2,7 @@ use Rattle.std.proofs.Common.{subst}
 use Rattle.std.proofs.lemmas.Result.{IfOk-weaker}
 use Rattle.own_model.specs.declared.request.Request.TheVariants.{Run}
 use Rattle.own_model.specs.Db.{empty}
-use Rattle.state_model.specs.Sound.{IsKept}
+use Rattle.state_model.specs.Sound.{IsWellFormed}
 use Rattle.state_model.proofs.CreatedSchema.{views_within-created}
 use Rattle.readable_model.proofs.Within.{statement_within}
 use Rattle.run_model.specs.Run.{Outcome}
@@ -26,7 +26,7 @@ pub answer_meant-answer-requires-clause-kept : goal.answer_meant-answer-requires
 answer_meant-answer-requires-clause-kept c =
     let db = c.args.state.now.version in
     let is = rw (c.schema.ensures.same, c.catalog.ensures.schema) at c.in-Ok.ensures.ok in
-    subst (λ (outcome : Outcome). IsKept outcome.db) (run-bound db c.args.statement.now c.in-Ok.bound c.requires.bound is)
+    subst (λ (outcome : Outcome). IsWellFormed outcome.db) (run-bound db c.args.statement.now c.in-Ok.bound c.requires.bound is)
     (kept-run db c.requires.sound.kept c.args.statement.now c.requires.written)
 
 -- it is answered and runs as what it means

@@ -13,14 +13,14 @@ erase_changes-requires-clause-owner c = owner_schema-created c.args.version.now 
 pub forgotten-reply-requires : goal.forgotten-reply-requires
 forgotten-reply-requires c =
     let db = c.args.version.now in
-    rw c.items-3.ensures (few-erased db c.args.subject.now.0 c.in_ok-changes.changes c.requires.sound.faultless (c.in_ok-changes.ensures.plan db.creates))
+    rw c.items-3.ensures (few-erased db c.args.subject.now.0 c.in_ok-changes.changes c.requires.sound.faultless c.in_ok-changes.ensures.plan)
 
-pub judged-requires : goal.judged-requires
-judged-requires c =
+pub weighed-requires : goal.weighed-requires
+weighed-requires c =
     let db = c.args.version.now in
     let subject = c.args.subject.now.0 in
-    let is = planned-next db c.in_ok-next.next subject c.items-2.result.now c.in_ok-changes.changes c.in_ok-next.ensures c.items-2.ensures (c.in_ok-changes.ensures.applied db.creates) in
-    (erased-sound db c.in_ok-next.next subject c.requires.subject c.requires.sound is).kept
+    let is = planned-next db c.in_ok-next.next subject c.items-2.result.now c.in_ok-changes.changes c.in_ok-next.ensures c.items-2.ensures c.in_ok-changes.ensures.applied in
+    erased-sound db c.in_ok-next.next subject c.requires.subject c.requires.sound is
 
 -- it is told with its counts
 told : goal.returns-in-Ok-clause-tells
@@ -28,12 +28,12 @@ told c =
     let db = c.args.version.now in
     let subject = c.args.subject.now.0 in
     let next = c.in_ok-next.next in
-    let is = planned-next db next subject c.items-2.result.now c.in_ok-changes.changes c.in_ok-next.ensures c.items-2.ensures (c.in_ok-changes.ensures.applied db.creates) in
+    let is = planned-next db next subject c.items-2.result.now c.in_ok-changes.changes c.in_ok-next.ensures c.items-2.ensures c.in_ok-changes.ensures.applied in
     let sound = erased-sound db next subject c.requires.subject c.requires.sound is in
     let there = lent-there db subject c.row.result c.row.ensures c.if-is_none.ensures in
     let counted = rw c.items-3.ensures at c.forgotten-reply.ensures in
-    tells-erasing db _ _ c.settled.result c.erasing.result c.erasing.ensures.reply c.erasing.ensures.next
-    (tells-forgotten db next subject c.in_ok-changes.changes c.forgotten-reply.result c.settled.result there is sound.faultless (c.in_ok-changes.ensures.plan db.creates) counted (c.settled.ensures.tells db true))
+    tells-erasing db _ _ c.decided.result c.erasing.result c.erasing.ensures.reply c.erasing.ensures.next
+    (tells-forgotten db next subject c.in_ok-changes.changes c.forgotten-reply.result c.decided.result there is sound.faultless c.in_ok-changes.ensures.plan counted (c.decided.ensures.tells db true))
 
 pub returns-in-Ok-clause-tells : goal.returns-in-Ok-clause-tells
 returns-in-Ok-clause-tells c = told c
@@ -43,6 +43,6 @@ pub returns-in-Ok-clause-erases : goal.returns-in-Ok-clause-erases
 returns-in-Ok-clause-erases c =
     let db = c.args.version.now in
     let there = lent-there db c.args.subject.now.0 c.row.result c.row.ensures c.if-is_none.ensures in
-    erases-forgotten db c.args.subject.now c.in_ok-changes.changes c.in_ok-names.names c.erasing.result (c.in_ok-changes.ensures.plan db.creates)
+    erases-forgotten db c.args.subject.now c.in_ok-changes.changes c.in_ok-names.names c.erasing.result c.in_ok-changes.ensures.plan
     (rw c.items.ensures at c.in_ok-names.ensures) c.erasing.ensures.erased
     (forgot-accepted db _ c.args.subject.now.0 c.erasing.result there (told c))

@@ -18,17 +18,17 @@ returns-clause-free c =
     (λ pair is. free-kept c.args.state.now (world empty c.args.history.now) c.requires.stands c.args.session.0 c.args.bound.now is.0) c.single.ensures.ok
 
 pub returns-clause-reply : goal.returns-clause-reply
-returns-clause-reply c = IfOk-weaker c.single.result _ _ (λ pair is. (is.1 c.args.state.now.version.creates).told) c.single.ensures.ok
+returns-clause-reply c = IfOk-weaker c.single.result _ _ (λ pair is. is.1.told) c.single.ensures.ok
 
 pub returns-clause-net : goal.returns-clause-net
 returns-clause-net c =
-    IfOk-weaker c.single.result _ _ (λ pair is. net-changed c.args.state.now.version c.args.bound.now pair.0 pair.1 (is.1 c.args.state.now.version.creates)) c.single.ensures.ok
+    IfOk-weaker c.single.result _ _ (λ pair is. net-changed c.args.state.now.version c.args.bound.now pair.0 pair.1 is.1) c.single.ensures.ok
 
 pub returns-clause-left : goal.returns-clause-left
 returns-clause-left c =
-    IfOk-weaker c.single.result _ _ (λ pair is. left-changed c.args.state.now.version c.args.bound.now pair.0 pair.1 (is.1 c.args.state.now.version.creates)) c.single.ensures.ok
+    IfOk-weaker c.single.result _ _ (λ pair is. left-changed c.args.state.now.version c.args.bound.now pair.0 pair.1 is.1) c.single.ensures.ok
 
 pub returns-clause-refused : goal.returns-clause-refused
 returns-clause-refused c =
     IfErr-weaker c.single.result _ _
-    (λ why is other. refused-kept c.args.state.now (world empty c.args.history.now) c.requires.stands c.args.session.0 c.args.bound.now why (is other c.args.state.now.version.creates)) c.single.ensures.err
+    (λ why is other. refused-kept c.args.state.now (world empty c.args.history.now) c.requires.stands c.args.session.0 c.args.bound.now why (is other)) c.single.ensures.err

@@ -11,7 +11,7 @@ use Rattle.owner_sets.proofs.edges.links.Goals as goal
 -- what the edge joins to one row more is there
 pub loop-at-preserved : goal.loop-at-preserved
 loop-at-preserved g c =
-    let f : ℕ → List Link = λ place. option_to_list (link_at (g.V.StoreView.schema_of c.args.view.now) (g.V.StoreView.rows c.args.view.now) c.args.edge.now place) in
+    let f : ℕ → List Link = λ place. option_to_list (link_at (g.V.StoreView.db c.args.view.now).schema (g.V.StoreView.db c.args.view.now).rows c.args.edge.now place) in
     c.in_ok-add_link.ensures
     ∙ (ap (λ items. items ++ option_to_list c.link_at-link.result) c.loop-at.invariant
     ∙ (ap (λ more. flat_map f (range_with_len 0 c.loop-at.at) ++ option_to_list more) c.link_at-link.ensures
@@ -20,6 +20,6 @@ loop-at-preserved g c =
 pub returns : goal.returns
 unfolding links
 returns g c =
-    let f : ℕ → List Link = λ place. option_to_list (link_at (g.V.StoreView.schema_of c.args.view.now) (g.V.StoreView.rows c.args.view.now) c.args.edge.now place) in
-    let all : c.loop-at.at ≡ length (rows_at (g.V.StoreView.rows c.args.view.now) c.args.edge.now.holder.0) = omega (arith, c.count-at-end.ensures, c.loop-at.auto.at-end) in
+    let f : ℕ → List Link = λ place. option_to_list (link_at (g.V.StoreView.db c.args.view.now).schema (g.V.StoreView.db c.args.view.now).rows c.args.edge.now place) in
+    let all : c.loop-at.at ≡ length (rows_at (g.V.StoreView.db c.args.view.now).rows c.args.edge.now.holder.0) = omega (arith, c.count-at-end.ensures, c.loop-at.auto.at-end) in
     c.loop-at.invariant ∙ ap (λ n. flat_map f (range_with_len 0 n)) all

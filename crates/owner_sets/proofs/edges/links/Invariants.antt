@@ -7,4 +7,4 @@ use Rattle.owner_sets.proofs.edges.links.Given as goal
 -- the rows before the place are gone through
 abbrev pub invariant-loop-at : goal.invariant-loop-at
 invariant-loop-at g l =
-    l.found.items ≡ flat_map (λ place. option_to_list (link_at (g.V.StoreView.schema_of l.view) (g.V.StoreView.rows l.view) l.edge place)) (range_with_len 0 l.at)
+    l.found.items ≡ flat_map (λ place. option_to_list (link_at (g.V.StoreView.db l.view).schema (g.V.StoreView.db l.view).rows l.edge place)) (range_with_len 0 l.at)

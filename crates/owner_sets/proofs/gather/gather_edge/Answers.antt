@@ -10,8 +10,8 @@ use Rattle.owner_sets.proofs.gather.gather_edge.Goals as goal
 pub returns : goal.returns
 unfolding over_edge
 returns g c =
-    let schema = g.V.StoreView.schema_of c.args.view.now in
-    let rows = g.V.StoreView.rows c.args.view.now in
+    let schema = (g.V.StoreView.db c.args.view.now).schema in
+    let rows = (g.V.StoreView.db c.args.view.now).rows in
     let all : take c.loop-link.link-index c.deref-link-items.result.now ≡ links schema rows c.args.edge.now =
     take_all c.loop-link.link-index c.deref-link-items.result.now c.loop-link-test.false ∙ (c.deref-link-items.ensures.value ∙ c.in_ok-links.ensures) in
     subst (λ (found : List Link). HasMore (λ place. flat_map (over_link schema rows c.args.done.now c.args.edge.now place) found) c.args.gathered.now.items c.loop-link.gathered.items) all

@@ -9,8 +9,8 @@ use Rattle.owner_sets.proofs.gather.gathered.Goals as goal
 pub returns : goal.returns
 unfolding gathered
 returns g c = λ place within.
-    let schema = g.V.StoreView.schema_of c.args.view.now in
-    let rows = g.V.StoreView.rows c.args.view.now in
+    let schema = (g.V.StoreView.db c.args.view.now).schema in
+    let rows = (g.V.StoreView.db c.args.view.now).rows in
     let count = length (rows_at rows c.args.table.0) in
     let own = own_set schema rows c.args.table.0 in
     let first : c.in_ok-lists.lists.items ≡ map own (range_with_len 0 count) = c.in_ok-lists.ensures in

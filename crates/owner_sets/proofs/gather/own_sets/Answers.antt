@@ -5,5 +5,5 @@ use Rattle.owner_sets.proofs.gather.own_sets.Goals as goal
 
 pub loop-at-preserved : goal.loop-at-preserved
 loop-at-preserved g c =
-    let own = own_set (g.V.StoreView.schema_of c.args.view.now) (g.V.StoreView.rows c.args.view.now) c.args.table.0 in
+    let own = own_set (g.V.StoreView.db c.args.view.now).schema (g.V.StoreView.db c.args.view.now).rows c.args.table.0 in
     rw (map-range_with_len_more own 0 c.loop-at.at c.loop-at.at (omega arith), ← c.loop-at.invariant, ← c.in_ok-own_set.ensures) c.in_ok-push.ensures.items

@@ -11,24 +11,26 @@ use Rattle.owner_sets.proofs.leading.leading.Goals as goal
 
 pub loop-edge-init : goal.loop-edge-init
 loop-edge-init g c =
-    edges-none (g.V.StoreView.schema_of c.args.view.now) (g.V.StoreView.rows c.args.view.now) c.args.reach.now c.args.subject.now c.args.table.0 c.in_ok-lists.lists.items
+    edges-none (g.V.StoreView.db c.args.view.now).schema (g.V.StoreView.db c.args.view.now).rows c.args.reach.now c.args.subject.now c.args.table.0 c.in_ok-lists.lists.items
 
 -- the next edge is one of the schema's
-pub add_edge-requires-clause-within : goal.add_edge-requires-clause-within
-add_edge-requires-clause-within g c =
-    edge_within-at (g.V.StoreView.schema_of c.args.view.now) c.items-edge-items.result.now c.loop-edge.edge-index _ c.requires.owner
-    (c.items-edge-items.ensures ∙ ap (λ (s : Schema). s.edges) c.schema.ensures) c.loop-edge-test.true
+pub add_edge-requires : goal.add_edge-requires
+add_edge-requires g c = record {
+  within =
+      edge_within-at (g.V.StoreView.db c.args.view.now).schema c.items-edge-items.result.now c.loop-edge.edge-index _ c.requires.owner
+      (c.items-edge-items.ensures ∙ ap (λ (s : Schema). s.edges) c.schema.ensures) c.loop-edge-test.true;
+}
 
 pub loop-edge-preserved : goal.loop-edge-preserved
 loop-edge-preserved g c =
-    edges-more (g.V.StoreView.schema_of c.args.view.now) (g.V.StoreView.rows c.args.view.now) c.args.reach.now c.args.subject.now c.args.table.0 c.items-edge-items.result.now
+    edges-more (g.V.StoreView.db c.args.view.now).schema (g.V.StoreView.db c.args.view.now).rows c.args.reach.now c.args.subject.now c.args.table.0 c.items-edge-items.result.now
     c.loop-edge.edge-index _ c.in_ok-lists.lists.items c.loop-edge.lists.items c.add_edge.new.lists.items c.loop-edge-test.true c.loop-edge.invariant c.in_ok-add_edge.ensures
 
 -- all edges are gone through, and none was listed before
 pub returns : goal.returns
 returns g c = λ place within.
-    let schema = g.V.StoreView.schema_of c.args.view.now in
-    let rows = g.V.StoreView.rows c.args.view.now in
+    let schema = (g.V.StoreView.db c.args.view.now).schema in
+    let rows = (g.V.StoreView.db c.args.view.now).rows in
     let count = length (rows_at rows c.args.table.0) in
     let own : List Edge → List EdgeNo = λ edges. leading schema rows c.args.reach.now c.args.subject.now c.args.table.0 edges place in
     let first : c.in_ok-lists.lists.items ≡ replicate count [] = c.in_ok-lists.ensures ∙ ap (λ n. replicate n []) c.count.ensures in

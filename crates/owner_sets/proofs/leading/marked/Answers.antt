@@ -13,8 +13,8 @@ use Rattle.owner_sets.proofs.leading.marked.Goals as goal
 pub returns-clause-each : goal.returns-clause-each
 unfolding over_edge
 returns-clause-each g c = λ place within.
-    let schema = g.V.StoreView.schema_of c.args.view.now in
-    let rows = g.V.StoreView.rows c.args.view.now in
+    let schema = (g.V.StoreView.db c.args.view.now).schema in
+    let rows = (g.V.StoreView.db c.args.view.now).rows in
     let first : c.in_ok-marks.marks.items ≡ replicate c.args.rows false = c.in_ok-marks.ensures.items_if_clones_equal (λ y same. same) in
     let there : place < length c.in_ok-marks.marks.items = omega (arith, ap length first, length-replicate c.args.rows false) in
     let unmarked : get_or c.in_ok-marks.marks.items place false ≡ false = ap (λ marks. get_or marks place false) first ∙ get_or-replicate c.args.rows place false false within in

@@ -4,7 +4,7 @@ use Rattle.std.proofs.lemmas.Option.{slice_get-get_or}
 use Rattle.own_base.specs.declared.number.TableNo.{TableNo}
 use Rattle.own_model.specs.declared.schema.Edge.{Edge}
 use Rattle.owner_model.specs.GraphOrder.{IsGraphOrder}
-use Rattle.owner_sets.specs.Sets.{AreSetsOf, AreSetsOfTable, Sets, db_of}
+use Rattle.owner_sets.specs.Sets.{AreSetsOf, AreSetsOfTable, Sets}
 use Rattle.owner_sets.specs.WhichSets.{listed}
 use Rattle.owner_sets.proofs.InOrder.{Done-above, Done-end, Done-more, order_within}
 use Rattle.owner_sets.proofs.sets.sets_of.Goals as goal
@@ -12,7 +12,7 @@ use Rattle.owner_sets.proofs.sets.sets_of.Goals as goal
 -- the next table is there
 pub table_sets-requires-clause-there : goal.table_sets-requires-clause-there
 table_sets-requires-clause-there g c =
-    let schema = g.V.StoreView.schema_of c.args.view.now in
+    let schema = (g.V.StoreView.db c.args.view.now).schema in
     let order = c.order-table-items.result.now in
     let graph : IsGraphOrder (length schema.tables) schema.edges order = subst (IsGraphOrder (length schema.tables) schema.edges) (sym c.order-table-items.ensures) c.requires.graph.ordered in
     order_within (length schema.tables) schema.edges order graph c.loop-table.table-index _ (slice_get-get_or order c.loop-table.table-index (record { 0 = 0 }) c.loop-table-test.true)
@@ -20,8 +20,8 @@ table_sets-requires-clause-there g c =
 -- and those above it have their sets
 pub table_sets-requires-clause-above : goal.table_sets-requires-clause-above
 table_sets-requires-clause-above g c = λ edge among.
-    let schema = g.V.StoreView.schema_of c.args.view.now in
-    let db = db_of schema (g.V.StoreView.rows c.args.view.now) in
+    let schema = (g.V.StoreView.db c.args.view.now).schema in
+    let db = g.V.StoreView.db c.args.view.now in
     let order = c.order-table-items.result.now in
     let graph : IsGraphOrder (length schema.tables) schema.edges order = subst (IsGraphOrder (length schema.tables) schema.edges) (sym c.order-table-items.ensures) c.requires.graph.ordered in
     let table : TableNo = get_or order c.loop-table.table-index (record { 0 = 0 }) in
@@ -32,7 +32,7 @@ table_sets-requires-clause-above g c = λ edge among.
 
 pub index_mut-requires : goal.index_mut-requires
 index_mut-requires g c =
-    let schema = g.V.StoreView.schema_of c.args.view.now in
+    let schema = (g.V.StoreView.db c.args.view.now).schema in
     let order = c.order-table-items.result.now in
     let graph : IsGraphOrder (length schema.tables) schema.edges order = subst (IsGraphOrder (length schema.tables) schema.edges) (sym c.order-table-items.ensures) c.requires.graph.ordered in
     let there = order_within (length schema.tables) schema.edges order graph c.loop-table.table-index _ (slice_get-get_or order c.loop-table.table-index (record { 0 = 0 }) c.loop-table-test.true) in
@@ -41,8 +41,8 @@ index_mut-requires g c =
 -- one table more has them
 pub loop-table-preserved : goal.loop-table-preserved
 loop-table-preserved g c =
-    let schema = g.V.StoreView.schema_of c.args.view.now in
-    let db = db_of schema (g.V.StoreView.rows c.args.view.now) in
+    let schema = (g.V.StoreView.db c.args.view.now).schema in
+    let db = g.V.StoreView.db c.args.view.now in
     let order = c.order-table-items.result.now in
     let graph : IsGraphOrder (length schema.tables) schema.edges order = subst (IsGraphOrder (length schema.tables) schema.edges) (sym c.order-table-items.ensures) c.requires.graph.ordered in
     Done-more db (listed c.args.which db) order graph c.loop-table.table-index c.loop-table.sets.items _ (get_or order c.loop-table.table-index (record { 0 = 0 })) c.in_ok-done.done c.loop-table.invariant
@@ -50,8 +50,8 @@ loop-table-preserved g c =
 
 pub returns : goal.returns
 returns g c =
-    let schema = g.V.StoreView.schema_of c.args.view.now in
-    let db = db_of schema (g.V.StoreView.rows c.args.view.now) in
+    let schema = (g.V.StoreView.db c.args.view.now).schema in
+    let db = g.V.StoreView.db c.args.view.now in
     let order = c.order-table-items.result.now in
     let graph : IsGraphOrder (length schema.tables) schema.edges order = subst (IsGraphOrder (length schema.tables) schema.edges) (sym c.order-table-items.ensures) c.requires.graph.ordered in
     subst (AreSetsOf db (listed c.args.which db)) (sym c.from_vec.ensures)

@@ -5,4 +5,4 @@ use Rattle.query_eval.proofs.grouping.group.Goals as goal
 
 pub grouped_reply-requires : goal.grouped_reply-requires
 grouped_reply-requires g c =
-    kept-stored (keeps (option_copied c.as_ref.result)) (g.V.StoreView.rows c.args.view.now) c.args.query.now.source c.in_ok-kept.kept c.requires.tables.stored c.in_ok-kept.ensures
+    kept-stored (keeps (option_copied c.as_ref.result)) (g.V.StoreView.db c.args.view.now).rows c.args.query.now.source c.in_ok-kept.kept c.requires.tables.stored c.in_ok-kept.ensures

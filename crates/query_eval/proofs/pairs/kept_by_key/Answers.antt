@@ -10,17 +10,17 @@ use Rattle.query_eval.proofs.pairs.kept_by_key.Goals as goal
 -- A row of the left table holds no sums.
 pub meeting_row-requires-clause-stored : goal.meeting_row-requires-clause-stored
 meeting_row-requires-clause-stored g c =
-    let stored = stored_at (g.V.StoreView.rows c.args.view.now) c.args.tables.left.0 c.requires.tables.stored in
+    let stored = stored_at (g.V.StoreView.db c.args.view.now).rows c.args.tables.left.0 c.requires.tables.stored in
     let whole = rw c.in-Some.ensures.steps at c.loop-left.invariant.1 in
-    let rest = rows_left c.next.new.self.run.now c.next.new.self.behind (rows_at (g.V.StoreView.rows c.next.new.self.view.now) c.next.new.self.table.0) in
-    let lefts = rows_at (g.V.StoreView.rows c.args.view.now) c.args.tables.left.0 in
+    let rest = rows_left c.next.new.self.run.now c.next.new.self.behind (rows_at (g.V.StoreView.db c.next.new.self.view.now).rows c.next.new.self.table.0) in
+    let lefts = rows_at (g.V.StoreView.db c.args.view.now).rows c.args.tables.left.0 in
     rw (c.cell-value.ensures) (stored_cell c.args.tables.left_column.0 c.in-Some.left.now (next-stored c.loop-left.invariant.0 c.in-Some.left.now rest lefts whole stored))
 
 -- A row more is gone through, with the row that it meets.
 pub loop-left-preserved : goal.loop-left-preserved
 loop-left-preserved g c =
     let gone = c.loop-left.invariant in
-    let rights = rows_at (g.V.StoreView.rows c.args.view.now) c.args.tables.right.0 in
+    let rights = rows_at (g.V.StoreView.db c.args.view.now).rows c.args.tables.right.0 in
     let met = rw c.cell-value.ensures at c.in_ok-right.ensures in (
       gone.0 ++ c.in-Some.left.now ∷ [],
       rw (append_assoc, ← c.in-Some.ensures.steps) gone.1,

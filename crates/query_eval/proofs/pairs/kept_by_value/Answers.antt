@@ -9,7 +9,7 @@ use Rattle.query_eval.proofs.pairs.kept_by_value.Goals as goal
 pub loop-left-preserved : goal.loop-left-preserved
 loop-left-preserved g c =
     let gone = c.loop-left.invariant in
-    let rights = rows_at (g.V.StoreView.rows c.args.view.now) c.args.tables.right.0 in
+    let rights = rows_at (g.V.StoreView.db c.args.view.now).rows c.args.tables.right.0 in
     let index = c.in_ok-index.ensures in
     let met = rw (c.cell.ensures, index.column) at (c.meeting-rights.ensures rights (rw (index.column) index.rows)) in (
       gone.0 ++ c.in-Some.left.now ∷ [],

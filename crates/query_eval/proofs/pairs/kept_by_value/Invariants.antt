@@ -12,5 +12,5 @@ use Rattle.query_eval.proofs.pairs.kept_by_value.Given as goal
 abbrev pub invariant-loop-left : goal.invariant-loop-left
 invariant-loop-left g l =
     (gone : List Row)
-    × (gone ++ rows_left l.left-iterator.run.now l.left-iterator.behind (rows_at (g.V.StoreView.rows l.left-iterator.view.now) l.left-iterator.table.0) ≡ rows_at (g.V.StoreView.rows l.fn.view) l.fn.tables.left.0)
-    × (l.kept ≡ filter (keeps (option_copied l.fn.cond)) (joined l.fn.tables.left_column.0 l.fn.tables.right_column.0 gone (rows_at (g.V.StoreView.rows l.fn.view) l.fn.tables.right.0)))
+    × (gone ++ rows_left l.left-iterator.run.now l.left-iterator.behind (rows_at (g.V.StoreView.db l.left-iterator.view.now).rows l.left-iterator.table.0) ≡ rows_at (g.V.StoreView.db l.fn.view).rows l.fn.tables.left.0)
+    × (l.kept ≡ filter (keeps (option_copied l.fn.cond)) (joined l.fn.tables.left_column.0 l.fn.tables.right_column.0 gone (rows_at (g.V.StoreView.db l.fn.view).rows l.fn.tables.right.0)))

@@ -5,4 +5,4 @@ use Rattle.query_eval.proofs.views.view_rows.Goals as goal
 
 pub grouped_rows-requires : goal.grouped_rows-requires
 grouped_rows-requires g c =
-    kept-stored (keeps (option_copied c.as_ref.result)) (g.V.StoreView.rows c.args.view.now) c.args.definition.now.query.source c.in_ok-kept.kept c.requires.tables.stored c.in_ok-kept.ensures
+    kept-stored (keeps (option_copied c.as_ref.result)) (g.V.StoreView.db c.args.view.now).rows c.args.definition.now.query.source c.in_ok-kept.kept c.requires.tables.stored c.in_ok-kept.ensures

@@ -7,4 +7,4 @@ use Rattle.sql_print.proofs.condition.+condition.Given as goal
 
 -- the parts so far are written
 abbrev pub invariant-push_parts-loop-part : goal.invariant-push_parts-loop-part
-invariant-push_parts-loop-part l = l.draft ≡ l.initial.draft ++ flat_map (λ part. after_spaces (separator_of l.within ∷ part_words l.within (written part))) (take l.part-index l.rest)
+invariant-push_parts-loop-part l = l.buffer ≡ l.initial.buffer ++ flat_map (λ part. after_spaces (separator_of l.within ∷ part_words l.within (written part))) (take l.part-index l.rest)

@@ -16,11 +16,11 @@ loop-at-preserved c =
     record {
       is_text = parts.texts.1;
       same = ap (λ l. l ++ doubled back) (c.in_ok-push-2.ensures ∙ ap (λ l. l ++ 39 ∷ 39 ∷ []) c.in_ok-push.ensures)
-          ∙ one_more_piece double_quote c.loop-at.draft front back c.loop-at.rest.now _ 39 c.loop-at.invariant.same (parts.whole ∙ ap (λ byte. front ++ byte ∷ back) quote) (no_quote-same front plain);
+          ∙ one_more_piece double_quote c.loop-at.buffer front back c.loop-at.rest.now _ 39 c.loop-at.invariant.same (parts.whole ∙ ap (λ byte. front ++ byte ∷ back) quote) (no_quote-same front plain);
     }
 
 -- no quote comes any more
 pub returns : goal.returns
 returns c =
     let plain : All (λ byte. byte ≢ 39) c.loop-at.rest.now = subst (All (λ byte. byte ≢ 39)) c.as_bytes.ensures.value c.in_default.ensures.none in
-    on_ok_weaker c.push-2.result (λ written. written ∙ last_piece double_quote c.loop-at.draft c.loop-at.rest.now _ c.loop-at.invariant.same (no_quote-same c.loop-at.rest.now plain)) c.push-2.ensures
+    on_ok_weaker c.push-2.result (λ written. written ∙ last_piece double_quote c.loop-at.buffer c.loop-at.rest.now _ c.loop-at.invariant.same (no_quote-same c.loop-at.rest.now plain)) c.push-2.ensures

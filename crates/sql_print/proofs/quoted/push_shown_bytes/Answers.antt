@@ -18,11 +18,11 @@ loop-at-preserved c =
     record {
       is_text = parts.texts.1;
       same = ap (λ l. l ++ flat_map shown_byte back) (c.in_ok-push_escape.ensures ∙ ap (λ l. l ++ shown_byte byte) c.in_ok-push.ensures)
-          ∙ one_more_piece shown_byte c.loop-at.draft front back c.loop-at.rest.now _ byte c.loop-at.invariant.same (parts.whole ∙ ap (λ byte. front ++ byte ∷ back) same) (no_escape-same front plain);
+          ∙ one_more_piece shown_byte c.loop-at.buffer front back c.loop-at.rest.now _ byte c.loop-at.invariant.same (parts.whole ∙ ap (λ byte. front ++ byte ∷ back) same) (no_escape-same front plain);
     }
 
 -- no byte to escape comes any more
 pub returns : goal.returns
 returns c =
     let plain : All (λ byte. is_escaped byte ≡ false) c.loop-at.rest.now = subst (All (λ byte. is_escaped byte ≡ false)) c.as_bytes.ensures.value c.in_default.ensures.none in
-    on_ok_weaker c.push-2.result (λ written. written ∙ last_piece shown_byte c.loop-at.draft c.loop-at.rest.now _ c.loop-at.invariant.same (no_escape-same c.loop-at.rest.now plain)) c.push-2.ensures
+    on_ok_weaker c.push-2.result (λ written. written ∙ last_piece shown_byte c.loop-at.buffer c.loop-at.rest.now _ c.loop-at.invariant.same (no_escape-same c.loop-at.rest.now plain)) c.push-2.ensures

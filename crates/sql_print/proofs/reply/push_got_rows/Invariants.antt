@@ -5,4 +5,4 @@ use Rattle.sql_print.proofs.reply.push_got_rows.Given as goal
 
 -- the lines so far are written
 abbrev pub invariant-loop-row : goal.invariant-loop-row
-invariant-loop-row l = l.draft ≡ l.initial.draft ++ flat_map got_line (take l.row-index l.rows)
+invariant-loop-row l = l.buffer ≡ l.initial.buffer ++ flat_map got_line (take l.row-index l.rows)

@@ -5,4 +5,4 @@ use Rattle.sql_print.proofs.reply.push_lines.Given as goal
 
 -- the lines so far are written
 abbrev pub invariant-loop-line : goal.invariant-loop-line
-invariant-loop-line l = l.draft ≡ l.initial.draft ++ flat_map line_below (take l.line-index l.lines)
+invariant-loop-line l = l.buffer ≡ l.initial.buffer ++ flat_map line_below (take l.line-index l.lines)

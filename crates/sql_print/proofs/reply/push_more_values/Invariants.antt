@@ -5,4 +5,4 @@ use Rattle.sql_print.proofs.reply.push_more_values.Given as goal
 
 -- the values so far are written
 abbrev pub invariant-loop-value : goal.invariant-loop-value
-invariant-loop-value l = l.draft ≡ l.initial.draft ++ flat_map (λ value. 124 ∷ shown_value value) (take l.value-index l.values)
+invariant-loop-value l = l.buffer ≡ l.initial.buffer ++ flat_map (λ value. 124 ∷ shown_value value) (take l.value-index l.values)

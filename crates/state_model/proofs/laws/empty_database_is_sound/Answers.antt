@@ -1,5 +1,5 @@
 use Rattle.state_model.proofs.CreatedLemmas.{created-empty}
-use Rattle.state_model.proofs.KeptLemmas.{sound-empty}
+use Rattle.state_model.proofs.WellFormedLemmas.{sound-empty}
 use Rattle.state_model.proofs.laws.empty_database_is_sound.Goals as goal
 
 pub returns : goal.returns

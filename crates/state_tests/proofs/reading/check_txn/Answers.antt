@@ -19,4 +19,4 @@ pub changes-requires-clause-base : goal.changes-requires-clause-base
 changes-requires-clause-base g c = base c.args.version.now c.requires.sound
 
 pub changes-requires-clause-space : goal.changes-requires-clause-space
-changes-requires-clause-space g c = (c.in_ok-reply.ensures.ran c.args.version.now.creates).sound
+changes-requires-clause-space g c = c.in_ok-reply.ensures.ran.sound

@@ -1,6 +1,4 @@
-use Rattle.std.proofs.lemmas.Result.{IfOk-weaker}
 use Rattle.state_model.proofs.CreatedSchema.{owner_schema-created, within-created}
-use Rattle.engine_core.proofs.NoCreates.{judged-same}
 use Rattle.state_tests.proofs.store.judged_now.Goals as goal
 
 pub judge_flat-requires-clause-limits : goal.judge_flat-requires-clause-limits
@@ -8,6 +6,3 @@ judge_flat-requires-clause-limits c = within-created c.args.version.now c.requir
 
 pub judge_flat-requires-clause-owner : goal.judge_flat-requires-clause-owner
 judge_flat-requires-clause-owner c = owner_schema-created c.args.version.now c.requires.created
-
-pub returns : goal.returns
-returns c = IfOk-weaker c.judge_flat.result _ _ (λ judged is. judged-same c.args.version.now judged is) c.judge_flat.ensures

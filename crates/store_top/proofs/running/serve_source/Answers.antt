@@ -1,43 +1,32 @@
-use Rattle.std.proofs.Common.{arith}
-use Rattle.store_top.proofs.Runs.{run_whole, run_in_part, run_out_of_memory, run_short, refuses_input}
+use Rattle.std.proofs.Common.{arith, refl}
+use Rattle.store_top.proofs.RanLemmas.{ran-out_of_memory, ran-served, ran-unread, reads-fewer}
 use Rattle.store_top.proofs.running.serve_source.Goals as goal
 
-pub returns-in-Ok-clause-whole : goal.returns-in-Ok-clause-whole
-returns-in-Ok-clause-whole g c =
-    let bytes = c.deref.result.now in
+-- the input was read
+pub returns-in-Ok-clause-ran : goal.returns-in-Ok-clause-ran
+returns-in-Ok-clause-ran g c =
+    let source = g.R.Source in
+    let sink = g.W.Sink in
     let read = rw (← c.deref.ensures.value) at c.in-Ok.ensures.read in
-    run_whole (g.R.Source.remaining c.args.source.now) (g.R.Source.remaining c.read_all.new.source) (g.W.Sink.written c.args.sink.now)
-    (g.W.Sink.written c.serve_bytes.new.sink) bytes c.serve_bytes.result.history _ _ c.serve_bytes.result.fault c.serve_bytes.ensures.served read
-    (λ short. c.in-Ok.ensures.end (omega (arith, c.deref.ensures.len)))
+    ran-served source.remaining source.faults source.fails sink.written sink.faults sink.fails c.args.source.now c.read_all.new.source c.args.sink.now c.serve_bytes.new.sink
+    c.serve_bytes.result.history c.deref.result.now c.serve_bytes.result.fault c.serve_bytes.ensures.served read
+    (λ short. c.in-Ok.ensures.end (omega (arith, c.deref.ensures.len))) (omega (arith, c.deref.ensures.len, c.in-Ok.ensures.within))
+    (c.in-Ok.ensures.steady (λ failed. cc)) c.serve_bytes.ensures.steady c.serve_bytes.ensures.serial
 
-pub returns-in-Ok-clause-in_part : goal.returns-in-Ok-clause-in_part
-returns-in-Ok-clause-in_part g c =
-    let bytes = c.deref.result.now in
-    let read = rw (← c.deref.ensures.value) at c.in-Ok.ensures.read in
-    run_in_part (g.R.Source.remaining c.args.source.now) (g.R.Source.remaining c.read_all.new.source) (g.W.Sink.written c.args.sink.now)
-    (g.W.Sink.written c.serve_bytes.new.sink) bytes c.serve_bytes.result.history _ _ c.serve_bytes.result.fault c.serve_bytes.ensures.served read
-    (λ short. c.in-Ok.ensures.end (omega (arith, c.deref.ensures.len)))
+-- the source failed
+pub returns-in-Err-Failed-clause-ran : goal.returns-in-Err-Failed-clause-ran
+returns-in-Err-Failed-clause-ran g c =
+    let source = g.R.Source in
+    let sink = g.W.Sink in
+    rw c.without_calls.ensures.fault (ran-unread source.remaining source.faults source.fails sink.written sink.faults sink.fails c.args.source.now c.read_all.new.source
+    c.args.sink.now c.args.sink.now c.without_calls.result.history (record { rose = c.in-Err-Failed.ensures.fault (cc c.in-Err-Failed.field-0-is); last = c.in-Err-Failed.ensures.last (cc c.in-Err-Failed.field-0-is) })
+    refl c.without_calls.ensures.history (reads-fewer c.in-Err-Failed.ensures.part))
 
-pub returns-in-Ok-clause-memory : goal.returns-in-Ok-clause-memory
-returns-in-Ok-clause-memory g c =
-    let bytes = c.deref.result.now in
-    let read = rw (← c.deref.ensures.value) at c.in-Ok.ensures.read in
-    run_out_of_memory (g.R.Source.remaining c.args.source.now) (g.R.Source.remaining c.read_all.new.source) (g.W.Sink.written c.args.sink.now)
-    (g.W.Sink.written c.serve_bytes.new.sink) bytes c.serve_bytes.result.history _ _ c.serve_bytes.result.fault c.serve_bytes.ensures.served read
-    (λ short. c.in-Ok.ensures.end (omega (arith, c.deref.ensures.len)))
-
-pub returns-in-Ok-clause-short : goal.returns-in-Ok-clause-short
-returns-in-Ok-clause-short g c =
-    let bytes = c.deref.result.now in
-    let read = rw (← c.deref.ensures.value) at c.in-Ok.ensures.read in
-    run_short (g.R.Source.remaining c.args.source.now) (g.R.Source.remaining c.read_all.new.source) (g.W.Sink.written c.args.sink.now)
-    (g.W.Sink.written c.serve_bytes.new.sink) bytes c.serve_bytes.result.history _ _ c.serve_bytes.result.fault c.serve_bytes.ensures.served read
-    (λ short. c.in-Ok.ensures.end (omega (arith, c.deref.ensures.len)))
-
-pub returns-in-Ok-clause-input_fault : goal.returns-in-Ok-clause-input_fault
-returns-in-Ok-clause-input_fault g c =
-    let bytes = c.deref.result.now in
-    let read = rw (← c.deref.ensures.value) at c.in-Ok.ensures.read in
-    refuses_input (g.R.Source.remaining c.args.source.now) (g.R.Source.remaining c.read_all.new.source) (g.W.Sink.written c.args.sink.now)
-    (g.W.Sink.written c.serve_bytes.new.sink) bytes c.serve_bytes.result.history _ _ c.serve_bytes.result.fault c.serve_bytes.ensures.served read
-    (λ short. c.in-Ok.ensures.end (omega (arith, c.deref.ensures.len)))
+-- memory for the bytes was refused
+pub returns-in-Err-Memory-clause-ran : goal.returns-in-Err-Memory-clause-ran
+returns-in-Err-Memory-clause-ran g c =
+    let source = g.R.Source in
+    let sink = g.W.Sink in
+    rw c.without_calls-in-Err-Memory.ensures.fault (ran-out_of_memory source.remaining source.faults source.fails sink.written sink.faults sink.fails c.args.source.now c.read_all.new.source
+    c.args.sink.now c.args.sink.now c.without_calls-in-Err-Memory.result.history (c.in-Err-Memory.ensures.steady (λ failed. cc))
+    refl c.without_calls-in-Err-Memory.ensures.history (reads-fewer c.in-Err-Memory.ensures.part))

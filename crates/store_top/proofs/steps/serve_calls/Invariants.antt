@@ -8,6 +8,6 @@ abbrev pub invariant-loop-call : goal.invariant-loop-call
 invariant-loop-call g l = record {
   room : length (into_iter_items l.call-iterator) ≤ l.engine.spare;
   disk : l.engine.disk ≡ l.fn.engine.disk;
-  counted : g.W.Sink.faults l.fn.sink ≤ g.W.Sink.faults l.sink;
+  steady : g.W.Sink.faults l.sink ≡ g.W.Sink.faults l.fn.sink;
   serving : Serving l.fn.calls.items l.yielded (into_iter_items l.call-iterator) l.engine.history (g.W.Sink.written l.fn.sink) (g.W.Sink.written l.sink);
 }

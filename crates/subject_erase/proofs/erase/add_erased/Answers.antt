@@ -17,8 +17,8 @@ loop-at-init g c = refl
 -- one row more
 pub loop-at-preserved : goal.loop-at-preserved
 loop-at-preserved g c =
-    let schema = g.V.StoreView.schema_of c.args.view.now in
-    let rows = g.V.StoreView.rows c.args.view.now in
+    let schema = (g.V.StoreView.db c.args.view.now).schema in
+    let rows = (g.V.StoreView.db c.args.view.now).rows in
     let made = erased_at schema rows c.args.staying.now c.args.by.now c.args.table.0 c.args.definition.now in
     let all = rows_at rows c.args.table.0 in
     let at = c.loop-at.at in
@@ -31,8 +31,8 @@ loop-at-preserved g c =
 
 pub returns : goal.returns
 returns g c =
-    let schema = g.V.StoreView.schema_of c.args.view.now in
-    let rows = g.V.StoreView.rows c.args.view.now in
+    let schema = (g.V.StoreView.db c.args.view.now).schema in
+    let rows = (g.V.StoreView.db c.args.view.now).rows in
     let all = rows_at rows c.args.table.0 in
     let past : length all ≤ c.loop-at.at = subst (λ n. n ≤ c.loop-at.at) c.count-at-end.ensures c.loop-at-test.false in
     passed-all (erased_at schema rows c.args.staying.now c.args.by.now c.args.table.0 c.args.definition.now) all c.loop-at.at c.loop-at.changes _ past c.loop-at.invariant

@@ -7,7 +7,7 @@ use Rattle.subject_erase.proofs.erase.add_erased.Given as goal
 -- the changes so far, and those of the rows that are left
 abbrev pub invariant-loop-at : goal.invariant-loop-at
 invariant-loop-at g l =
-    let schema = g.V.StoreView.schema_of l.view in
-    let rows = g.V.StoreView.rows l.view in
+    let schema = (g.V.StoreView.db l.view).schema in
+    let rows = (g.V.StoreView.db l.view).rows in
     l.changes ++ filter_map (erased_at schema rows l.staying l.by l.table.0 l.definition) (enumerate_from l.at (drop l.at (rows_at rows l.table.0)))
     ≡ l.initial.changes ++ erased_table schema rows l.staying l.by (l.table.0, l.definition)

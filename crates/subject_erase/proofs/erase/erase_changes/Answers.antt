@@ -3,17 +3,13 @@ use Rattle.std.specs.Prelude.{filter}
 use Rattle.std.specs.List.{AllByRecursion}
 use Rattle.std.proofs.lemmas.Result.{IfOk-weaker}
 use Rattle.own_base.specs.declared.change.Change.{Change}
-use Rattle.own_model.specs.declared.schema.CreateText.{CreateText}
-use Rattle.owner_sets.specs.Sets.{db_of}
 use Rattle.subject_model.specs.Forget.{forget}
 use Rattle.subject_model.specs.Stays.{stays}
 use Rattle.table_part.specs.Changes.{KeysDiffer}
 use Rattle.txn_space.specs.Put.{IsChangeOf, is_of_table, put_rows}
 use Rattle.subject_erase.specs.Flags.{AreFlagsOf}
 use Rattle.subject_erase.specs.Losing.{erased_rows}
-use Rattle.subject_erase.specs.Erasures.{erasures}
-use Rattle.subject_erase.specs.Plan.{IsPlan, database, plan_of}
-use Rattle.subject_erase.proofs.AnyCreates.{IsPlan-bare, forget-bare}
+use Rattle.subject_erase.specs.Plan.{IsPlan, plan_of}
 use Rattle.subject_erase.proofs.ErasedRows.{erased-rows}
 use Rattle.subject_erase.proofs.ErasuresPut.{erasures-once, erasures-put, erasures-theirs}
 use Rattle.subject_erase.proofs.PlanLemmas.{erasures-plan}
@@ -21,44 +17,48 @@ use Rattle.subject_erase.proofs.erase.erase_changes.Goals as goal
 
 pub returns-clause-applied : goal.returns-clause-applied
 returns-clause-applied g c =
-    let db = db_of (g.V.StoreView.schema_of c.args.view.now) (g.V.StoreView.rows c.args.view.now) in
+    let db = g.V.StoreView.db c.args.view.now in
+    let ordered = g.met.V.StoreView.ordered c.args.view.now in
     let subject = c.args.subject.now.0 in
     let staying = c.items.result.now in
     let stay = subst (λ flags. AreFlagsOf db (stays db subject) flags) (sym c.items.ensures) c.in_ok-staying.ensures in
-    let P : List Change → Type 0 = λ changes. (creates : List CreateText) → put_rows db.schema.tables changes db.rows ≡ (forget (database creates db.schema db.rows) subject).rows in
+    let P : List Change → Type 0 = λ changes. put_rows db.schema.tables changes db.rows ≡ (forget db subject).rows in
     IfOk-weaker c.erased_rows.result (λ changes. changes ≡ erased_rows db.schema db.rows staying c.in_ok-by.by) P
-    (λ changes is. subst P (sym (is ∙ erased-rows db subject c.requires.ordered c.requires.owner c.requires.limits c.requires.rows staying c.in_ok-by.by stay c.in_ok-by.ensures)) (λ creates. erasures-put db subject c.requires.owner c.requires.ordered ∙ forget-bare (database creates db.schema db.rows) subject))
+    (λ changes is. subst P (sym (is ∙ erased-rows db subject ordered c.requires.owner c.requires.limits c.requires.rows staying c.in_ok-by.by stay c.in_ok-by.ensures)) (erasures-put db subject c.requires.owner ordered))
     c.erased_rows.ensures
 
 pub returns-clause-theirs : goal.returns-clause-theirs
 returns-clause-theirs g c =
-    let db = db_of (g.V.StoreView.schema_of c.args.view.now) (g.V.StoreView.rows c.args.view.now) in
+    let db = g.V.StoreView.db c.args.view.now in
+    let ordered = g.met.V.StoreView.ordered c.args.view.now in
     let subject = c.args.subject.now.0 in
     let staying = c.items.result.now in
     let stay = subst (λ flags. AreFlagsOf db (stays db subject) flags) (sym c.items.ensures) c.in_ok-staying.ensures in
     let P : List Change → Type 0 = AllByRecursion (IsChangeOf db.schema.tables) in
     IfOk-weaker c.erased_rows.result (λ changes. changes ≡ erased_rows db.schema db.rows staying c.in_ok-by.by) P
-    (λ changes is. subst P (sym (is ∙ erased-rows db subject c.requires.ordered c.requires.owner c.requires.limits c.requires.rows staying c.in_ok-by.by stay c.in_ok-by.ensures)) (erasures-theirs db subject c.requires.owner))
+    (λ changes is. subst P (sym (is ∙ erased-rows db subject ordered c.requires.owner c.requires.limits c.requires.rows staying c.in_ok-by.by stay c.in_ok-by.ensures)) (erasures-theirs db subject c.requires.owner))
     c.erased_rows.ensures
 
 pub returns-clause-once : goal.returns-clause-once
 returns-clause-once g c =
-    let db = db_of (g.V.StoreView.schema_of c.args.view.now) (g.V.StoreView.rows c.args.view.now) in
+    let db = g.V.StoreView.db c.args.view.now in
+    let ordered = g.met.V.StoreView.ordered c.args.view.now in
     let subject = c.args.subject.now.0 in
     let staying = c.items.result.now in
     let stay = subst (λ flags. AreFlagsOf db (stays db subject) flags) (sym c.items.ensures) c.in_ok-staying.ensures in
     let P : List Change → Type 0 = λ changes. (number : ℕ) → KeysDiffer (filter (is_of_table number) changes) in
     IfOk-weaker c.erased_rows.result (λ changes. changes ≡ erased_rows db.schema db.rows staying c.in_ok-by.by) P
-    (λ changes is. subst P (sym (is ∙ erased-rows db subject c.requires.ordered c.requires.owner c.requires.limits c.requires.rows staying c.in_ok-by.by stay c.in_ok-by.ensures)) (erasures-once db subject c.requires.owner c.requires.ordered))
+    (λ changes is. subst P (sym (is ∙ erased-rows db subject ordered c.requires.owner c.requires.limits c.requires.rows staying c.in_ok-by.by stay c.in_ok-by.ensures)) (erasures-once db subject c.requires.owner ordered))
     c.erased_rows.ensures
 
 pub returns-clause-plan : goal.returns-clause-plan
 returns-clause-plan g c =
-    let db = db_of (g.V.StoreView.schema_of c.args.view.now) (g.V.StoreView.rows c.args.view.now) in
+    let db = g.V.StoreView.db c.args.view.now in
+    let ordered = g.met.V.StoreView.ordered c.args.view.now in
     let subject = c.args.subject.now.0 in
     let staying = c.items.result.now in
     let stay = subst (λ flags. AreFlagsOf db (stays db subject) flags) (sym c.items.ensures) c.in_ok-staying.ensures in
-    let P : List Change → Type 0 = λ changes. (creates : List CreateText) → IsPlan (database creates db.schema db.rows) subject (plan_of changes) in
+    let P : List Change → Type 0 = λ changes. IsPlan db subject (plan_of changes) in
     IfOk-weaker c.erased_rows.result (λ changes. changes ≡ erased_rows db.schema db.rows staying c.in_ok-by.by) P
-    (λ changes is. subst P (sym (is ∙ erased-rows db subject c.requires.ordered c.requires.owner c.requires.limits c.requires.rows staying c.in_ok-by.by stay c.in_ok-by.ensures)) (λ creates. IsPlan-bare (database creates db.schema db.rows) subject (plan_of (erasures db subject)) (erasures-plan db subject c.requires.ordered c.requires.owner)))
+    (λ changes is. subst P (sym (is ∙ erased-rows db subject ordered c.requires.owner c.requires.limits c.requires.rows staying c.in_ok-by.by stay c.in_ok-by.ensures)) (erasures-plan db subject ordered c.requires.owner))
     c.erased_rows.ensures

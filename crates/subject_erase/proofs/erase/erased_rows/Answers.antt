@@ -12,7 +12,7 @@ use Rattle.subject_erase.proofs.erase.erased_rows.Goals as goal
 pub loop-number-init : goal.loop-number-init
 unfolding erased_rows
 loop-number-init g c =
-    ap (λ front. front ++ flat_map (erased_table (g.V.StoreView.schema_of c.args.view.now) (g.V.StoreView.rows c.args.view.now) c.args.staying.now c.args.by.now) (enumerate_from 0 (g.V.StoreView.schema_of c.args.view.now).tables)) c.new-changes.ensures
+    ap (λ front. front ++ flat_map (erased_table (g.V.StoreView.db c.args.view.now).schema (g.V.StoreView.db c.args.view.now).rows c.args.staying.now c.args.by.now) (enumerate_from 0 (g.V.StoreView.db c.args.view.now).schema.tables)) c.new-changes.ensures
 
 -- the next table is there
 pub add_erased-requires-clause-there : goal.add_erased-requires-clause-there
@@ -23,7 +23,7 @@ add_erased-requires-clause-there g c =
 
 pub add_erased-requires-clause-refer : goal.add_erased-requires-clause-refer
 add_erased-requires-clause-refer g c =
-    let schema = g.V.StoreView.schema_of c.args.view.now in
+    let schema = (g.V.StoreView.db c.args.view.now).schema in
     let definition = c.definition-item.result in
     let is : slice_get schema.tables c.loop-number.number ≡ Some definition =
     subst (λ tables. slice_get tables c.loop-number.number ≡ Some definition) (c.items-definition-items.ensures ∙ ap (λ (s : Schema). s.tables) c.schema.ensures)
@@ -33,8 +33,8 @@ add_erased-requires-clause-refer g c =
 -- one table more
 pub loop-number-preserved : goal.loop-number-preserved
 loop-number-preserved g c =
-    let schema = g.V.StoreView.schema_of c.args.view.now in
-    let made = erased_table schema (g.V.StoreView.rows c.args.view.now) c.args.staying.now c.args.by.now in
+    let schema = (g.V.StoreView.db c.args.view.now).schema in
+    let made = erased_table schema (g.V.StoreView.db c.args.view.now).rows c.args.staying.now c.args.by.now in
     let definition = c.definition-item.result in
     let number = c.loop-number.number in
     let is : slice_get schema.tables number ≡ Some definition =
@@ -45,7 +45,7 @@ loop-number-preserved g c =
 
 pub returns : goal.returns
 returns g c =
-    let schema = g.V.StoreView.schema_of c.args.view.now in
+    let schema = (g.V.StoreView.db c.args.view.now).schema in
     let past : length schema.tables ≤ c.loop-number.number =
     subst (λ n. n ≤ c.loop-number.number) (ap length (c.items-definition-items.ensures ∙ ap (λ (s : Schema). s.tables) c.schema.ensures)) c.loop-number-test.false in
-    listed-all (erased_table schema (g.V.StoreView.rows c.args.view.now) c.args.staying.now c.args.by.now) schema.tables c.loop-number.number c.loop-number.changes _ past c.loop-number.invariant
+    listed-all (erased_table schema (g.V.StoreView.db c.args.view.now).rows c.args.staying.now c.args.by.now) schema.tables c.loop-number.number c.loop-number.changes _ past c.loop-number.invariant

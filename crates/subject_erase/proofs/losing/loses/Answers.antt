@@ -4,18 +4,21 @@ use Rattle.std.proofs.lemmas.Option.{slice_get_within}
 use Rattle.owner_model.specs.ColumnSets.{has_column}
 use Rattle.subject_erase.proofs.losing.loses.Goals as goal
 
-pub dangles-requires-clause-there : goal.dangles-requires-clause-there
-dangles-requires-clause-there g c = λ link refers.
-    let schema = g.V.StoreView.schema_of c.args.view.now in
-    let is : slice_get c.args.definition.now.columns c.args.number ≡ Some c.in-Some.column.now =
-    sym c.in-Some.ensures in
-    let key = (c.requires.refer c.args.number c.in-Some.column.now link is refers).1 in
-    slice_get_within schema.tables link.1.0 key.table key.table_is
+pub dangles-requires : goal.dangles-requires
+dangles-requires g c = record {
+  there =
+      λ link refers.
+      let schema = (g.V.StoreView.db c.args.view.now).schema in
+      let is : slice_get c.args.definition.now.columns c.args.number ≡ Some c.in-Some.column.now =
+      sym c.in-Some.ensures in
+      let key = (c.requires.refer c.args.number c.in-Some.column.now link is refers).1 in
+      slice_get_within schema.tables link.1.0 key.table key.table_is;
+}
 
 pub returns-in-Some : goal.returns-in-Some
 returns-in-Some g c =
-    let schema = g.V.StoreView.schema_of c.args.view.now in
-    let rows = g.V.StoreView.rows c.args.view.now in
+    let schema = (g.V.StoreView.db c.args.view.now).schema in
+    let rows = (g.V.StoreView.db c.args.view.now).rows in
     let is : slice_get c.args.definition.now.columns c.args.number ≡ Some c.in-Some.column.now =
     sym c.in-Some.ensures in
     let free : has_column c.args.ruled c.args.number ≡ false = sym c.has_column.ensures ∙ c.if-has_column.false in

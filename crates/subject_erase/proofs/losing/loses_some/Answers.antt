@@ -9,7 +9,7 @@ use Rattle.subject_erase.proofs.losing.loses_some.Goals as goal
 
 pub returns-then-loses_value : goal.returns-then-loses_value
 returns-then-loses_value g c =
-    let lost : ℕ × Value → Bool = λ numbered. loses_by (g.V.StoreView.schema_of c.args.view.now) (g.V.StoreView.rows c.args.view.now) c.args.staying.now c.args.definition.now c.args.ruled numbered && not (is_null numbered.1) in
+    let lost : ℕ × Value → Bool = λ numbered. loses_by (g.V.StoreView.db c.args.view.now).schema (g.V.StoreView.db c.args.view.now).rows c.args.staying.now c.args.definition.now c.args.ruled numbered && not (is_null numbered.1) in
     let value = c.value-item.result in
     let is : slice_get c.args.row.now c.loop-number.number ≡ Some value =
     subst (λ values. slice_get values c.loop-number.number ≡ Some value) c.values-value-items.ensures
@@ -18,7 +18,7 @@ returns-then-loses_value g c =
 
 pub loop-number-preserved : goal.loop-number-preserved
 loop-number-preserved g c =
-    let lost : ℕ × Value → Bool = λ numbered. loses_by (g.V.StoreView.schema_of c.args.view.now) (g.V.StoreView.rows c.args.view.now) c.args.staying.now c.args.definition.now c.args.ruled numbered && not (is_null numbered.1) in
+    let lost : ℕ × Value → Bool = λ numbered. loses_by (g.V.StoreView.db c.args.view.now).schema (g.V.StoreView.db c.args.view.now).rows c.args.staying.now c.args.definition.now c.args.ruled numbered && not (is_null numbered.1) in
     let value = c.value-item.result in
     let is : slice_get c.args.row.now c.loop-number.number ≡ Some value =
     subst (λ values. slice_get values c.loop-number.number ≡ Some value) c.values-value-items.ensures

@@ -9,5 +9,5 @@ use Rattle.subject_erase.proofs.losing.loses_some.Given as goal
 -- none is found so far, and so it is among those that are left if there is any
 abbrev pub invariant-loop-number : goal.invariant-loop-number
 invariant-loop-number g l =
-    let lost : ℕ × Value → Bool = λ numbered. loses_by (g.V.StoreView.schema_of l.view) (g.V.StoreView.rows l.view) l.staying l.definition l.ruled numbered && not (is_null numbered.1) in
+    let lost : ℕ × Value → Bool = λ numbered. loses_by (g.V.StoreView.db l.view).schema (g.V.StoreView.db l.view).rows l.staying l.definition l.ruled numbered && not (is_null numbered.1) in
     list_any lost (enumerate_from l.number (drop l.number l.row)) ≡ list_any lost (enumerate_from 0 l.row)

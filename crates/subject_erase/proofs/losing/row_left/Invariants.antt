@@ -9,5 +9,5 @@ use Rattle.subject_erase.proofs.losing.row_left.Given as goal
 -- the values so far, and those that are left
 abbrev pub invariant-loop-number : goal.invariant-loop-number
 invariant-loop-number g l =
-    let left : ℕ × Value → Value = λ numbered. if loses_by (g.V.StoreView.schema_of l.view) (g.V.StoreView.rows l.view) l.staying l.definition l.ruled numbered then Null else numbered.1 in
+    let left : ℕ × Value → Value = λ numbered. if loses_by (g.V.StoreView.db l.view).schema (g.V.StoreView.db l.view).rows l.staying l.definition l.ruled numbered then Null else numbered.1 in
     l.values ++ map left (enumerate_from l.number (drop l.number l.row)) ≡ map left (enumerate_from 0 l.row)

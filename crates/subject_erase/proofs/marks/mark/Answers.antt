@@ -10,5 +10,5 @@ pub returns : goal.returns
 unfolding is_marked
 returns g c =
     let all : take c.loop-edge.edge-index c.args.edges.now ≡ c.args.edges.now = take_all c.loop-edge.edge-index c.args.edges.now c.loop-edge-test.false in
-    subst (λ (edges : List Edge). HaveMore (λ place. list_any (over_followed c.args.followed (g.V.StoreView.schema_of c.args.view.now) (g.V.StoreView.rows c.args.view.now) c.args.flags.now place) edges) c.args.marks.now.items c.loop-edge.marks.items)
+    subst (λ (edges : List Edge). HaveMore (λ place. list_any (over_followed c.args.followed (g.V.StoreView.db c.args.view.now).schema (g.V.StoreView.db c.args.view.now).rows c.args.flags.now place) edges) c.args.marks.now.items c.loop-edge.marks.items)
     all c.loop-edge.invariant

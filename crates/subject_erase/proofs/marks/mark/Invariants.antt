@@ -6,4 +6,4 @@ use Rattle.subject_erase.proofs.marks.mark.Given as goal
 -- the rows that the edges so far join to a flagged one are marked
 abbrev pub invariant-loop-edge : goal.invariant-loop-edge
 invariant-loop-edge g l =
-    HaveMore (λ place. list_any (over_followed l.followed (g.V.StoreView.schema_of l.view) (g.V.StoreView.rows l.view) l.flags place) (take l.edge-index l.edges)) l.initial.marks.items l.marks.items
+    HaveMore (λ place. list_any (over_followed l.followed (g.V.StoreView.db l.view).schema (g.V.StoreView.db l.view).rows l.flags place) (take l.edge-index l.edges)) l.initial.marks.items l.marks.items

@@ -10,8 +10,8 @@ use Rattle.subject_erase.proofs.marks.mark_edge.Goals as goal
 pub returns : goal.returns
 unfolding over_edge
 returns g c =
-    let schema = g.V.StoreView.schema_of c.args.view.now in
-    let rows = g.V.StoreView.rows c.args.view.now in
+    let schema = (g.V.StoreView.db c.args.view.now).schema in
+    let rows = (g.V.StoreView.db c.args.view.now).rows in
     let upper : c.flags_of-upper.result.now ≡ get_or c.args.flags.now c.args.edge.now.upper.0 [] = c.flags_of-upper.ensures in
     let all : take c.loop-link.link-index c.deref-link-items.result.now ≡ links schema rows c.args.edge.now =
     take_all c.loop-link.link-index c.deref-link-items.result.now c.loop-link-test.false ∙ (c.deref-link-items.ensures.value ∙ c.in_ok-links.ensures) in

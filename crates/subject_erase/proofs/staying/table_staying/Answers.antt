@@ -10,7 +10,7 @@ use Rattle.subject_erase.proofs.staying.table_staying.Goals as goal
 -- one row more
 pub loop-at-preserved : goal.loop-at-preserved
 loop-at-preserved g c =
-    let schema = g.V.StoreView.schema_of c.args.view.now in
+    let schema = (g.V.StoreView.db c.args.view.now).schema in
     let f : ℕ → Bool = λ place. stays_by schema c.args.table.0 (flag_at c.args.owned.now c.args.table.0 place) (flag_at c.args.held.now c.args.table.0 place) in
     let subjects : c.is_subject-subjects.result ≡ is_subject schema c.args.table.0 = c.is_subject-subjects.ensures ∙ ap (λ (s : Schema). is_subject s c.args.table.0) c.schema.ensures in
     let private : c.is_private-private.result ≡ is_private schema c.args.table.0 = c.is_private-private.ensures ∙ ap (λ (s : Schema). is_private s c.args.table.0) c.schema-2.ensures in

@@ -10,7 +10,7 @@ use Rattle.txn_space.proofs.net.add_changes.Goals as goal
 pub loop-number-preserved : goal.loop-number-preserved
 loop-number-preserved g c =
     let entries = items c.args.entries.now in
-    let change = entry_change (g.V.StoreView.schema_of c.args.base.now) (g.V.StoreView.rows c.args.base.now) c.args.table in
+    let change = entry_change (g.V.StoreView.db c.args.base.now).schema (g.V.StoreView.db c.args.base.now).rows c.args.table in
     let within : c.loop-number.number < length entries = grind (arith, nat_tests) in
     let is = sym (get_or_from_slice_get entries c.loop-number.number c.entry_at.result.now c.entry_at.result.now c.entry_at.ensures) in
     c.in_ok-add_some.ensures

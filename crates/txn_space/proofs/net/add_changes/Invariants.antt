@@ -6,4 +6,4 @@ use Rattle.txn_space.proofs.net.add_changes.Given as goal
 -- the changes so far stand last
 abbrev pub invariant-loop-number : goal.invariant-loop-number
 invariant-loop-number g l =
-    l.changes ≡ l.fn.changes ++ filter_map (entry_change (g.V.StoreView.schema_of l.base) (g.V.StoreView.rows l.base) l.table) (take l.number (items l.entries))
+    l.changes ≡ l.fn.changes ++ filter_map (entry_change (g.V.StoreView.db l.base).schema (g.V.StoreView.db l.base).rows l.table) (take l.number (items l.entries))

@@ -11,7 +11,7 @@ use Rattle.txn_space.proofs.walk.count_with.Goals.{then-is_some, else-is_some}
 pub loop-number-preserved : goal.loop-number-preserved
 loop-number-preserved g c =
     let entries = items c.args.entries.now in
-    let rows = rows_at (g.V.StoreView.rows c.args.base.now) c.args.table.0 in
+    let rows = rows_at (g.V.StoreView.db c.args.base.now).rows c.args.table.0 in
     let within : c.loop-number.number < length entries = grind (arith, nat_tests) in
     let is = sym (get_or_from_slice_get entries c.loop-number.number c.entry_at-entry.result.now c.entry_at-entry.result.now c.entry_at-entry.ensures) in
     let rest = drop (c.loop-number.number + 1) entries in
@@ -35,7 +35,7 @@ loop-number-preserved g c =
 pub returns : goal.returns
 returns g c =
     let entries = items c.args.entries.now in
-    let rows = rows_at (g.V.StoreView.rows c.args.base.now) c.args.table.0 in
+    let rows = rows_at (g.V.StoreView.db c.args.base.now).rows c.args.table.0 in
     let past : length entries ≤ c.loop-number.number = grind (arith, nat_tests) in
     ap (λ n. c.loop-number.count + (n - c.loop-number.from)) c.count.ensures
     ∙ counted_last c.args.definition.now entries rows c.len-number-end.ensures.rising c.requires.keyed c.loop-number.count c.loop-number.from c.loop-number.number past c.loop-number.invariant.counted

@@ -7,7 +7,7 @@ use Rattle.txn_space.proofs.walk.count_with.Given as goal
 -- what is counted, and the rows that are left with the entries that are left
 abbrev pub invariant-loop-number : goal.invariant-loop-number
 invariant-loop-number g l =
-    let rows = rows_at (g.V.StoreView.rows l.base) l.table.0 in
+    let rows = rows_at (g.V.StoreView.db l.base).rows l.table.0 in
     record {
       within : l.from ≤ length rows;
       few : l.count ≤ l.from + l.number;

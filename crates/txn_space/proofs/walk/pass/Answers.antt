@@ -11,7 +11,7 @@ use Rattle.txn_space.proofs.walk.pass.Goals as goal
 -- The place is before the entry's key.
 pub returns-then-place-count : goal.returns-then-place-count
 returns-then-place-count g c =
-    let rows = rows_at (g.V.StoreView.rows c.args.base.now) c.args.table.0 in
+    let rows = rows_at (g.V.StoreView.db c.args.base.now).rows c.args.table.0 in
     let others = option_to_list (entry_row c.args.entry.now) in
     let count = c.spot_from-below.result.0 - c.args.from in
     let before : c.args.place < count = grind (arith, nat_tests) in

@@ -12,7 +12,7 @@ returns-in-Within g c =
     let entries = items c.args.entries.now in
     let within : c.loop-number.number < length entries = grind (arith, nat_tests) in
     let is = sym (get_or_from_slice_get entries c.loop-number.number c.entry_at-entry.result.now c.entry_at-entry.result.now c.entry_at-entry.ensures) in
-    found_within c.args.definition.now entries (rows_at (g.V.StoreView.rows c.args.base.now) c.args.table.0) c.len-number-end.ensures.rising c.requires.keyed
+    found_within c.args.definition.now entries (rows_at (g.V.StoreView.db c.args.base.now).rows c.args.table.0) c.len-number-end.ensures.rising c.requires.keyed
     c.args.at c.loop-number.from c.loop-number.left c.loop-number.number c.entry_at-entry.result.now c.in-Within.run'.now within is c.loop-number.invariant.left c.in-Within.ensures
 
 pub loop-number-preserved : goal.loop-number-preserved
@@ -23,7 +23,7 @@ loop-number-preserved g c =
     let behind = c.in-Behind.ensures in
     record {
       within = behind.within;
-      left = found_behind c.args.definition.now entries (rows_at (g.V.StoreView.rows c.args.base.now) c.args.table.0) c.len-number-end.ensures.rising c.requires.keyed
+      left = found_behind c.args.definition.now entries (rows_at (g.V.StoreView.db c.args.base.now).rows c.args.table.0) c.len-number-end.ensures.rising c.requires.keyed
           c.args.at c.loop-number.from c.loop-number.left c.loop-number.number c.in-Behind.next c.in-Behind.further c.entry_at-entry.result.now within is c.loop-number.invariant.left behind;
     }
 
@@ -31,7 +31,7 @@ loop-number-preserved g c =
 pub returns-then-left-count : goal.returns-then-left-count
 returns-then-left-count g c =
     let entries = items c.args.entries.now in
-    let rows = rows_at (g.V.StoreView.rows c.args.base.now) c.args.table.0 in
+    let rows = rows_at (g.V.StoreView.db c.args.base.now).rows c.args.table.0 in
     let past : length entries ≤ c.loop-number.number = grind (arith, nat_tests) in
     let here = found_last c.args.definition.now entries rows c.len-number-end.ensures.rising c.requires.keyed c.args.at c.loop-number.from c.loop-number.left c.loop-number.number past c.loop-number.invariant.left in
     run_of_rest (rows_with c.args.definition.now entries rows) rows c.rows_from.result.now c.args.at (c.loop-number.from + c.loop-number.left) here c.rows_from.ensures
@@ -39,7 +39,7 @@ returns-then-left-count g c =
 pub returns-else-left-count : goal.returns-else-left-count
 returns-else-left-count g c =
     let entries = items c.args.entries.now in
-    let rows = rows_at (g.V.StoreView.rows c.args.base.now) c.args.table.0 in
+    let rows = rows_at (g.V.StoreView.db c.args.base.now).rows c.args.table.0 in
     let past : length entries ≤ c.loop-number.number = grind (arith, nat_tests) in
     let here = found_last c.args.definition.now entries rows c.len-number-end.ensures.rising c.requires.keyed c.args.at c.loop-number.from c.loop-number.left c.loop-number.number past c.loop-number.invariant.left in
     let behind : length rows ≤ c.loop-number.from + c.loop-number.left = grind (arith, nat_tests) in

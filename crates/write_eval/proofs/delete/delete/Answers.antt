@@ -8,7 +8,7 @@ use Rattle.write_eval.proofs.delete.delete.Goals as goal
 pub returns : goal.returns
 returns g c =
     let kept = c.in_ok-targets.ensures in
-    deletes (g.V.StoreView.schema_of c.args.view.now) (g.V.StoreView.rows c.args.view.now) c.args.table c.definition.result.now (option_copied c.args.cond)
+    deletes (g.V.StoreView.db c.args.view.now) c.args.table c.definition.result.now (option_copied c.args.cond)
     (record { count = c.count.result; changes = c.in_ok-changes.changes })
     c.requires.tables c.definition.ensures
     (c.count.ensures ∙ ap length kept)

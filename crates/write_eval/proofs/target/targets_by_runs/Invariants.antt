@@ -8,9 +8,9 @@ use Rattle.write_eval.proofs.target.targets_by_runs.Given as goal
 -- the rows before the place are gone through
 abbrev pub invariant-loop-at : goal.invariant-loop-at
 invariant-loop-at g l =
-    (l.count ≡ length (rows_at (g.V.StoreView.rows l.view) l.table.0))
+    (l.count ≡ length (rows_at (g.V.StoreView.db l.view).rows l.table.0))
     × (l.at ≤ l.count)
-    × (l.targets ≡ filter (keeps (option_copied l.cond)) (take l.at (rows_at (g.V.StoreView.rows l.view) l.table.0)))
+    × (l.targets ≡ filter (keeps (option_copied l.cond)) (take l.at (rows_at (g.V.StoreView.db l.view).rows l.table.0)))
 
 abbrev pub decreases-loop-at : goal.decreases-loop-at
 decreases-loop-at g l = l.count - l.at

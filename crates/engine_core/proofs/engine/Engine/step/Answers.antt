@@ -6,7 +6,7 @@ use Rattle.history_model.specs.MayBeUnmade.{MayBeUnmadeFrom}
 use Rattle.history_model.proofs.EveryHistory.{serial-empty}
 use Rattle.engine_core.specs.Made.{IsMade}
 use Rattle.engine_core.specs.Seen.{disk_of, entry as made, history_of, spare_of}
-use Rattle.engine_core.proofs.Standing.{built-request, history-after, leaves-of, makes-of}
+use Rattle.engine_core.proofs.RepresentsLemmas.{built-request, history-after, leaves-of, makes-of}
 use Rattle.engine_core.proofs.engine.Engine.step.Goals as goal
 use Rattle.engine_core.proofs.engine.Engine.step.Goals.{in-Err, in-Ok}
 

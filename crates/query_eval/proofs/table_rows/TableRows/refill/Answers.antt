@@ -9,7 +9,7 @@ use Rattle.query_eval.proofs.table_rows.TableRows.refill.Goals as goal
 pub overflow_add-self : goal.overflow_add-self
 overflow_add-self g c =
     let run = c.rows_from-self.ensures in
-    let rows = rows_at (g.V.StoreView.rows c.args.self.now.view.now) c.args.self.now.table.0 in
+    let rows = rows_at (g.V.StoreView.db c.args.self.now.view.now).rows c.args.self.now.table.0 in
     let counted : c.args.self.now.count ≡ length rows = c.args.self.now.counted in
     let before : c.args.self.now.behind < length rows = omega arith in
     let within = run_within c.args.self.now.behind rows c.rows_from-self.result.now run.rest run.follow before in
@@ -20,4 +20,4 @@ pub returns-then-self-clause-same : goal.returns-then-self-clause-same
 returns-then-self-clause-same g c =
     let run = c.rows_from-self.ensures in
     let none : c.args.self.now.run.now ≡ [] = nil_from_length c.args.self.now.run.now (grind (arith, nat_tests)) in
-    rw none (run_taken c.args.self.now.behind (rows_at (g.V.StoreView.rows c.args.self.now.view.now) c.args.self.now.table.0) c.rows_from-self.result.now run.rest run.follow)
+    rw none (run_taken c.args.self.now.behind (rows_at (g.V.StoreView.db c.args.self.now.view.now).rows c.args.self.now.table.0) c.rows_from-self.result.now run.rest run.follow)

@@ -1,7 +1,7 @@
 use Rattle.std.proofs.Common.{◌≡◌, ◌+◌, ◌-◌}
 use Rattle.own_model.specs.declared.limit.TheConstants.{SESSIONS}
 use Rattle.row_locks.specs.Kept.{kept_by}
-use Rattle.row_locks.specs.Stands.{holder_among}
+use Rattle.row_locks.specs.RepresentsItems.{holder_among}
 use Rattle.row_locks.proofs.Searched.{search}
 use Rattle.row_locks.proofs.lock_table.LockTable.first_holder.Given as goal
 

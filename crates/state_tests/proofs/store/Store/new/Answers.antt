@@ -1,4 +1,4 @@
-use Rattle.state_model.proofs.KeptLemmas.{sound-empty}
+use Rattle.state_model.proofs.WellFormedLemmas.{sound-empty}
 use Rattle.state_tests.proofs.store.Store.new.Goals as goal
 
 pub invariant_of-result : goal.invariant_of-result

@@ -4,8 +4,7 @@ use Rattle.own_model.specs.declared.footprint.FootItem.{FootItem}
 use Rattle.own_model.specs.declared.schema.Schema.{Schema}
 use Rattle.query_model.specs.Footprints.{footprint_of}
 use Rattle.row_locks.specs.Kept.{kept_by as held_by}
-use Rattle.row_locks.specs.Stands.{StandFor, holder_among}
-use Rattle.write_eval.specs.Writes.{db_of}
+use Rattle.row_locks.specs.RepresentsItems.{RepresentsItems, holder_among}
 use Rattle.txn_core.specs.declared.kept.Kept.{Kept}
 use Rattle.txn_core.specs.Kept.{is_select, kept_by}
 use Rattle.txn_core.specs.Runs.{HasRun}
@@ -17,18 +16,17 @@ use Rattle.txn_core.proofs.txns.Txns.run.Goals as goal
 -- the footprint is of tables that are there
 pub conflict-requires : goal.conflict-requires
 conflict-requires g c =
-    let schema = g.V.StoreView.schema_of c.args.version.now in
+    let schema = (g.V.StoreView.db c.args.version.now).schema in
     let items = c.in_ok-footprint.ensures ∙ ap (λ (schema : Schema). footprint_of schema c.args.bound.now) c.schema.ensures in
     record {
       there = rw (c.schema-2.ensures, items) (row_items_there schema c.args.bound.now c.requires.store.views c.requires.bound);
     }
 
 pub returns-in-Some-clause-stated : goal.returns-in-Some-clause-stated
-returns-in-Some-clause-stated g c = λ creates.
-    let schema = g.V.StoreView.schema_of c.args.version.now in
-    let rows = g.V.StoreView.rows c.args.version.now in
+returns-in-Some-clause-stated g c =
+    let db = g.V.StoreView.db c.args.version.now in
     let items = c.in_ok-footprint.ensures ∙ ap (λ (schema : Schema). footprint_of schema c.args.bound.now) c.schema.ensures in
-    stated_conflict (holder_among (held_by c.args.self.now.held) c.args.session.0 (footprint_of schema c.args.bound.now)) (db_of creates schema rows) c.args.bound.now c.args.session.0 c.args.self.now c.in-Some.why
+    stated_conflict (holder_among (held_by c.args.self.now.held) c.args.session.0 (footprint_of db.schema c.args.bound.now)) db c.args.bound.now c.args.session.0 c.args.self.now c.in-Some.why
     (sym c.in-Some.is
     ∙ (rw (c.schema-2.ensures, items) at c.in_ok-conflict.ensures))
 
@@ -43,23 +41,22 @@ returns-in_err-grant-clause-unmade g c =
 
 -- and where it runs
 pub returns-clause-stated : goal.returns-clause-stated
-returns-clause-stated g c = λ creates.
-    let schema = g.V.StoreView.schema_of c.args.version.now in
-    let rows = g.V.StoreView.rows c.args.version.now in
+returns-clause-stated g c =
+    let db = g.V.StoreView.db c.args.version.now in
     let session = c.args.session.0 in
     let items = c.in_ok-footprint.ensures ∙ ap (λ (schema : Schema). footprint_of schema c.args.bound.now) c.schema.ensures in
     let was = sym (ap (λ (txns : Transactions). kept_by txns.kept session) c.self.view_is) ∙ c.txn.ensures in
-    stated_free (holder_among (held_by c.args.self.now.held) session (footprint_of schema c.args.bound.now)) (db_of creates schema rows) c.args.bound.now session c.args.self.now _ c.in_ok-reply.reply
+    stated_free (holder_among (held_by c.args.self.now.held) session (footprint_of db.schema c.args.bound.now)) db c.args.bound.now session c.args.self.now _ c.in_ok-reply.reply
     c.in_ok-conflict.conflict c.in_default.not-Some (rw (c.schema-2.ensures, items) at c.in_ok-conflict.ensures)
     (record {
       txn = c.in_ok-reply.txn;
       open_then = c.put.ensures.put;
-      ran = subst (λ (kept : Kept). HasRun (db_of creates schema rows) c.args.bound.now (space_of kept) c.in_ok-reply.reply c.in_ok-reply.txn.space) (sym was) (c.in_ok-reply.ensures.ran creates);
+      ran = subst (λ (kept : Kept). HasRun db c.args.bound.now (space_of kept) c.in_ok-reply.reply c.in_ok-reply.txn.space) (sym was) c.in_ok-reply.ensures.ran;
       quiet = c.in_ok-reply.ensures.quiet;
       wrote = c.in_ok-reply.ensures.wrote ∙ ap (λ (kept : Kept). wrote_of kept || not (is_select c.args.bound.now)) (sym was);
       holds = λ some stands.
-          subst (λ (more : List FootItem). StandFor (held_by c.grant.new.self session) (some ++ more)) items
-          (c.in_ok-grant.ensures.held some (subst (λ (txns : Transactions). StandFor (held_by txns.held session) some) (sym c.self.view_is) stands));
+          subst (λ (more : List FootItem). RepresentsItems (held_by c.grant.new.self session) (some ++ more)) items
+          (c.in_ok-grant.ensures.held some (subst (λ (txns : Transactions). RepresentsItems (held_by txns.held session) some) (sym c.self.view_is) stands));
       others = record {
         kept = λ other apart. c.put.ensures.others other apart ∙ ap (λ (txns : Transactions). kept_by txns.kept other) c.self.view_is;
         held = λ other apart. c.in_ok-grant.ensures.others other apart ∙ ap (λ (txns : Transactions). held_by txns.held other) c.self.view_is;

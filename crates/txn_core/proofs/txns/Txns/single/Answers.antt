@@ -5,5 +5,5 @@ use Rattle.txn_core.proofs.txns.Txns.single.Goals as goal
 pub conflict_with-requires : goal.conflict_with-requires
 conflict_with-requires g c =
     record {
-      there = rw c.schema.ensures (write_items_there (g.V.StoreView.schema_of c.args.version.now) c.args.bound.now c.requires.write);
+      there = rw c.schema.ensures (write_items_there (g.V.StoreView.db c.args.version.now).schema c.args.bound.now c.requires.write);
     }

@@ -15,8 +15,8 @@ use Rattle.txn_space.proofs.space.Space.changes.Goals as goal
 
 pub loop-number-preserved : goal.loop-number-preserved
 loop-number-preserved g c =
-    let schema = g.V.StoreView.schema_of c.args.base.now in
-    let rows = g.V.StoreView.rows c.args.base.now in
+    let schema = (g.V.StoreView.db c.args.base.now).schema in
+    let rows = (g.V.StoreView.db c.args.base.now).rows in
     let tables = c.items-tables.result.now in
     let inside : c.loop-number.number < length tables = grind (arith, nat_tests) in
     let within : c.loop-number.number < length (seen tables) = omega (arith, length_seen tables) in
@@ -27,19 +27,19 @@ loop-number-preserved g c =
 -- The changes are those of the entries.
 pub returns-clause-net : goal.returns-clause-net
 returns-clause-net g c =
-    let schema = g.V.StoreView.schema_of c.args.base.now in
-    let rows = g.V.StoreView.rows c.args.base.now in
+    let schema = (g.V.StoreView.db c.args.base.now).schema in
+    let rows = (g.V.StoreView.db c.args.base.now).rows in
     let tables = c.items-tables.result.now in
     let behind : length tables ≤ c.loop-number.number = grind (arith, nat_tests) in
     let past : length (seen tables) ≤ c.loop-number.number = omega (arith, length_seen tables) in
     let space : seen tables ≡ c.args.self.now = ap seen c.items-tables.ensures ∙ c.self.view_is in
     all_tables schema rows c.loop-number.number (seen tables) c.loop-number.changes (entry_changes schema rows 0 (seen tables)) past c.loop-number.invariant
-    ∙ (ap (entry_changes schema rows 0) space ∙ sym (net_is schema rows c.args.self.now c.requires.space c.requires.base))
+    ∙ (ap (entry_changes schema rows 0) space ∙ sym (net_is (g.V.StoreView.db c.args.base.now) c.args.self.now c.requires.space c.requires.base))
 
 pub returns-clause-applied : goal.returns-clause-applied
 returns-clause-applied g c =
-    let schema = g.V.StoreView.schema_of c.args.base.now in
-    let rows = g.V.StoreView.rows c.args.base.now in
+    let schema = (g.V.StoreView.db c.args.base.now).schema in
+    let rows = (g.V.StoreView.db c.args.base.now).rows in
     let tables = c.items-tables.result.now in
     let behind : length tables ≤ c.loop-number.number = grind (arith, nat_tests) in
     let past : length (seen tables) ≤ c.loop-number.number = omega (arith, length_seen tables) in
@@ -49,8 +49,8 @@ returns-clause-applied g c =
 
 pub returns-clause-theirs : goal.returns-clause-theirs
 returns-clause-theirs g c =
-    let schema = g.V.StoreView.schema_of c.args.base.now in
-    let rows = g.V.StoreView.rows c.args.base.now in
+    let schema = (g.V.StoreView.db c.args.base.now).schema in
+    let rows = (g.V.StoreView.db c.args.base.now).rows in
     let tables = c.items-tables.result.now in
     let behind : length tables ≤ c.loop-number.number = grind (arith, nat_tests) in
     let past : length (seen tables) ≤ c.loop-number.number = omega (arith, length_seen tables) in
@@ -60,8 +60,8 @@ returns-clause-theirs g c =
 
 pub returns-clause-once : goal.returns-clause-once
 returns-clause-once g c =
-    let schema = g.V.StoreView.schema_of c.args.base.now in
-    let rows = g.V.StoreView.rows c.args.base.now in
+    let schema = (g.V.StoreView.db c.args.base.now).schema in
+    let rows = (g.V.StoreView.db c.args.base.now).rows in
     let tables = c.items-tables.result.now in
     let behind : length tables ≤ c.loop-number.number = grind (arith, nat_tests) in
     let past : length (seen tables) ≤ c.loop-number.number = omega (arith, length_seen tables) in

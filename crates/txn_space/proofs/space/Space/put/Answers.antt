@@ -12,7 +12,7 @@ use Rattle.txn_space.proofs.space.Space.put.Goals as goal
 -- The tables that are kept are a copy, with the changes.
 pub returns-clause-sound : goal.returns-clause-sound
 returns-clause-sound g c =
-    let tables = (g.V.StoreView.schema_of c.args.base.now).tables in
+    let tables = (g.V.StoreView.db c.args.base.now).schema.tables in
     let begun : c.into_vec-tables.result.items ≡ c.self.inside.tables = c.into_vec-tables.ensures ∙ c.in_ok-copy.ensures in
     let kept : c.from_vec.result ≡ c.put_all.new.tables.items = c.from_vec.ensures in
     let put = subst (λ before. HavePut c.args.changes.now before c.put_all.new.tables.items) begun c.in_ok-put_all.ensures in
@@ -21,7 +21,7 @@ returns-clause-sound g c =
 
 pub returns-clause-put : goal.returns-clause-put
 returns-clause-put g c =
-    let tables = (g.V.StoreView.schema_of c.args.base.now).tables in
+    let tables = (g.V.StoreView.db c.args.base.now).schema.tables in
     let changes = c.args.changes.now in
     let begun : c.into_vec-tables.result.items ≡ c.self.inside.tables = c.into_vec-tables.ensures ∙ c.in_ok-copy.ensures in
     let kept : c.from_vec.result ≡ c.put_all.new.tables.items = c.from_vec.ensures in

@@ -1,0 +1,34 @@
+ghost use Rattle.std.specs.Prelude.{◌≡◌, MatchOption, true, unwrap_or};
+ghost use Rattle.std.specs.Option.{option_copied};
+ghost use Rattle.query_model.specs.Truth.{cell, is_null};
+ghost use Rattle.commit_check.specs.ValueCounts.{value_of};
+
+use own_base::{ColNo, Row, Text, Value};
+
+/// A value that isn't NULL, lent. Such values are ordered: numbers by value, texts by bytes, and no two that differ are tied.
+#[derive(Drop, PartialEq, Eq, PartialOrd, Ord)]
+pub(crate) enum LentValue<'a> {
+    Int(i64),
+    Text(&'a Text),
+    Sum(i128),
+}
+
+/// A value that isn't NULL; no value is NULL. Takes no memory.
+fn held<'a>(value: Option<&'a Value>) -> Option<LentValue<'a>>
+    ensures { MatchOption result (is_null (unwrap_or (option_copied value.entry) Value.Null) ≡ true) (λ held. value_of held ≡ unwrap_or (option_copied value.entry) Value.Null) }
+{
+    match value {
+        Some(Value::Int(number)) => Some(LentValue::Int(*number)),
+        Some(Value::Text(text)) => Some(LentValue::Text(text)),
+        Some(Value::Sum(number)) => Some(LentValue::Sum(*number)),
+        Some(Value::Null) | None => None,
+    }
+}
+
+/// What a row holds in a column, where that isn't NULL; a column that the row doesn't have is NULL. Takes no memory.
+#[tactic(auto, using(crate::proofs::AbsentColumns::absent_columns))]
+pub(crate) fn held_in<'a>(row: &'a Row, column: ColNo) -> Option<LentValue<'a>>
+    ensures { MatchOption result (is_null (cell row.now column.0) ≡ true) (λ held. value_of held ≡ cell row.now column.0) }
+{
+    held(row.get(column))
+}

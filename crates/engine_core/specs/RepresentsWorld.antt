@@ -1,0 +1,42 @@
+-- The state that an engine keeps represents the world of its history.
+use Rattle.std.specs.Prelude.{◌≡◌, ℕ, None, Result, Ok, Err}
+use Rattle.own_model.specs.declared.history.Entry.{Entry}
+use Rattle.own_model.specs.declared.history.Verdict.TheVariants.{Took}
+use Rattle.own_model.specs.declared.reply.Reply.{Reply}
+use Rattle.own_model.specs.Db.{empty}
+use Rattle.state_model.specs.Weight.{weight}
+use Rattle.history_model.specs.Held.{held}
+use Rattle.history_model.specs.History.{History, happens, world}
+use Rattle.history_model.specs.MayBeUnmade.{MayBeUnmadeFrom}
+use Rattle.history_model.specs.Reply.{answer}
+use Rattle.history_model.specs.Serial.{IsEntry, IsHistory}
+use Rattle.history_model.specs.World.{World}
+use Rattle.row_locks.specs.RepresentsItems.{AreHeld}
+use Rattle.txn_core.specs.Kept.{RepresentsSession, kept_by}
+use Rattle.engine_core.specs.Asked.{IsBuiltRequest}
+use Rattle.engine_core.specs.declared.state.State.{State}
+
+-- The state is the world's flat database, and the disk hasn't failed; what is kept of each session represents how it stands, and
+-- the items that are kept for what it holds.
+pub record RepresentsWorld (state : State) (world : World) : Type 0 where
+  pub flat : state.version ≡ world.flat
+  pub weighs : weight state.version ≡ state.weighs
+  pub up : world.down ≡ None
+  pub kept : (session : ℕ) → RepresentsSession world.flat (kept_by state.txns.kept session) (world.standing session)
+  pub held : AreHeld state.txns.held (held world)
+
+-- An entry may come behind a history for which the state stands: of one of the sessions, of a request that can be read and is
+-- built, and the disk took it.
+pub record IsEvent (state : State) (history : History) (entry : Entry) : Type 0 where
+  pub entries : IsHistory history
+  pub stands : RepresentsWorld state (world empty history)
+  pub is_entry : IsEntry entry
+  pub took : entry.verdict ≡ Took
+  pub built : IsBuiltRequest entry.request
+
+-- What became of an entry: it was answered as in the world of the history, and the state represents the world with it; or
+-- memory was refused, as it may be of such an entry, and the state represents the world as it was.
+abbrev pub Serves : {E : Type 0} → State → History → Entry → Result Reply E → Type 0
+Serves after history entry (Ok reply) = (answer (world empty history) entry ≡ reply) × RepresentsWorld after (happens (world empty history) entry)
+Serves after history entry (Err refused) =
+    RepresentsWorld after (world empty history) × MayBeUnmadeFrom (world empty history).flat.schema ((world empty history).standing entry.session.0) entry.request

@@ -1,9 +1,0 @@
-use Rattle.std.proofs.Common.{take}
-use Rattle.owner_graph.specs.Placing.{GoesOn, IsPlacing, WaitsForLess}
-use Rattle.owner_graph.proofs.placing.Placing.settle.Given as goal
-
-abbrev pub invariant-loop-edge : goal.invariant-loop-edge
-invariant-loop-edge l =
-    IsPlacing l.self.order.items l.self.waiting.items
-    × GoesOn l.initial.self.order.items l.self.order.items
-    × WaitsForLess (take l.edge-index l.edges) l.initial.self.waiting.items l.self.waiting.items
