@@ -2,6 +2,8 @@
 #![tactic(auto)]
 
 #[cfg(test)]
+mod disks;
+#[cfg(test)]
 mod memory;
 #[cfg(test)]
 mod runs_of_calls;

@@ -1,1 +1,6 @@
+pub mod CrashSteps
+pub mod DiskSteps
 mod Filling
+pub mod FuseSteps
+pub mod Moments
+pub mod Tabulated

@@ -1,4 +1,4 @@
-ghost use Rattle.std.specs.Prelude.{◌≡◌, ◌<◌, ◌≤◌, ◌^◌, ◌↔◌, IfOk, IsErr, IsTrue, OnOk, OnErr};
+ghost use Rattle.std.specs.Prelude.{◌≡◌, [], ◌<◌, ◌≤◌, ◌^◌, ◌↔◌, IfOk, IsErr, IsTrue, OnOk, OnErr};
 ghost use Rattle.outer_world.specs.FaultCount.{one_higher};
 ghost use Rattle.outer_world.specs.FaultPlan.{fresh_plan, IsNextToFail, plan_after_success, plan_after_fault};
 
@@ -37,6 +37,24 @@ impl FaultPlan {
             calls: 0,
             faults: 0,
         })
+    }
+
+    /// No call is to fail. Takes no memory.
+    pub(crate) fn without_faults(alloc: Global) -> FaultPlan
+        ensures { result ≡ fresh_plan [] }
+    {
+        FaultPlan {
+            fails: Vec::new(alloc),
+            calls: 0,
+            faults: 0,
+        }
+    }
+
+    /// The count of faults. Takes no memory.
+    pub(crate) fn faults(&self) -> u64
+        ensures { result ≡ self.now.faults }
+    {
+        self.faults
     }
 
     /// Counts the next call, and fails it where it is to fail.

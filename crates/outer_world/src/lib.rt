@@ -2,11 +2,16 @@
 //! passes before each call. Each is a trait, with an implementation in memory and one over the system.
 #![tactic(auto)]
 
+mod areas;
+mod change;
 mod disk;
 mod failed;
 mod fault_plan;
+mod file_disk;
+mod fuse_disk;
 mod gate;
 mod interruption;
+mod mem_area;
 mod mem_disk;
 mod mem_sink;
 mod mem_source;
@@ -17,8 +22,11 @@ mod stdin_source;
 mod stdout_sink;
 mod writing;
 
+pub use areas::other_area;
 pub use disk::Disk;
 pub use failed::Failed;
+pub use file_disk::FileDisk;
+pub use fuse_disk::FuseDisk;
 pub use gate::{Gate, Gone, NowGate};
 pub use interruption::INTERRUPTIONS;
 pub use mem_disk::MemDisk;

@@ -1,0 +1,4 @@
+pub mod ReadImage
+pub mod Runs
+pub mod SoundImages
+pub mod GatedImages

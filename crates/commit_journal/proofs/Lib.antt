@@ -1,0 +1,4 @@
+pub mod AreaBytes
+pub mod FirstByte
+pub mod Steps
+pub mod Stores

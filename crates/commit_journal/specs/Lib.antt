@@ -1,0 +1,4 @@
+pub mod AreaCalls
+pub mod Filled
+pub mod JournalState
+pub mod Retired

@@ -1,0 +1,16 @@
+pub mod Area
+pub mod Gate
+pub mod Records
+pub mod Number
+pub mod Text
+pub mod Value
+pub mod Row
+pub mod Payload
+pub mod Image
+pub mod Spelling
+pub mod Bounds
+pub mod PutOf
+pub mod Lawful
+pub mod Follows
+pub mod StoreOf
+pub mod Judged

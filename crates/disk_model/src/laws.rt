@@ -1,0 +1,43 @@
+//! Laws of the definitions in `specs/`: each function does nothing, and what it ensures holds of all bytes.
+ghost use Rattle.std.specs.Prelude.{◌≡◌, ℕ, List, length};
+ghost use Rattle.own_base.specs.declared.change.Change.{Change};
+ghost use Rattle.own_model.specs.Db.{Db};
+ghost use Rattle.state_model.specs.Payload.{payload_bytes};
+ghost use Rattle.state_model.specs.Sound.{Sound};
+ghost use Rattle.disk_model.specs.declared.commit.Commit.{Commit};
+ghost use Rattle.disk_model.specs.declared.commit.Commit.TheVariants.{Changes};
+ghost use Rattle.disk_model.specs.declared.image.Image.{Image};
+ghost use Rattle.disk_model.specs.Bounds.{IsBounded, IsBoundedImage, IsHeld, IsHeldImage};
+ghost use Rattle.disk_model.specs.Follows.{Follows};
+ghost use Rattle.disk_model.specs.Image.{IsImage};
+ghost use Rattle.disk_model.specs.Payload.{IsPayload};
+ghost use Rattle.disk_model.specs.PutOf.{puts_of};
+ghost use Rattle.disk_model.specs.StoreOf.{AreFollowed, IsStoreOf};
+ghost use Rattle.disk_model.specs.Spelling.{image_spelling, payload_spelling};
+
+/// A commit has one payload, its spelling, and has it exactly where it is bounded and held.
+pub fn commit_has_one_payload()
+    ensures spelled { (commit : Commit) (bytes : List ℕ) → IsPayload commit bytes → bytes ≡ payload_spelling commit }
+    ensures bounded { (commit : Commit) (bytes : List ℕ) → IsPayload commit bytes → IsBounded commit × IsHeld commit }
+    ensures written { (commit : Commit) → IsBounded commit → IsHeld commit → IsPayload commit (payload_spelling commit) }
+{}
+
+/// An image has one list of bytes, its spelling, and has it exactly where it is bounded and held.
+pub fn image_has_one_spelling()
+    ensures spelled { (image : Image) (bytes : List ℕ) → IsImage image bytes → bytes ≡ image_spelling image }
+    ensures bounded { (image : Image) (bytes : List ℕ) → IsImage image bytes → IsBoundedImage image × IsHeldImage image }
+    ensures written { (image : Image) → IsBoundedImage image → IsHeldImage image → IsImage image (image_spelling image) }
+{}
+
+/// The payload of changes is as long as is counted of them.
+pub fn payload_is_as_long_as_counted()
+    ensures { (changes : List Change) (payload : List ℕ) → IsPayload (Changes (puts_of changes)) payload → length payload ≡ payload_bytes changes }
+{}
+
+/// A lawful commit leaves a sound database sound, and so do commits one after another. So what an image and commits stand
+/// for is sound.
+pub fn lawful_commits_leave_a_sound_database()
+    ensures one { (db : Db) (commit : Commit) (after : Db) → Sound db → Follows db commit after → Sound after }
+    ensures several { (db : Db) (commits : List Commit) (after : Db) → Sound db → AreFollowed db commits after → Sound after }
+    ensures store { (image : Image) (commits : List Commit) (db : Db) (number : ℕ) → IsStoreOf image commits db number → Sound db }
+{}

@@ -1,0 +1,9 @@
+//! Tests of what is written to a disk, by the public calls, on bytes that were worked out by hand.
+#![tactic(auto)]
+
+#[cfg(test)]
+mod images;
+#[cfg(test)]
+mod parts;
+#[cfg(test)]
+mod payloads;

@@ -1,0 +1,79 @@
+use Rattle.std.proofs.Common.{refl, rules}
+use Rattle.outer_world.proofs.DiskSteps.{one_more_is, unchanged_is, either_end, ok_end, stays_unchanged, beside_unchanged, follows_unchanged, torn_alone, cut_alone, elapses_unchanged, elapses_one_more, beside_one_more, holds_written, follows_write, holds_cut, follows_cut, synced_now, stays_synced}
+use Rattle.outer_world.specs.Torn.{Torn}
+use Rattle.outer_world.specs.TornCut.{TornCut}
+use Rattle.own_base.specs.declared.number.Area.TheVariants.{A, B}
+use Rattle.outer_world.specs.declared.change.Change.TheVariants.{Write, Cut, Sync}
+use Rattle.outer_world.proofs.mem_disk.MemDiskDisk.TheImpl.Goals as goal
+
+-- a call that succeeds is one call more, and one that fails changes nothing
+pub write_at-tells : goal.write_at-tells
+write_at-tells c =
+    let old = c.args.self.now in
+    let new = c.new.self.now in
+    let area = c.args.area in
+    let change = Write c.args.at c.args.bytes.now in
+    record {
+      written = ok_end c.result _ _ c.ensures.ok (λ ok _. holds_written old new area c.args.at c.args.bytes.now (one_more_is old new area change _ ok));
+      torn = λ _. either_end c.result _ _ _ c.ensures.ok c.ensures.fault
+          (λ ok. follows_write old new area c.args.at c.args.bytes.now (c.requires refl) (one_more_is old new area change _ ok))
+          (λ err. follows_unchanged old new area (Torn c.args.at _) (torn_alone c.args.at _) (unchanged_is old new _ err));
+      beside = λ _. either_end c.result _ _ _ c.ensures.ok c.ensures.fault
+          (λ ok. beside_one_more old new area change (one_more_is old new area change _ ok))
+          (λ err. beside_unchanged old new area (unchanged_is old new _ err));
+      honesty = refl;
+      time = either_end c.result _ _ _ c.ensures.ok c.ensures.fault
+          (λ ok. elapses_one_more old new area change (one_more_is old new area change _ ok))
+          (λ err. elapses_unchanged old new (unchanged_is old new _ err));
+      fault = search rules;
+      steady = search rules;
+      counted = search rules;
+      in_range = search rules;
+    }
+
+pub cut-tells : goal.cut-tells
+cut-tells c =
+    let old = c.args.self.now in
+    let new = c.new.self.now in
+    let area = c.args.area in
+    let change = Cut c.args.len in
+    record {
+      cut = ok_end c.result _ _ c.ensures.ok (λ ok _. holds_cut old new area c.args.len (one_more_is old new area change _ ok));
+      torn = λ _. either_end c.result _ _ _ c.ensures.ok c.ensures.fault
+          (λ ok. follows_cut old new area c.args.len (c.requires refl) (one_more_is old new area change _ ok))
+          (λ err. follows_unchanged old new area (TornCut c.args.len) (cut_alone c.args.len) (unchanged_is old new _ err));
+      beside = λ _. either_end c.result _ _ _ c.ensures.ok c.ensures.fault
+          (λ ok. beside_one_more old new area change (one_more_is old new area change _ ok))
+          (λ err. beside_unchanged old new area (unchanged_is old new _ err));
+      honesty = refl;
+      time = either_end c.result _ _ _ c.ensures.ok c.ensures.fault
+          (λ ok. elapses_one_more old new area change (one_more_is old new area change _ ok))
+          (λ err. elapses_unchanged old new (unchanged_is old new _ err));
+      fault = search rules;
+      steady = search rules;
+      counted = search rules;
+      in_range = search rules;
+    }
+
+pub sync-tells : goal.sync-tells
+sync-tells c =
+    let old = c.args.self.now in
+    let new = c.new.self.now in
+    let area = c.args.area in
+    record {
+      durable = ok_end c.result _ _ c.ensures.ok (λ ok _. synced_now old new area (one_more_is old new area Sync _ ok));
+      same_a = λ _. either_end c.result _ _ _ c.ensures.ok c.ensures.fault
+          (λ ok. stays_synced old new area (one_more_is old new area Sync _ ok) A)
+          (λ err. stays_unchanged old new (unchanged_is old new _ err) A);
+      same_b = λ _. either_end c.result _ _ _ c.ensures.ok c.ensures.fault
+          (λ ok. stays_synced old new area (one_more_is old new area Sync _ ok) B)
+          (λ err. stays_unchanged old new (unchanged_is old new _ err) B);
+      honesty = refl;
+      time = either_end c.result _ _ _ c.ensures.ok c.ensures.fault
+          (λ ok. elapses_one_more old new area Sync (one_more_is old new area Sync _ ok))
+          (λ err. elapses_unchanged old new (unchanged_is old new _ err));
+      fault = search rules;
+      steady = search rules;
+      counted = search rules;
+      in_range = search rules;
+    }

@@ -1,0 +1,4 @@
+pub mod RisingNames
+pub mod ReadPayload
+pub mod ShortPayloads
+pub mod FramedCommits
