@@ -6,3 +6,4 @@ pub mod OwnRule
 pub mod Requests
 pub mod Shrinking
 pub mod TextBytes
+pub mod Utf8Texts

@@ -1,5 +1,5 @@
 -- Which requests can stand in a history.
-use Rattle.std.specs.Prelude.{ℕ, ◌≤◌, List, [], length}
+use Rattle.std.specs.Prelude.{ℕ, ◌≤◌, List, [], length, IsUtf8}
 use Rattle.own_model.specs.declared.limit.LimitName.{LimitName}
 use Rattle.own_model.specs.declared.limit.LimitName.TheVariants as limit
 use Rattle.own_model.specs.declared.limit.TheConstants.{NESTING_LEVELS, STATEMENT_BYTES}
@@ -12,10 +12,11 @@ use Rattle.grammar_model.specs.Limits.{store_limits}
 use Rattle.grammar_model.specs.Terminal.{Terminals}
 use Rattle.grammar_model.specs.Terminals.{AreTerminals}
 
--- the grammar gives the statement for some text of at most that many bytes
+-- the grammar gives the statement for some text of at most that many bytes, which are UTF-8
 pub record IsWritten (most : ℕ) (found : Statement) : Type 0 where
   pub text : List ℕ
   pub short : length text ≤ most
+  pub utf8 : IsUtf8 text
   pub terminals : Terminals
   pub cut : AreTerminals text terminals
   pub spells : statement store_limits NESTING_LEVELS found terminals []

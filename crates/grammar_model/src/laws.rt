@@ -1,5 +1,5 @@
 //! What follows from the definitions in `specs/`: the function does nothing, and what it ensures holds of every text, answer and statement.
-ghost use Rattle.std.specs.Prelude.{◌≡◌, ◌≤◌, ℕ, List, Option, length};
+ghost use Rattle.std.specs.Prelude.{◌≡◌, ◌≤◌, ℕ, IsUtf8, List, Option, length};
 ghost use Rattle.std.specs.List.{AllByRecursion};
 ghost use Rattle.own_base.specs.declared.value.Value.{Value};
 ghost use Rattle.own_model.specs.declared.create.CreateTable.{CreateTable};
@@ -14,9 +14,9 @@ ghost use Rattle.own_model.specs.TextBytes.{asked_bytes};
 ghost use Rattle.grammar_model.specs.Answer.{Answer, IsAnswer};
 ghost use Rattle.grammar_model.specs.Readable.{IsReadable, request_of};
 
-/// What a short text is answered by can stand in a history: its statement, its byte or its limit.
+/// What a short text in UTF-8 is answered by can stand in a history: its statement, its byte or its limit.
 pub fn answer_is_readable()
-    ensures { (text : List ℕ) (answer : Answer) → length text ≤ STATEMENT_BYTES → IsAnswer text answer → IsReadable (request_of answer) }
+    ensures { (text : List ℕ) (answer : Answer) → length text ≤ STATEMENT_BYTES → IsUtf8 text → IsAnswer text answer → IsReadable (request_of answer) }
 {}
 
 /// The texts that the answer's statement puts into rows have no more bytes than the text that it answers.
