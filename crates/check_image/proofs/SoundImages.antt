@@ -21,7 +21,7 @@ use Rattle.query_model.specs.BoundView.{new_view}
 use Rattle.state_model.specs.Create.{kept_text, kept_view_text, with_view}
 use Rattle.state_model.specs.Created.{Create, IsCreated, OfTable, OfView, schema_after, text_of, with_create}
 use Rattle.state_model.specs.Fault.{fault}
-use Rattle.state_model.specs.Rows.{AreOfKinds, AreRowsOf, IsRowOf, IsShort}
+use Rattle.state_model.specs.Rows.{AreOfKinds, AreRowsOf, IsRowOf, IsStorable}
 use Rattle.state_model.specs.Sound.{Sound}
 use Rattle.state_model.specs.Weight.{row_count}
 use Rattle.state_model.proofs.CreatedSchema.{views_within-created, within-created}
@@ -38,7 +38,7 @@ length-of_kinds [] (x ∷ row) are = absurd are
 length-of_kinds (column ∷ columns) [] are = absurd are
 length-of_kinds (column ∷ columns) (x ∷ row) are = let rest = length-of_kinds columns row are.1 in omega arith
 
-short_values : (columns : List Column) (row : Row) → AreOfKinds columns row → AllByRecursion IsShort row → AllByRecursion IsShortValue row
+short_values : (columns : List Column) (row : Row) → AreOfKinds columns row → AllByRecursion IsStorable row → AllByRecursion IsShortValue row
 short_values [] [] are short = tt
 short_values [] (x ∷ row) are short = absurd are
 short_values (column ∷ columns) [] are short = absurd are
@@ -52,7 +52,7 @@ short_row table row within is =
     let count = length-of_kinds table.columns row is.kinds in
     let key = within.key in
     let most = within.columns in
-    record { some = omega arith; few = omega arith; values = short_values table.columns row is.kinds is.short }
+    record { some = omega arith; few = omega arith; values = short_values table.columns row is.kinds is.storable }
 
 short_rows : (table : TableDef) (rows : List Row) → IsTableWithin table → AllByRecursion (IsRowOf table) rows → AllByRecursion IsShortRow rows
 short_rows table [] within are = tt

@@ -23,7 +23,7 @@ use Rattle.query_model.specs.Footprints.{at_first, with_key}
 use Rattle.state_model.specs.Fault.{fault}
 use Rattle.state_model.specs.Net.{change_at, keys_in, net, net_from, net_in}
 use Rattle.state_model.specs.Payload.{change_bytes, key_bytes, payload_bytes, state_bytes, value_bytes}
-use Rattle.state_model.specs.Rows.{AreOfKinds, AreRowsOf, IsRowOf, IsShort}
+use Rattle.state_model.specs.Rows.{AreOfKinds, AreRowsOf, IsRowOf, IsStorable}
 use Rattle.state_model.specs.Same.{is_same_state}
 use Rattle.state_model.specs.Weight.{row_count}
 use Rattle.state_model.proofs.Faultless.{faultless-from}
@@ -36,24 +36,24 @@ value_most = 5 + TEXT_BYTES
 abbrev pub change_most : ℕ
 change_most = 4 + value_most + 1 + (4 + TABLE_COLUMNS * value_most)
 
-value_few : (value : Value) → IsShort value → value_bytes value ≤ value_most
+value_few : (value : Value) → IsStorable value → value_bytes value ≤ value_most
 value_few value.Null short = omega arith
 value_few (value.Int number) short = omega arith
 value_few (value.Text bytes) short = omega arith
 value_few (value.Sum number) short = omega arith
 
-values_few : (row : Row) → Each IsShort row → sum_by value_bytes row ≤ value_most * length row
+values_few : (row : Row) → Each IsStorable row → sum_by value_bytes row ≤ value_most * length row
 values_few [] short = omega arith
 values_few (value ∷ row) short =
     let own = value_few value short.0 in let later = values_few row short.1 in let whole = sum_by-cons value_bytes value row in omega arith
 
-key_few : (value : Value) → IsShort value → key_bytes (as_key value) ≤ value_most
+key_few : (value : Value) → IsStorable value → key_bytes (as_key value) ≤ value_most
 key_few value.Null short = omega arith
 key_few (value.Int number) short = omega arith
 key_few (value.Text bytes) short = omega arith
 key_few (value.Sum number) short = omega arith
 
-short-at : (row : Row) (place : ℕ) → Each IsShort row → IsShort (slice_index_or row place value.Null)
+short-at : (row : Row) (place : ℕ) → Each IsStorable row → IsStorable (slice_index_or row place value.Null)
 short-at [] place short = tt
 short-at (value ∷ row) zero short = short.0
 short-at (value ∷ row) (suc place) short = short-at row place short.1
@@ -61,7 +61,7 @@ short-at (value ∷ row) (suc place) short = short-at row place short.1
 -- the key of a row that may stand in a table
 key-few : (table : TableDef) (row : Row) → IsRowOf table row → key_bytes (key_of table row) ≤ value_most
 unfolding key_of
-key-few table row is = key_few (slice_index_or row table.key.0 value.Null) (short-at row table.key.0 is.short)
+key-few table row is = key_few (slice_index_or row table.key.0 value.Null) (short-at row table.key.0 is.storable)
 
 length-of_kinds : (columns : List Column) (values : List Value) → AreOfKinds columns values → length values ≡ length columns
 length-of_kinds [] [] are = refl
@@ -77,7 +77,7 @@ state_few table rows key few are (Some row) is =
     let at = (find-some (has_key table key) rows row is).0 in
     let own = all-at (IsRowOf table) rows are at.0 row at.1 in
     let long = length-of_kinds table.columns row own.kinds in
-    let values = values_few row own.short in
+    let values = values_few row own.storable in
     omega arith
 
 -- a key more among keys

@@ -12,12 +12,12 @@ use Rattle.grammar_model.specs.Limits.{store_limits}
 use Rattle.grammar_model.specs.Readable.{IsWritten}
 use Rattle.grammar_model.proofs.OwnRule.{written-own}
 use Rattle.query_model.specs.Scope.{NameBytes}
-use Rattle.state_model.specs.Rows.{IsOf64Bits, IsShort}
+use Rattle.state_model.specs.Rows.{IsOf64Bits, IsStorable}
 use Rattle.state_model.proofs.Languages.{Gives, gives-bind, gives-listed, gives-or, gives-own, gives-pure}
 use Rattle.run_model.proofs.KeylessSets.{Written}
 use Rattle.run_model.proofs.PutRows.{IsNoSum}
 use Rattle.run_model.proofs.RightSets.{AreFit, IsFit}
-use Rattle.run_model.proofs.ShortTexts.{int-short, text-short}
+use Rattle.run_model.proofs.StorableValues.{int-storable, text-storable}
 
 -- an UPDATE to such values, or another statement
 abbrev HasFitSets : Statement → Type 0
@@ -26,7 +26,7 @@ HasFitSets _ = Unit {0}
 
 -- a short value that is no sum
 abbrev IsFitValue : Value → Type 0
-IsFitValue value = IsShort value × IsNoSum value
+IsFitValue value = IsStorable value × IsNoSum value
 
 null_is_no_sum : IsNoSum Value.Null
 null_is_no_sum number is = cc
@@ -42,8 +42,8 @@ literal-fit : Gives IsFitValue (rules.literal store_limits)
 unfolding rules.literal
 literal-fit =
     gives-or IsFitValue _ _ (gives-bind IsFitValue _ _ (λ _. gives-pure IsFitValue Value.Null (tt, null_is_no_sum)))
-    (gives-or IsFitValue _ _ (gives-own (λ bytes. IsShort (Value.Text bytes)) IsFitValue _ _ text-short (λ found has. gives-pure IsFitValue (Value.Text found) (has, text_is_no_sum found)))
-    (gives-own IsOf64Bits IsFitValue _ _ int-short (λ found has. gives-pure IsFitValue (Value.Int found) (has, int_is_no_sum found))))
+    (gives-or IsFitValue _ _ (gives-own (λ bytes. IsStorable (Value.Text bytes)) IsFitValue _ _ text-storable (λ found has. gives-pure IsFitValue (Value.Text found) (has, text_is_no_sum found)))
+    (gives-own IsOf64Bits IsFitValue _ _ int-storable (λ found has. gives-pure IsFitValue (Value.Int found) (has, int_is_no_sum found))))
 
 -- so an expression is fit
 expr-fit : Gives IsFit (rules.expr store_limits)

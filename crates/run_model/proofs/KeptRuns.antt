@@ -43,7 +43,7 @@ use Rattle.run_model.proofs.Outcomes.{IfBound, IfDeleted, IfPut, IfRuns, IfUpdat
 use Rattle.run_model.proofs.PutRows.{rows-put}
 use Rattle.run_model.proofs.RightSets.{sets-of}
 use Rattle.run_model.proofs.RisingKeys.{AreKeyless}
-use Rattle.run_model.proofs.ShortTexts.{written-short}
+use Rattle.run_model.proofs.StorableValues.{written-storable}
 use Rattle.run_model.proofs.TableLemmas.{AreTogether, IfRows, rows-at, rows-change, rows-set, together-with_tuples}
 use Rattle.run_model.proofs.UpdatedRows.{AreSetsOf, all-rows_left, rows-updated}
 
@@ -109,7 +109,7 @@ module _ (db : Db) (kept : IsWellFormed db) where
       let named = named-at db.schema name table parts.0 at in
       let own : list_faults table names ++ flat_map (tuple_faults table names) tuples ≡ [] = rw named at parts.1 in
       let none = flat_map-none (tuple_faults table names) tuples (append-none (list_faults table names) _ own).1 in
-      rw named (rows-put table names tuples (key-table _ table at) (names-table _ table at) (plain-table _ table at) (written-short STATEMENT_BYTES name names tuples readable) (no_sums name names tuples readable) none))
+      rw named (rows-put table names tuples (key-table _ table at) (names-table _ table at) (plain-table _ table at) (written-storable STATEMENT_BYTES name names tuples readable) (no_sums name names tuples readable) none))
 
   -- an UPDATE
   kept-update : (name : NameBytes) (sets : Written) (cond : Option Cond) → IsReadable (Run (statement.Update name sets cond))

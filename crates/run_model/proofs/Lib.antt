@@ -21,7 +21,7 @@ pub mod RightSets
 pub mod RisingKeys
 pub mod SameSchema
 pub mod SelectLookups
-pub mod ShortTexts
+pub mod StorableValues
 pub mod SparedKeys
 pub mod StatementFootprints
 pub mod TableLemmas

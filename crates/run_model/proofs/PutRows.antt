@@ -18,12 +18,12 @@ use Rattle.query_model.specs.Kinds.{goes_with}
 use Rattle.query_model.specs.Scope.{NameBytes}
 use Rattle.query_model.specs.WriteFaults.{column_in, columns_for, columns_left, left_faults, numbered_columns, tuple_faults, value_faults, wrong_count}
 use Rattle.query_model.specs.WriteMeaning.{given, is_for, put_row}
-use Rattle.state_model.specs.Rows.{AreOfKinds, IsOfKind, IsRowOf, IsShort}
+use Rattle.state_model.specs.Rows.{AreOfKinds, IsOfKind, IsRowOf, IsStorable}
 use Rattle.state_model.proofs.KeyColumns.{HasKey}
 use Rattle.state_model.proofs.PlainKinds.{IsPlain, IsPlainColumn, IsPlainTable}
 use Rattle.run_model.proofs.KeyedRows.{keyed-put}
 use Rattle.run_model.proofs.Numbered.{IfNumbered, IsNumbered, numbered-each, numbered-found}
-use Rattle.run_model.proofs.ShortTexts.{AreShort}
+use Rattle.run_model.proofs.StorableValues.{AreStorable}
 
 -- the column that a value is for, if there is one
 abbrev Target : Type 0
@@ -67,7 +67,7 @@ of_kind of (value.Sum number) plain no_sum goes = absurd (no_sum number refl)
 
 -- A value with the column that it is for: it is short, and of the column's kind.
 record IsGood (table : TableDef) (pair : Target × Value) : Type 0 where
-  short : IsShort pair.1
+  short : IsStorable pair.1
   fits : (number : ℕ) (column : Column) → is_for number pair ≡ true → slice_get table.columns number ≡ Some column → IsOfKind column.kind pair.1
 
 -- a value without a fault goes with its column's kind
@@ -77,7 +77,7 @@ goes_step kind value fault more true is none = is
 goes_step kind value fault more false is none = let never : ⊥ = cc in absurd never
 
 -- a value without faults
-good : (table : TableDef) (target : Target) (value : Value) → IsPlainTable table → IfNumbered table.columns target → IsShort value → IsNoSum value
+good : (table : TableDef) (target : Target) (value : Value) → IsPlainTable table → IfNumbered table.columns target → IsStorable value → IsNoSum value
     → value_faults table target value ≡ [] → IsGood table (target, value)
 good table None value plain there short no_sum none = record { short = short; fits = λ number column is at. let never : ⊥ = cc in absurd never }
 good table (Some target) value plain there short no_sum none = record {
@@ -92,7 +92,7 @@ good table (Some target) value plain there short no_sum none = record {
 
 -- the values of a tuple without faults
 good_pairs : (table : TableDef) (targets : List Target) (tuple : List Value) → IsPlainTable table → AreTargets table targets
-    → AllByRecursion IsShort tuple → AllByRecursion IsNoSum tuple
+    → AllByRecursion IsStorable tuple → AllByRecursion IsNoSum tuple
     → AllByRecursion (λ pair. value_faults table pair.0 pair.1 ≡ []) (zip targets tuple) → AllByRecursion (IsGood table) (zip targets tuple)
 good_pairs table [] tuple plain there short no_sums none = tt
 good_pairs table (target ∷ targets) [] plain there short no_sums none = tt
@@ -102,7 +102,7 @@ good_pairs table (target ∷ targets) (value ∷ tuple) plain there short no_sum
 -- what a column is given
 pub record IsGiven (column : Column) (value : Value) : Type 0 where
   pub fits : IsOfKind column.kind value
-  pub short : IsShort value
+  pub short : IsStorable value
 
 -- by whether the first value is for the column
 given_step : (table : TableDef) (pair : Target × Value) (pairs : Pairs) (column : ℕ × Column)
@@ -120,7 +120,7 @@ is_given table (pair ∷ pairs) column at all = given_step table pair pairs colu
 -- what columns are given is a row of theirs
 given_row : (table : TableDef) (pairs : Pairs) (number : ℕ) (columns : List Column)
     → AllByRecursion (IsGood table) pairs → AllByRecursion (IsNumbered table.columns) (enumerate_from number columns)
-    → AreOfKinds columns (map (given pairs) (enumerate_from number columns)) × AllByRecursion IsShort (map (given pairs) (enumerate_from number columns))
+    → AreOfKinds columns (map (given pairs) (enumerate_from number columns)) × AllByRecursion IsStorable (map (given pairs) (enumerate_from number columns))
 given_row table pairs number [] good at = (tt, tt)
 given_row table pairs number (column ∷ columns) good at =
     let first = is_given table pairs (number, column) at.0 good in
@@ -128,7 +128,7 @@ given_row table pairs number (column ∷ columns) good at =
     ((first.fits, rest.0), (first.short, rest.1))
 
 -- the row that a tuple without faults puts
-row-put : (table : TableDef) (names : Option (List NameBytes)) (tuple : List Value) → HasKey table → ColumnsDiffer table → IsPlainTable table → AllByRecursion IsShort tuple → AllByRecursion IsNoSum tuple
+row-put : (table : TableDef) (names : Option (List NameBytes)) (tuple : List Value) → HasKey table → ColumnsDiffer table → IsPlainTable table → AllByRecursion IsStorable tuple → AllByRecursion IsNoSum tuple
     → tuple_faults table names tuple ≡ [] → IsRowOf table (put_row table names tuple)
 unfolding put_row
 row-put table names tuple key differ plain short no_sums none =
@@ -142,7 +142,7 @@ row-put table names tuple key differ plain short no_sums none =
     record { kinds = row.0; short = row.1; keyed = keyed-put table key differ names tuple none }
 
 -- the rows of tuples without faults
-pub rows-put : (table : TableDef) (names : Option (List NameBytes)) (tuples : List (List Value)) → HasKey table → ColumnsDiffer table → IsPlainTable table → AreShort tuples
+pub rows-put : (table : TableDef) (names : Option (List NameBytes)) (tuples : List (List Value)) → HasKey table → ColumnsDiffer table → IsPlainTable table → AreStorable tuples
     → AllByRecursion (AllByRecursion IsNoSum) tuples → AllByRecursion (λ tuple. tuple_faults table names tuple ≡ []) tuples
     → AllByRecursion (IsRowOf table) (map (put_row table names) tuples)
 rows-put table names [] key differ plain short no_sums none = tt

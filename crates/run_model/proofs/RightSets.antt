@@ -26,7 +26,7 @@ use Rattle.query_model.specs.WriteMeaning.{bound_expression, bound_sets, column_
 use Rattle.schema_model.proofs.Places.{all-at}
 use Rattle.readable_model.proofs.NoFaults.{none-first, none-last}
 use Rattle.state_model.proofs.PlainKinds.{IsPlain, IsPlainColumn, IsPlainTable}
-use Rattle.state_model.specs.Rows.{AreOfKinds, IsRowOf, IsShort}
+use Rattle.state_model.specs.Rows.{AreOfKinds, IsRowOf, IsStorable}
 use Rattle.run_model.proofs.KeylessSets.{AreFaultless, Written, column_set}
 use Rattle.run_model.proofs.Numbered.{IfNumbered, numbered-found}
 use Rattle.run_model.proofs.PutRows.{IsGiven, IsNoSum, goes_step, of_kind}
@@ -34,7 +34,7 @@ use Rattle.run_model.proofs.UpdatedRows.{AreSetsOf, IsSetOf}
 
 -- a literal that may stand in a table by its own: it is short, and no sum; any other expression
 abbrev pub IsFit : Expr → Type 0
-IsFit (expr.Literal value) = IsShort value × IsNoSum value
+IsFit (expr.Literal value) = IsStorable value × IsNoSum value
 IsFit _ = Unit {0}
 
 -- sets to such ones
@@ -42,7 +42,7 @@ abbrev pub AreFit : Written → Type 0
 AreFit sets = AllByRecursion (λ (set : NameBytes × Expr). IsFit set.1) sets
 
 -- what stands in a column of a row may stand there
-cell-given : (columns : List Column) (row : Row) → AreOfKinds columns row → AllByRecursion IsShort row → (place : ℕ) (column : Column)
+cell-given : (columns : List Column) (row : Row) → AreOfKinds columns row → AllByRecursion IsStorable row → (place : ℕ) (column : Column)
     → slice_get columns place ≡ Some column → IsGiven column (cell row place)
 cell-given [] row kinds short place column at = absurd (cc)
 cell-given (first ∷ columns) [] kinds short place column at = absurd kinds
@@ -117,7 +117,7 @@ module _ (table : TableDef) (plain : IsPlainTable table) (assigned : NameBytes) 
   named-given name place other found none row is =
       let there = column-at table name place other found in
       let kind = kind_assigned place other (column_in table name) there found none in
-      let given = cell-given table.columns row is.kinds is.short place other there in
+      let given = cell-given table.columns row is.kinds is.storable place other there in
       rw found (record { fits = rw kind given.fits; short = given.short })
 
   column-given : (name : NameBytes) → expression_faults table assigned (Some (number, column)) (expr.Column name) ≡ [] → (row : Row) → IsRowOf table row

@@ -13,7 +13,7 @@ use Rattle.own_model.specs.declared.schema.TableDef.{TableDef}
 use Rattle.own_model.specs.Db.{Row}
 use Rattle.query_model.specs.Expression.{value_of}
 use Rattle.query_model.specs.Truth.{keeps}
-use Rattle.state_model.specs.Rows.{AreOfKinds, IsRowOf, IsShort}
+use Rattle.state_model.specs.Rows.{AreOfKinds, IsRowOf, IsStorable}
 use Rattle.run_model.specs.Update.{Sets, rows_left, set_value, updated, updated_rows}
 use Rattle.run_model.proofs.Numbered.{IsNumbered, numbered-each}
 use Rattle.run_model.proofs.PutRows.{IsGiven}
@@ -44,8 +44,8 @@ module _ (table : TableDef) (row : Row) (is : IsRowOf table row) where
 
   -- the values of columns from a number on
   values_updated : (sets : Sets) (number : ℕ) (columns : List Column) (values : Row) → AreSetsOf table sets
-      → AllByRecursion (IsNumbered table.columns) (enumerate_from number columns) → AreOfKinds columns values → AllByRecursion IsShort values
-      → AreOfKinds columns (map (set_value sets row) (enumerate_from number values)) × AllByRecursion IsShort (map (set_value sets row) (enumerate_from number values))
+      → AllByRecursion (IsNumbered table.columns) (enumerate_from number columns) → AreOfKinds columns values → AllByRecursion IsStorable values
+      → AreOfKinds columns (map (set_value sets row) (enumerate_from number values)) × AllByRecursion IsStorable (map (set_value sets row) (enumerate_from number values))
   values_updated sets number [] [] are at kinds short = (tt, tt)
   values_updated sets number [] (value ∷ values) are at kinds short = absurd kinds
   values_updated sets number (column ∷ columns) [] are at kinds short = absurd kinds
@@ -58,7 +58,7 @@ module _ (table : TableDef) (row : Row) (is : IsRowOf table row) where
   pub row-updated : (sets : Sets) → AreKeyless table sets → AreSetsOf table sets → IsRowOf table (updated sets row)
   unfolding updated
   row-updated sets keyless are =
-      let values = values_updated sets 0 table.columns row are (numbered-each table.columns) is.kinds is.short in
+      let values = values_updated sets 0 table.columns row are (numbered-each table.columns) is.kinds is.storable in
       record { kinds = values.0; short = values.1; keyed = λ null. is.keyed (sym (cell-updated table sets keyless row) ∙ null) }
 
 module _ (table : TableDef) where

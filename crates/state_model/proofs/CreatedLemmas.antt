@@ -57,7 +57,7 @@ admitted-without_rows schema holds create admitted =
 written-longer : (most more : ℕ) (found : Statement) → most ≤ more → IsWritten most found → IsWritten more found
 written-longer most more found within written =
     let short = written.short in
-    record { text = written.text; short = omega arith; terminals = written.terminals; cut = written.cut; spells = written.spells }
+    record { text = written.text; short = omega arith; utf8 = written.utf8; terminals = written.terminals; cut = written.cut; spells = written.spells }
 
 -- a CREATE that can stand in a history is one that can be read
 pub readable-create : (create : Create) → IsReadable (Run (statement_of create)) → IsReadableCreate create

@@ -16,7 +16,7 @@ use Rattle.subject_model.proofs.ForgetKeys.{cell_left, keeps_key, kept_value}
 use Rattle.subject_model.proofs.ForgetOrder.{ordered-forget}
 use Rattle.subject_model.proofs.ForgetRows.{left_in-images, named_in, row_left, stays_in}
 use Rattle.state_model.specs.Created.{IsCreated}
-use Rattle.state_model.specs.Rows.{AreOfKinds, AreRowsOf, IsOfKind, IsRowOf, IsShort}
+use Rattle.state_model.specs.Rows.{AreOfKinds, AreRowsOf, IsOfKind, IsRowOf, IsStorable}
 use Rattle.state_model.specs.Sound.{IsWellFormed}
 use Rattle.state_model.proofs.CreatedLemmas.{created-rows}
 use Rattle.state_model.proofs.CreatedSchema.{owner_schema-created}
@@ -28,9 +28,9 @@ kind-or_null true kind value is = tt
 kind-or_null false kind value is = is
 
 -- and no long text
-short-or_null : (lost : Bool) (value : Value) → IsShort value → IsShort (or_null lost value)
-short-or_null true value is = tt
-short-or_null false value is = is
+storable-or_null : (lost : Bool) (value : Value) → IsStorable value → IsStorable (or_null lost value)
+storable-or_null true value is = tt
+storable-or_null false value is = is
 
 kinds-without : (lost : ℕ × Value → Bool) (number : ℕ) (columns : List Column) (row : Row) → AreOfKinds columns row → AreOfKinds columns (without lost number row)
 kinds-without lost number [] [] are = tt
@@ -39,16 +39,16 @@ kinds-without lost number (column ∷ columns) [] are = absurd are
 kinds-without lost number (column ∷ columns) (value ∷ row) are =
     (kind-or_null (lost (number, value)) column.kind value are.0, kinds-without lost (number + 1) columns row are.1)
 
-short-without : (lost : ℕ × Value → Bool) (number : ℕ) (row : Row) → AllByRecursion IsShort row → AllByRecursion IsShort (without lost number row)
-short-without lost number [] are = tt
-short-without lost number (value ∷ row) are = (short-or_null (lost (number, value)) value are.0, short-without lost (number + 1) row are.1)
+storable-without : (lost : ℕ × Value → Bool) (number : ℕ) (row : Row) → AllByRecursion IsStorable row → AllByRecursion IsStorable (without lost number row)
+storable-without lost number [] are = tt
+storable-without lost number (value ∷ row) are = (storable-or_null (lost (number, value)) value are.0, storable-without lost (number + 1) row are.1)
 
 -- what is left of a row may stand in its table
 row_of-left : (db : Db) (subject : RowName) (table : TableDef) (named : NamedRow) → IsOwnerSchema db.schema → slice_get db.schema.tables named.name.table.0 ≡ Some table
     → IsRowOf table named.row → IsRowOf table (left_of db subject table named)
 row_of-left db subject table named owner at is = record {
   kinds = kinds-without (loses db subject table named.name) 0 table.columns named.row is.kinds;
-  short = short-without (loses db subject table named.name) 0 named.row is.short;
+  storable = storable-without (loses db subject table named.name) 0 named.row is.storable;
   keyed = λ null. is.keyed (sym (cell_left db subject table named table.key.0
       ∙ ap (λ lost. kept_value lost (cell named.row table.key.0)) (keeps_key db subject table named owner at (cell named.row table.key.0))) ∙ null);
 }

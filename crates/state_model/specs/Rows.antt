@@ -1,5 +1,5 @@
 -- Which rows may stand in a table.
-use Rattle.std.specs.Prelude.{◌≡◌, ◌≢◌, ◌≤◌, ◌^◌, ℤ, pos, neg_ℤ, ◌≤ℤ◌, ◌<ℤ◌, List, [], ◌∷◌, length}
+use Rattle.std.specs.Prelude.{◌≡◌, ◌≢◌, ◌≤◌, ◌^◌, ℕ, ℤ, pos, neg_ℤ, ◌≤ℤ◌, ◌<ℤ◌, IsUtf8, List, [], ◌∷◌, length}
 use Rattle.std.specs.List.{AllByRecursion}
 use Rattle.own_model.specs.declared.limit.TheConstants.{TEXT_BYTES}
 use Rattle.own_base.specs.declared.value.Value.{Value}
@@ -23,12 +23,17 @@ pub record IsOf64Bits (number : ℤ) : Type 0 where
   pub least : neg_ℤ (pos (2 ^ 63)) ≤ℤ number
   pub most : number <ℤ pos (2 ^ 63)
 
--- no text of more than TEXT_BYTES bytes, and no number that takes more than 64 bits
-abbrev pub IsShort : Value → Type 0
-IsShort (Text bytes) = length bytes ≤ TEXT_BYTES
-IsShort (Int number) = IsOf64Bits number
-IsShort Null = Unit {0}
-IsShort (Sum number) = Unit {0}
+-- a text of at most TEXT_BYTES bytes, which are UTF-8
+pub record IsText (bytes : List ℕ) : Type 0 where
+  pub short : length bytes ≤ TEXT_BYTES
+  pub utf8 : IsUtf8 bytes
+
+-- what a row can hold: such a text, a number of 64 bits, or NULL; the kinds leave out a sum
+abbrev pub IsStorable : Value → Type 0
+IsStorable (Text bytes) = IsText bytes
+IsStorable (Int number) = IsOf64Bits number
+IsStorable Null = Unit {0}
+IsStorable (Sum number) = Unit {0}
 
 -- one value for each column, of its kind
 abbrev pub AreOfKinds : List Column → Row → Type 0
@@ -40,7 +45,7 @@ AreOfKinds (column ∷ columns) (value ∷ row) = IsOfKind column.kind value × 
 -- a row that may stand in a table
 pub record IsRowOf (table : TableDef) (row : Row) : Type 0 where
   pub kinds : AreOfKinds table.columns row
-  pub short : AllByRecursion IsShort row
+  pub storable : AllByRecursion IsStorable row
   -- its primary key isn't NULL
   pub keyed : cell row table.key.0 ≢ Null
 
