@@ -65,9 +65,9 @@ of_kind kind.Text (value.Text bytes) plain no_sum goes = refl
 of_kind kind.Sum value plain no_sum goes = absurd plain
 of_kind of (value.Sum number) plain no_sum goes = absurd (no_sum number refl)
 
--- A value with the column that it is for: it is short, and of the column's kind.
+-- A value with the column that it is for: a row can hold it, and it is of the column's kind.
 record IsGood (table : TableDef) (pair : Target × Value) : Type 0 where
-  short : IsStorable pair.1
+  storable : IsStorable pair.1
   fits : (number : ℕ) (column : Column) → is_for number pair ≡ true → slice_get table.columns number ≡ Some column → IsOfKind column.kind pair.1
 
 -- a value without a fault goes with its column's kind
@@ -79,9 +79,9 @@ goes_step kind value fault more false is none = let never : ⊥ = cc in absurd n
 -- a value without faults
 good : (table : TableDef) (target : Target) (value : Value) → IsPlainTable table → IfNumbered table.columns target → IsStorable value → IsNoSum value
     → value_faults table target value ≡ [] → IsGood table (target, value)
-good table None value plain there short no_sum none = record { short = short; fits = λ number column is at. let never : ⊥ = cc in absurd never }
-good table (Some target) value plain there short no_sum none = record {
-  short = short;
+good table None value plain there storable no_sum none = record { storable = storable; fits = λ number column is at. let never : ⊥ = cc in absurd never }
+good table (Some target) value plain there storable no_sum none = record {
+  storable = storable;
   fits = λ number column is at.
       let same : target.0 ≡ number = eqb-true target.0 number is in
       let own : slice_get table.columns number ≡ Some target.1 = rw (← same) there in
@@ -94,27 +94,27 @@ good table (Some target) value plain there short no_sum none = record {
 good_pairs : (table : TableDef) (targets : List Target) (tuple : List Value) → IsPlainTable table → AreTargets table targets
     → AllByRecursion IsStorable tuple → AllByRecursion IsNoSum tuple
     → AllByRecursion (λ pair. value_faults table pair.0 pair.1 ≡ []) (zip targets tuple) → AllByRecursion (IsGood table) (zip targets tuple)
-good_pairs table [] tuple plain there short no_sums none = tt
-good_pairs table (target ∷ targets) [] plain there short no_sums none = tt
-good_pairs table (target ∷ targets) (value ∷ tuple) plain there short no_sums none =
-    (good table target value plain there.0 short.0 no_sums.0 none.0, good_pairs table targets tuple plain there.1 short.1 no_sums.1 none.1)
+good_pairs table [] tuple plain there storable no_sums none = tt
+good_pairs table (target ∷ targets) [] plain there storable no_sums none = tt
+good_pairs table (target ∷ targets) (value ∷ tuple) plain there storable no_sums none =
+    (good table target value plain there.0 storable.0 no_sums.0 none.0, good_pairs table targets tuple plain there.1 storable.1 no_sums.1 none.1)
 
 -- what a column is given
 pub record IsGiven (column : Column) (value : Value) : Type 0 where
   pub fits : IsOfKind column.kind value
-  pub short : IsStorable value
+  pub storable : IsStorable value
 
 -- by whether the first value is for the column
 given_step : (table : TableDef) (pair : Target × Value) (pairs : Pairs) (column : ℕ × Column)
     → IsNumbered table.columns column → IsGood table pair → IsGiven column.1 (given pairs column)
     → (b : Bool) → is_for column.0 pair ≡ b → IsGiven column.1 (given (pair ∷ pairs) column)
-given_step table pair pairs column at one later true is = rw is (record { fits = one.fits column.0 column.1 is at; short = one.short })
+given_step table pair pairs column at one later true is = rw is (record { fits = one.fits column.0 column.1 is at; storable = one.storable })
 given_step table pair pairs column at one later false is = rw is later
 
 -- a column is given one of the values, or NULL
 is_given : (table : TableDef) (pairs : Pairs) (column : ℕ × Column) → IsNumbered table.columns column
     → AllByRecursion (IsGood table) pairs → IsGiven column.1 (given pairs column)
-is_given table [] column at all = record { fits = tt; short = tt }
+is_given table [] column at all = record { fits = tt; storable = tt }
 is_given table (pair ∷ pairs) column at all = given_step table pair pairs column at all.0 (is_given table pairs column at all.1) _ refl
 
 -- what columns are given is a row of theirs
@@ -125,29 +125,29 @@ given_row table pairs number [] good at = (tt, tt)
 given_row table pairs number (column ∷ columns) good at =
     let first = is_given table pairs (number, column) at.0 good in
     let rest = given_row table pairs (number + 1) columns good at.1 in
-    ((first.fits, rest.0), (first.short, rest.1))
+    ((first.fits, rest.0), (first.storable, rest.1))
 
 -- the row that a tuple without faults puts
 row-put : (table : TableDef) (names : Option (List NameBytes)) (tuple : List Value) → HasKey table → ColumnsDiffer table → IsPlainTable table → AllByRecursion IsStorable tuple → AllByRecursion IsNoSum tuple
     → tuple_faults table names tuple ≡ [] → IsRowOf table (put_row table names tuple)
 unfolding put_row
-row-put table names tuple key differ plain short no_sums none =
+row-put table names tuple key differ plain storable no_sums none =
     let pairs = zip (columns_for table names) tuple in
     let counted = append-none (wrong_count (length tuple) (length (columns_for table names)) ++ flat_map (λ pair. value_faults table pair.0 pair.1) pairs)
     (left_faults table (columns_left table names)) none in
     let faultless = append-none (wrong_count (length tuple) (length (columns_for table names))) (flat_map (λ pair. value_faults table pair.0 pair.1) pairs) counted.0 in
-    let good = good_pairs table (columns_for table names) tuple plain (targets table names) short no_sums
+    let good = good_pairs table (columns_for table names) tuple plain (targets table names) storable no_sums
     (flat_map-none (λ pair. value_faults table pair.0 pair.1) pairs faultless.1) in
     let row = given_row table pairs 0 table.columns good (numbered-each table.columns) in
-    record { kinds = row.0; short = row.1; keyed = keyed-put table key differ names tuple none }
+    record { kinds = row.0; storable = row.1; keyed = keyed-put table key differ names tuple none }
 
 -- the rows of tuples without faults
 pub rows-put : (table : TableDef) (names : Option (List NameBytes)) (tuples : List (List Value)) → HasKey table → ColumnsDiffer table → IsPlainTable table → AreStorable tuples
     → AllByRecursion (AllByRecursion IsNoSum) tuples → AllByRecursion (λ tuple. tuple_faults table names tuple ≡ []) tuples
     → AllByRecursion (IsRowOf table) (map (put_row table names) tuples)
-rows-put table names [] key differ plain short no_sums none = tt
-rows-put table names (tuple ∷ tuples) key differ plain short no_sums none =
-    (row-put table names tuple key differ plain short.0 no_sums.0 none.0, rows-put table names tuples key differ plain short.1 no_sums.1 none.1)
+rows-put table names [] key differ plain storable no_sums none = tt
+rows-put table names (tuple ∷ tuples) key differ plain storable no_sums none =
+    (row-put table names tuple key differ plain storable.0 no_sums.0 none.0, rows-put table names tuples key differ plain storable.1 no_sums.1 none.1)
 
 -- the bytes that columns from a number on are given
 abbrev given_bytes : Pairs → ℕ → List Column → ℕ

@@ -32,7 +32,7 @@ use Rattle.run_model.proofs.Numbered.{IfNumbered, numbered-found}
 use Rattle.run_model.proofs.PutRows.{IsGiven, IsNoSum, goes_step, of_kind}
 use Rattle.run_model.proofs.UpdatedRows.{AreSetsOf, IsSetOf}
 
--- a literal that may stand in a table by its own: it is short, and no sum; any other expression
+-- a literal that may stand in a table by its own: a row can hold it, and it is no sum; any other expression
 abbrev pub IsFit : Expr → Type 0
 IsFit (expr.Literal value) = IsStorable value × IsNoSum value
 IsFit _ = Unit {0}
@@ -44,11 +44,11 @@ AreFit sets = AllByRecursion (λ (set : NameBytes × Expr). IsFit set.1) sets
 -- what stands in a column of a row may stand there
 cell-given : (columns : List Column) (row : Row) → AreOfKinds columns row → AllByRecursion IsStorable row → (place : ℕ) (column : Column)
     → slice_get columns place ≡ Some column → IsGiven column (cell row place)
-cell-given [] row kinds short place column at = absurd (cc)
-cell-given (first ∷ columns) [] kinds short place column at = absurd kinds
-cell-given (first ∷ columns) (value ∷ row) kinds short zero column at =
-    let same : first ≡ column = cc in record { fits = rw (← same) kinds.0; short = short.0 }
-cell-given (first ∷ columns) (value ∷ row) kinds short (suc place) column at = cell-given columns row kinds.1 short.1 place column at
+cell-given [] row kinds storable place column at = absurd (cc)
+cell-given (first ∷ columns) [] kinds storable place column at = absurd kinds
+cell-given (first ∷ columns) (value ∷ row) kinds storable zero column at =
+    let same : first ≡ column = cc in record { fits = rw (← same) kinds.0; storable = storable.0 }
+cell-given (first ∷ columns) (value ∷ row) kinds storable (suc place) column at = cell-given columns row kinds.1 storable.1 place column at
 
 -- two kinds of numbers or texts that go together are one
 one_kind : (left right : Kind) → IsPlain left → IsPlain right → are_compared left right ≡ true → left ≡ right
@@ -72,14 +72,14 @@ sum_step column number is true within =
     let both = and_parts (int_le (neg_ℤ (pos (2 ^ 63))) number) (int_lt number (pos (2 ^ 63))) within in
     let least = both.0 in
     let most = both.1 in
-    record { fits = is; short = record { least = omega (arith, ints); most = omega (arith, ints) } }
-sum_step column number is false past = record { fits = tt; short = tt }
+    record { fits = is; storable = record { least = omega (arith, ints); most = omega (arith, ints) } }
+sum_step column number is false past = record { fits = tt; storable = tt }
 
 sum-given : (column : Column) (found : Value) (number : ℤ) → column.kind ≡ kind.Int → IsGiven column (unwrap_or (increased found number) Null)
-sum-given column value.Null number is = record { fits = tt; short = tt }
+sum-given column value.Null number is = record { fits = tt; storable = tt }
 sum-given column (value.Int found) number is = sum_step column (found +ℤ number) is _ refl
-sum-given column (value.Text bytes) number is = record { fits = tt; short = tt }
-sum-given column (value.Sum found) number is = record { fits = tt; short = tt }
+sum-given column (value.Text bytes) number is = record { fits = tt; storable = tt }
+sum-given column (value.Sum found) number is = record { fits = tt; storable = tt }
 
 -- a name of a column
 named_step : (table : TableDef) (name : NameBytes) (found : Option (ℕ × Column)) → column_in table name ≡ found
@@ -118,7 +118,7 @@ module _ (table : TableDef) (plain : IsPlainTable table) (assigned : NameBytes) 
       let there = column-at table name place other found in
       let kind = kind_assigned place other (column_in table name) there found none in
       let given = cell-given table.columns row is.kinds is.storable place other there in
-      rw found (record { fits = rw kind given.fits; short = given.short })
+      rw found (record { fits = rw kind given.fits; storable = given.storable })
 
   column-given : (name : NameBytes) → expression_faults table assigned (Some (number, column)) (expr.Column name) ≡ [] → (row : Row) → IsRowOf table row
       → IsGiven column (cell row (column_number table name).0)
@@ -131,7 +131,7 @@ module _ (table : TableDef) (plain : IsPlainTable table) (assigned : NameBytes) 
       → IsGiven column (unwrap_or (value_of (bound_expression table found) row) Null)
   unfolding value_of
   expression-given (expr.Literal value) fit none row is =
-      record { fits = of_kind column.kind value plain_column fit.1 (goes_step column.kind value _ _ _ refl none); short = fit.0 }
+      record { fits = of_kind column.kind value plain_column fit.1 (goes_step column.kind value _ _ _ refl none); storable = fit.0 }
   expression-given (expr.Column name) fit none row is = column-given name none row is
   expression-given (expr.Plus name more) fit none row is =
       let kind = kind_of_numbers column.kind plain_column (sum_kind_step _ _ (none-last (not_a_column table name) _ none)) in

@@ -46,20 +46,20 @@ module _ (table : TableDef) (row : Row) (is : IsRowOf table row) where
   values_updated : (sets : Sets) (number : ℕ) (columns : List Column) (values : Row) → AreSetsOf table sets
       → AllByRecursion (IsNumbered table.columns) (enumerate_from number columns) → AreOfKinds columns values → AllByRecursion IsStorable values
       → AreOfKinds columns (map (set_value sets row) (enumerate_from number values)) × AllByRecursion IsStorable (map (set_value sets row) (enumerate_from number values))
-  values_updated sets number [] [] are at kinds short = (tt, tt)
-  values_updated sets number [] (value ∷ values) are at kinds short = absurd kinds
-  values_updated sets number (column ∷ columns) [] are at kinds short = absurd kinds
-  values_updated sets number (column ∷ columns) (value ∷ values) are at kinds short =
-      let first = set-given sets (number, value) column at.0 are (record { fits = kinds.0; short = short.0 }) in
-      let rest = values_updated sets (number + 1) columns values are at.1 kinds.1 short.1 in
-      ((first.fits, rest.0), (first.short, rest.1))
+  values_updated sets number [] [] are at kinds storable = (tt, tt)
+  values_updated sets number [] (value ∷ values) are at kinds storable = absurd kinds
+  values_updated sets number (column ∷ columns) [] are at kinds storable = absurd kinds
+  values_updated sets number (column ∷ columns) (value ∷ values) are at kinds storable =
+      let first = set-given sets (number, value) column at.0 are (record { fits = kinds.0; storable = storable.0 }) in
+      let rest = values_updated sets (number + 1) columns values are at.1 kinds.1 storable.1 in
+      ((first.fits, rest.0), (first.storable, rest.1))
 
   -- a row after an UPDATE of it
   pub row-updated : (sets : Sets) → AreKeyless table sets → AreSetsOf table sets → IsRowOf table (updated sets row)
   unfolding updated
   row-updated sets keyless are =
       let values = values_updated sets 0 table.columns row are (numbered-each table.columns) is.kinds is.storable in
-      record { kinds = values.0; short = values.1; keyed = λ null. is.keyed (sym (cell-updated table sets keyless row) ∙ null) }
+      record { kinds = values.0; storable = values.1; keyed = λ null. is.keyed (sym (cell-updated table sets keyless row) ∙ null) }
 
 module _ (table : TableDef) where
   row_step : (sets : Sets) (cond : Option BoundCond) (row : Row) → AreKeyless table sets → AreSetsOf table sets → IsRowOf table row → (b : Bool) → keeps cond row ≡ b

@@ -224,7 +224,7 @@ read_step text request false long is asked = subst IsReadable (sym asked) tt
 read_step text request true true is asked = subst IsReadable (sym asked) tt
 read_step text request true false is asked =
     let short = ltb-false STATEMENT_BYTES (length text.bytes) is in
-    subst IsReadable (sym asked.2) (answer_readable text.bytes asked.0 (omega arith) asked.1)
+    subst IsReadable (sym asked.gives) (answer_readable text.bytes asked.answer (omega arith) asked.utf8 asked.answers)
 
 abbrev AsksReadable : Asking → Type 0
 AsksReadable asking = IsReadable asking.request

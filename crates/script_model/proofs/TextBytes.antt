@@ -134,7 +134,7 @@ asked_step : (text : CallText) (request : Request) (closed long : Bool) → IsAs
 unfolding asked_bytes
 asked_step text request false long asked = rw asked (omega arith)
 asked_step text request true true asked = rw asked (omega arith)
-asked_step text request true false asked = rw asked.2 (answer-within text.bytes asked.0 asked.1)
+asked_step text request true false asked = rw asked.gives (answer-within text.bytes asked.answer asked.answers)
 
 askings-bytes : (texts : List CallText) (requests : List Request) → AreAskedBy texts requests → sum_by of_asking (askings_of texts requests) ≤ sum_by of_text texts
 askings-bytes [] [] asked = omega arith

@@ -1,5 +1,5 @@
 -- What the text of a call asks for.
-use Rattle.std.specs.Prelude.{◌≡◌, ℕ, Bool, true, false, List, [], ◌∷◌, length, nat_lt}
+use Rattle.std.specs.Prelude.{◌≡◌, ℕ, Bool, true, false, IsUtf8, List, [], ◌∷◌, length, nat_lt}
 use Rattle.own_model.specs.declared.limit.LimitName.TheVariants as limit
 use Rattle.own_model.specs.declared.limit.TheConstants.{STATEMENT_BYTES}
 use Rattle.own_model.specs.declared.request.Request.{Request}
@@ -8,9 +8,12 @@ use Rattle.grammar_model.specs.Answer.{Answer, IsAnswer}
 use Rattle.grammar_model.specs.Readable.{request_of}
 use Rattle.script_model.specs.CallText.{CallText}
 
--- the request of a text that is read: what the grammar answers
-abbrev pub IsRead : List ℕ → Request → Type 0
-IsRead bytes request = (answer : Answer) × IsAnswer bytes answer × (request ≡ request_of answer)
+-- the request of a text that is read, which is UTF-8: what the grammar answers
+pub record IsRead (bytes : List ℕ) (request : Request) : Type 0 where
+  pub utf8 : IsUtf8 bytes
+  pub answer : Answer
+  pub answers : IsAnswer bytes answer
+  pub gives : request ≡ request_of answer
 
 -- the request of a text, by whether it is closed, and whether it is too long
 abbrev pub IsAskedWhere : Bool → Bool → List ℕ → Request → Type 0

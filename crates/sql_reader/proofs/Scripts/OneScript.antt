@@ -19,7 +19,7 @@ use Rattle.sql_reader.proofs.Scripts.OnePiece.{one_list}
 one_asked : (closed long : Bool) (bytes : List ℕ) (one other : Request) → IsAskedWhere closed long bytes one → IsAskedWhere closed long bytes other → one ≡ other
 one_asked false long bytes one other is same = is ∙ sym same
 one_asked true true bytes one other is same = is ∙ sym same
-one_asked true false bytes one other is same = is.2 ∙ ap request_of (one_answer bytes is.0 same.0 is.1 same.1) ∙ sym same.2
+one_asked true false bytes one other is same = is.gives ∙ ap request_of (one_answer bytes is.answer same.answer is.answers same.answers) ∙ sym same.gives
 
 one_requests : (texts : List CallText) (one other : List Request) → AreAskedBy texts one → AreAskedBy texts other → one ≡ other
 one_requests [] [] [] is same = refl
