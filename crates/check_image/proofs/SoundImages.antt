@@ -44,7 +44,7 @@ short_values [] (x ∷ row) are short = absurd are
 short_values (column ∷ columns) [] are short = absurd are
 short_values (column ∷ columns) (value.Null ∷ row) are short = (tt, short_values columns row are.1 short.1)
 short_values (column ∷ columns) (value.Int number ∷ row) are short = (tt, short_values columns row are.1 short.1)
-short_values (column ∷ columns) (value.Text text ∷ row) are short = (short.0, short_values columns row are.1 short.1)
+short_values (column ∷ columns) (value.Text text ∷ row) are short = (short.0.short, short_values columns row are.1 short.1)
 short_values (column ∷ columns) (value.Sum number ∷ row) are short = absurd are.0
 
 short_row : (table : TableDef) (row : Row) → IsTableWithin table → IsRowOf table row → IsShortRow row

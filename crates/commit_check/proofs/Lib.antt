@@ -1,4 +1,3 @@
-pub mod AbsentColumns
 pub mod FirstLemmas
 pub mod LentLemmas
 pub mod ReferenceLemmas

@@ -4,6 +4,7 @@ ghost use Rattle.query_model.specs.Truth.{cell, is_null};
 ghost use Rattle.commit_check.specs.ValueCounts.{value_of};
 
 use own_base::{ColNo, Row, Text, Value};
+use row_reading::cell;
 
 /// A value that isn't NULL, lent. Such values are ordered: numbers by value, texts by bytes, and no two that differ are tied.
 #[derive(Drop, PartialEq, Eq, PartialOrd, Ord)]
@@ -14,8 +15,8 @@ pub(crate) enum LentValue<'a> {
 }
 
 /// A value that isn't NULL; no value is NULL. Takes no memory.
-fn held<'a>(value: Option<&'a Value>) -> Option<LentValue<'a>>
-    ensures { MatchOption result (is_null (unwrap_or (option_copied value.entry) Value.Null) ≡ true) (λ held. value_of held ≡ unwrap_or (option_copied value.entry) Value.Null) }
+fn lent<'a>(value: Option<&'a Value>) -> Option<LentValue<'a>>
+    ensures { MatchOption result (is_null (unwrap_or (option_copied value.entry) Value.Null) ≡ true) (λ lent. value_of lent ≡ unwrap_or (option_copied value.entry) Value.Null) }
 {
     match value {
         Some(Value::Int(number)) => Some(LentValue::Int(*number)),
@@ -25,10 +26,9 @@ fn held<'a>(value: Option<&'a Value>) -> Option<LentValue<'a>>
     }
 }
 
-/// What a row holds in a column, where that isn't NULL; a column that the row doesn't have is NULL. Takes no memory.
-#[tactic(auto, using(crate::proofs::AbsentColumns::absent_columns))]
-pub(crate) fn held_in<'a>(row: &'a Row, column: ColNo) -> Option<LentValue<'a>>
-    ensures { MatchOption result (is_null (cell row.now column.0) ≡ true) (λ held. value_of held ≡ cell row.now column.0) }
+/// What stands in a column of a row, where that isn't NULL; a column that the row doesn't have is NULL. Takes no memory.
+pub(crate) fn lent_from<'a>(row: &'a Row, column: ColNo) -> Option<LentValue<'a>>
+    ensures { MatchOption result (is_null (cell row.now column.0) ≡ true) (λ lent. value_of lent ≡ cell row.now column.0) }
 {
-    held(row.get(column))
+    lent(cell(row, column))
 }

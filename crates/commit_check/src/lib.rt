@@ -3,7 +3,6 @@
 
 mod judged;
 mod lent_value;
-mod naming;
 mod owner;
 mod reference;
 mod rows;

@@ -3,28 +3,16 @@ ghost use Rattle.own_model.specs.Db.{key_of};
 ghost use Rattle.own_model.specs.Stored.{rows_at};
 ghost use Rattle.owner_sets.specs.Sets.{AreSetsOf};
 ghost use Rattle.schema_model.specs.OwnerSchema.{IsOwnerSchema};
-ghost use Rattle.schema_model.specs.Tables as spec;
 ghost use Rattle.schema_model.specs.WithinLimits.{IsWithinLimits};
 ghost use Rattle.state_model.specs.Fault.{first_of, owner_faults, owner_rule};
 ghost use Rattle.subject_model.specs.Owners.{owners};
 ghost use Rattle.commit_check.specs.Firsts.{first_in_table};
 
-use crate::naming::key_of;
 use own_base::{MakeCopy, Row, TableNo};
-use own_model::{Refusal, Schema, StoreView, TableDef};
+use own_model::{Refusal, StoreView, TableDef};
 use owner_sets::OwnerSets;
+use row_reading::{is_private, key_of};
 use std::alloc::{AllocError, Global};
-
-/// Whether an owner edge goes out of a table. Takes no memory.
-fn is_private(schema: &Schema, table: TableNo) -> bool
-    ensures { result ≡ spec.is_private schema.now table.0 }
-{
-    schema
-        .edges
-        .items()
-        .iter()
-        .any(|edge| edge.owner && edge.lower.0 == table.0)
-}
 
 /// What a row of a private table without an owner is refused with.
 fn refusal(alloc: Global, definition: &TableDef, row: &Row) -> Result<Refusal, AllocError>

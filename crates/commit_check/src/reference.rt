@@ -10,9 +10,9 @@ ghost use Rattle.schema_model.specs.WithinLimits.{IsWithinLimits};
 ghost use Rattle.state_model.specs.Fault.{breaks_reference, first_of, reference_faults, reference_rule};
 ghost use Rattle.commit_check.specs.Firsts.{first_in_table};
 
-use crate::naming::{key_in, key_of};
 use own_base::{ColNo, MakeCopy, Row, RowName, TableNo};
 use own_model::{Column, Refusal, StoreView, TableDef};
+use row_reading::{cell, key_of, literal_key};
 use std::alloc::{AllocError, Global};
 
 /// Whether a column of a row refers to a row that isn't there.
@@ -28,7 +28,7 @@ fn breaks_reference<V: StoreView>(
         (record { number = number.0; column = column.now; value = cell row.now number.0 })) }
 {
     match column.refers {
-        Some((_, table)) => match key_in(alloc, row, number)? {
+        Some((_, table)) => match literal_key(alloc, cell(row, number))? {
             Some(key) => Ok(view.row(&RowName { table, key }).is_none()),
             None => Ok(false),
         },

@@ -8,10 +8,10 @@ ghost use Rattle.commit_check.specs.Firsts.{first_in_table};
 ghost use Rattle.commit_check.specs.ValueCounts.{CountsColumns, CountsRows, holds};
 
 use crate::lent_value::LentValue;
-use crate::naming::key_of;
 use crate::value_counts::{counts_of_columns, is_repeated};
 use own_base::{ColNo, MakeCopy, Row, TableNo};
 use own_model::{Column, Refusal, StoreView, TableDef};
+use row_reading::key_of;
 use std::alloc::{AllocError, Global};
 use std::collections::BTreeMap;
 

@@ -5,7 +5,7 @@ ghost use Rattle.query_model.specs.Truth.{cell, is_null};
 ghost use Rattle.commit_check.specs.declared.lent_value.LentValue.{LentValue as Held};
 ghost use Rattle.commit_check.specs.ValueCounts.{CountsColumns, CountsRows, count_at, holds, times, value_of};
 
-use crate::lent_value::{LentValue, held_in};
+use crate::lent_value::{LentValue, lent_from};
 use own_base::{ColNo, Row, TableNo};
 use own_model::{Column, StoreView, TableDef};
 use std::alloc::{AllocError, Global};
@@ -45,7 +45,7 @@ fn counts_of_column<'a, V: StoreView>(
             Some(row) => row,
             None => return Ok(counts),
         };
-        let value = held_in(row, column);
+        let value = lent_from(row, column);
         count_value(&mut counts, value)?;
     }
     Ok(counts)
@@ -98,7 +98,7 @@ pub(crate) fn is_repeated<'a>(
     ensures { (rows : Seq Values) → CountsRows column.0 rows counts.now.entries
         → result ≡ (not (is_null (cell row.now column.0)) && nat_lt 1 (count_by (holds column.0 (cell row.now column.0)) rows)) }
 {
-    match held_in(row, column) {
+    match lent_from(row, column) {
         Some(value) => counts.get(&value).copied().unwrap_or(0) > 1,
         None => false,
     }

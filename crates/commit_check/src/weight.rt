@@ -15,6 +15,7 @@ use own_model::{
     BoundItem, LimitName, Refusal, STORE_WEIGHT, Source1, StoreView, TableDef, ViewDef,
 };
 use owner_sets::OwnerSets;
+use row_reading::cell;
 
 /// The size of a row, as far as 64 bits tell it. Takes no memory.
 pub fn row_size(row: &Row) -> u64
@@ -78,12 +79,11 @@ fn rows_weight<V: StoreView>(view: &V, sets: &OwnerSets) -> u64
 }
 
 /// The size of what an item shows of a row.
-#[tactic(auto, using(crate::proofs::AbsentColumns::absent_columns))]
 fn item_size(row: &Row, item: &BoundItem) -> u64
     ensures { result ≡ item_size row.now item.now }
 {
     match item {
-        BoundItem::Column(column) => match row.get(*column) {
+        BoundItem::Column(column) => match cell(row, *column) {
             Some(value) => value.size(),
             None => VALUE_SIZE,
         },

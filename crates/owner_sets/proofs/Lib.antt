@@ -1,4 +1,3 @@
-pub mod AbsentColumns
 pub mod Ranges
 pub mod Searched
 pub mod SortedSets

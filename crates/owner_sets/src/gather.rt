@@ -1,54 +1,17 @@
-ghost use Rattle.std.specs.Prelude.{◌≡◌, ℕ, ◌<◌, [], ◌++◌, IfOk, OnOk, length, map, slice_index_or, unwrap_or};
+ghost use Rattle.std.specs.Prelude.{◌≡◌, ℕ, ◌<◌, [], ◌++◌, IfOk, OnOk, length, map, slice_index_or};
 ghost use Rattle.std.specs.List.{AllByRecursion, range_with_len};
-ghost use Rattle.std.specs.Option.{option_copied};
-ghost use Rattle.own_model.specs.Db.{IsOrdered, as_key};
+ghost use Rattle.own_model.specs.Db.{IsOrdered};
 ghost use Rattle.own_model.specs.Stored.{rows_at};
 ghost use Rattle.owner_sets.specs.Gathered.{HasMore, IsWithin, gathered, handed_down, over_edge, over_link, own_set, row_alone};
-ghost use Rattle.schema_model.specs.Tables as spec;
-ghost use Rattle.subject_model.specs.Named.{name_of};
 
 use crate::edges::links;
 use crate::link::Link;
 use crate::set_at::set_at;
 use crate::which::Which;
-use own_base::{Key, List, MakeCopy, Row, RowName, Subject, TableNo, Value};
-use own_model::{Edge, Schema, StoreView, TableDef};
+use own_base::{List, MakeCopy, Subject, TableNo};
+use own_model::{Edge, StoreView};
+use row_reading::{is_subject, row_name};
 use std::alloc::{AllocError, Global};
-
-/// Whether the rows of a table are data subjects. Takes no memory.
-pub(crate) fn is_subject(schema: &Schema, table: TableNo) -> bool
-    ensures { result ≡ spec.is_subject schema.now table.0 }
-{
-    match schema.tables.items().get(table.0 as usize) {
-        Some(definition) => definition.subject,
-        None => false,
-    }
-}
-
-/// A value as a key. What stands in no primary key counts as 0.
-fn as_key(alloc: Global, value: Option<&Value>) -> Result<Key, AllocError>
-    ensures { IfOk result (λ key. key ≡ as_key (unwrap_or (option_copied value.entry) Value.Null)) }
-{
-    match value {
-        Some(Value::Int(number)) => Ok(Key::Int(*number)),
-        Some(Value::Text(text)) => Ok(Key::Text(text.copy(alloc)?)),
-        Some(Value::Null | Value::Sum(_)) | None => Ok(Key::Int(0)),
-    }
-}
-
-/// The name of a row of a table.
-#[tactic(auto, unfolding(own_model::specs::Db::key_of), using(crate::proofs::AbsentColumns::absent_columns))]
-fn row_name(
-    alloc: Global,
-    table: TableNo,
-    definition: &TableDef,
-    row: &Row,
-) -> Result<RowName, AllocError>
-    ensures { IfOk result (λ name. name ≡ name_of table.0 definition.now row.now) }
-{
-    let key = as_key(alloc, row.get(definition.key))?;
-    Ok(RowName { table, key })
-}
 
 /// Adds the row at a place of a table, where there is one.
 #[tactic(auto, unfolding(crate::specs::Gathered::row_alone))]

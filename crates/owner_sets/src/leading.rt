@@ -6,12 +6,12 @@ ghost use Rattle.owner_sets.specs.Leading.{HasEdges, HasMarks, is_among, leading
 ghost use Rattle.schema_model.specs.OwnerSchema.{IsOwnerSchema};
 
 use crate::edges::links;
-use crate::gather::is_subject;
 use crate::link::Link;
-use crate::named_row::{is_name, is_named};
+use crate::named_row::is_named;
 use crate::set_at::set_at;
 use own_base::{EdgeNo, List, Subject, TableNo};
 use own_model::{Edge, StoreView};
+use row_reading::{is_name, is_subject};
 use std::alloc::{AllocError, Global};
 
 /// Whether a subject stands in a list.

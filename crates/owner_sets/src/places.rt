@@ -1,50 +1,13 @@
 ghost use Rattle.std.specs.Prelude.{◌≡◌, ◌<◌, Some, length, slice_get};
 ghost use Rattle.std.specs.Option.{option_copied};
-ghost use Rattle.own_base.specs.Key.{key_cmp};
-ghost use Rattle.own_base.specs.declared.value.Key.TheVariants.{Int};
-ghost use Rattle.own_model.specs.Db.{IsOrdered, IsRising, as_key, key_of};
+ghost use Rattle.own_model.specs.Db.{IsOrdered, IsRising, as_key};
 ghost use Rattle.own_model.specs.Stored.{rows_at};
 ghost use Rattle.owner_sets.specs.Links.{place_named, place_of};
 
-use own_base::{Row, TableNo, Value};
+use own_base::{TableNo, Value};
 use own_model::{StoreView, TableDef};
+use row_reading::compare_key_to;
 use std::cmp::Ordering;
-
-/// How a number stands to a value as a key.
-fn compared_number(left: &i64, right: &Value) -> Ordering
-    ensures { result ≡ key_cmp (Int left.now) (as_key right.now) }
-{
-    match right {
-        Value::Int(right) => left.cmp(right),
-        Value::Text(_) => Ordering::Less,
-        Value::Null | Value::Sum(_) => left.cmp(&0),
-    }
-}
-
-/// How a value stands to another as a key. What stands in no primary key counts as 0.
-fn compared_value(left: &Value, right: &Value) -> Ordering
-    ensures { result ≡ key_cmp (as_key left.now) (as_key right.now) }
-{
-    match left {
-        Value::Int(left) => compared_number(left, right),
-        Value::Text(left) => match right {
-            Value::Text(right) => left.cmp(right),
-            Value::Int(_) | Value::Null | Value::Sum(_) => Ordering::Greater,
-        },
-        Value::Null | Value::Sum(_) => compared_number(&0, right),
-    }
-}
-
-/// How the key of a row stands to a value as a key. Takes no memory.
-#[tactic(auto, unfolding(own_model::specs::Db::key_of), using(crate::proofs::AbsentColumns::absent_columns))]
-fn compared(definition: &TableDef, row: &Row, value: &Value) -> Ordering
-    ensures { result ≡ key_cmp (key_of definition.now row.now) (as_key value.now) }
-{
-    match row.get(definition.key) {
-        Some(key) => compared_value(key, value),
-        None => compared_number(&0, value),
-    }
-}
 
 /// The place of the row of a table that has this key, among rows whose keys rise. It takes as many looks as the number of
 /// rows has bits, and no memory.
@@ -63,7 +26,7 @@ fn searched<V: StoreView>(
     while low < high {
         let middle = low + (high - low) / 2;
         let row = view.row_at(table, middle)?;
-        match compared(definition, row, key) {
+        match compare_key_to(definition, row, key) {
             Ordering::Less => low = middle + 1,
             Ordering::Equal => return Some(middle),
             Ordering::Greater => high = middle,

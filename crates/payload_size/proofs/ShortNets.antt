@@ -39,7 +39,7 @@ change_most = 4 + value_most + 1 + (4 + TABLE_COLUMNS * value_most)
 value_few : (value : Value) → IsStorable value → value_bytes value ≤ value_most
 value_few value.Null short = omega arith
 value_few (value.Int number) short = omega arith
-value_few (value.Text bytes) short = omega arith
+value_few (value.Text bytes) is = let short = is.short in omega arith
 value_few (value.Sum number) short = omega arith
 
 values_few : (row : Row) → Each IsStorable row → sum_by value_bytes row ≤ value_most * length row
@@ -50,7 +50,7 @@ values_few (value ∷ row) short =
 key_few : (value : Value) → IsStorable value → key_bytes (as_key value) ≤ value_most
 key_few value.Null short = omega arith
 key_few (value.Int number) short = omega arith
-key_few (value.Text bytes) short = omega arith
+key_few (value.Text bytes) is = let short = is.short in omega arith
 key_few (value.Sum number) short = omega arith
 
 short-at : (row : Row) (place : ℕ) → Each IsStorable row → IsStorable (slice_index_or row place value.Null)

@@ -1,24 +1,12 @@
 ghost use Rattle.std.specs.Prelude.{◌≡◌, true, map, IfOk};
 ghost use Rattle.std.specs.declared.option.Option.TheVariants.{Some};
-ghost use Rattle.own_model.specs.Db.{key_of};
 ghost use Rattle.query_model.specs.Footprints.{item, keys_of};
 
-use own_base::{Key, List, MakeCopy, Row, TableNo, Value};
-use own_model::{FootItem, Footprint, Schema, TableDef};
+use own_base::{Key, List, Row, TableNo};
+use own_model::{FootItem, Footprint, Schema};
+use row_reading::key_of;
 use std::alloc::{AllocError, Global};
 use std::collections::BTreeSet;
-
-/// The primary key of a table's row. A value that stands in no primary key counts as 0.
-#[tactic(auto, unfolding(own_model::specs::Db::key_of))]
-pub fn key_of(alloc: Global, definition: &TableDef, row: &Row) -> Result<Key, AllocError>
-    ensures { IfOk result (λ key. key ≡ key_of definition.now row.now) }
-{
-    match row.values().get(definition.key.0 as usize) {
-        Some(Value::Int(number)) => Ok(Key::Int(*number)),
-        Some(Value::Text(text)) => Ok(Key::Text(text.copy(alloc)?)),
-        Some(Value::Null | Value::Sum(_)) | None => Ok(Key::Int(0)),
-    }
-}
 
 /// The keys of a table's rows, rising, each once.
 fn keys_of(

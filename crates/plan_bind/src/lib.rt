@@ -22,5 +22,4 @@ mod value_kind;
 
 pub use bind_select::bind_view;
 pub use footprints::footprint;
-pub use inserted_keys::key_of;
 pub use statement::bind;

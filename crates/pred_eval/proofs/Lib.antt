@@ -1,4 +1,3 @@
-pub mod AbsentColumns
 pub mod FirstKey
 pub mod PinnedParts
 pub mod Ranges

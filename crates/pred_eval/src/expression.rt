@@ -3,9 +3,9 @@ ghost use Rattle.std.specs.Option.{option_copied};
 ghost use Rattle.query_model.specs.Expression.{increased, value_of};
 ghost use Rattle.pred_eval.specs.ValueFault.{IsFaultOf};
 
-use crate::cells::{cell, copied_cell};
 use own_base::{MakeCopy, Row, Value};
 use own_model::BoundExpr;
+use row_reading::{cell, copied_cell};
 use std::alloc::{AllocError, Global};
 
 /// Why an expression gives no value.

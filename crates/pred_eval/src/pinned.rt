@@ -1,22 +1,12 @@
 ghost use Rattle.std.specs.Prelude.{◌≡◌, IfOk, filter_map};
 ghost use Rattle.std.specs.Option.{option_copied};
-ghost use Rattle.query_model.specs.Footprints.{compared_key, first_key, literal_key, pinned_by, pinned_key};
+ghost use Rattle.query_model.specs.Footprints.{compared_key, first_key, pinned_by, pinned_key};
 ghost use Rattle.pred_eval.specs.Pinned.{pinned_alone};
 
-use own_base::{ColNo, Key, MakeCopy, Value};
+use own_base::{ColNo, Key};
 use own_model::{BoundCond, BoundOperand, Cmp};
+use row_reading::literal_key;
 use std::alloc::{AllocError, Global};
-
-/// A value as a key; NULL is none.
-pub fn literal_key(alloc: Global, value: &Value) -> Result<Option<Key>, AllocError>
-    ensures { IfOk result (λ key. key ≡ literal_key value.now) }
-{
-    match value {
-        Value::Int(number) => Ok(Some(Key::Int(*number))),
-        Value::Text(text) => Ok(Some(Key::Text(text.copy(alloc)?))),
-        Value::Null | Value::Sum(_) => Ok(None),
-    }
-}
 
 /// The key that a comparison pins where it is `primary key = literal`.
 fn compared_key(
@@ -30,7 +20,7 @@ fn compared_key(
 {
     match (sign, right) {
         (Cmp::Eq, BoundOperand::Literal(value)) if column == key_column => {
-            literal_key(alloc, value)
+            literal_key(alloc, Some(value))
         }
         _ => Ok(None),
     }

@@ -1,14 +1,15 @@
 ghost use Rattle.std.specs.Prelude.{◌≡◌, ◌<◌, length, unwrap_or, IfOk};
 ghost use Rattle.std.specs.Option.{option_copied, option_to_list};
 ghost use Rattle.own_model.specs.Stored.{rows_at};
-ghost use Rattle.query_model.specs.Footprints.{key_column, literal_key};
+ghost use Rattle.query_model.specs.Footprints.{key_column};
 ghost use Rattle.query_eval.specs.Meetings.{meeting, meets};
 ghost use Rattle.query_model.specs.Stored.{IsStored};
 ghost use Rattle.query_eval.specs.Tables.{AreTables};
 
-use own_base::{ColNo, Key, Row, RowName, TableNo, Value};
+use own_base::{ColNo, Row, RowName, TableNo, Value};
 use own_model::StoreView;
-use pred_eval::{cell, compared, literal_key};
+use pred_eval::compared;
+use row_reading::{cell, literal_key};
 use std::alloc::{AllocError, Global};
 use std::cmp::Ordering;
 
@@ -20,16 +21,6 @@ fn meets(left: Option<&Value>, right: Option<&Value>) -> bool
     match (left, right) {
         (Some(left), Some(right)) => matches!(compared(left, right), Some(Ordering::Equal)),
         _ => false,
-    }
-}
-
-/// The key that a value is; none is NULL.
-fn key_of(alloc: Global, value: Option<&Value>) -> Result<Option<Key>, AllocError>
-    ensures { IfOk result (λ key. key ≡ literal_key (unwrap_or (option_copied value.entry) Value.Null)) }
-{
-    match value {
-        Some(value) => literal_key(alloc, value),
-        None => Ok(None),
     }
 }
 
@@ -64,7 +55,7 @@ pub(crate) fn meeting_row<'a, V: StoreView>(
     requires stored { IsStored (unwrap_or (option_copied value) Value.Null) }
     ensures { IfOk result (λ row. option_to_list (option_copied row) ≡ meeting (unwrap_or (option_copied value.entry) Value.Null) column.0 (rows_at (V.db view.now).rows table.0)) }
 {
-    match key_of(alloc, value)? {
+    match literal_key(alloc, value)? {
         Some(key) => {
             let row = view.row(&RowName { table, key });
             Ok(if_it_meets(row, column, value))

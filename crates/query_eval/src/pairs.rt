@@ -14,7 +14,8 @@ use crate::table_rows::TableRows;
 use crate::value_index::ValueIndex;
 use own_base::{ColNo, Row, TableNo};
 use own_model::{BoundCond, StoreView};
-use pred_eval::{RowPair, cell};
+use pred_eval::RowPair;
+use row_reading::cell;
 use std::alloc::{AllocError, Global};
 
 /// Two tables that are joined, and the column of each that ON compares.

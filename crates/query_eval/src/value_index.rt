@@ -10,7 +10,7 @@ use crate::row_list::RowList;
 use crate::table_rows::TableRows;
 use own_base::{ColNo, Row, TableNo, Value};
 use own_model::StoreView;
-use pred_eval::cell;
+use row_reading::cell;
 use std::alloc::{AllocError, Global};
 use std::collections::BTreeMap;
 

@@ -5,7 +5,6 @@ ghost use Rattle.own_model.specs.declared.schema.Edge.{Edge as Joined};
 ghost use Rattle.own_model.specs.Stored.{rows_at};
 ghost use Rattle.owner_graph.specs.Graph.{IsGraphOf};
 ghost use Rattle.schema_model.specs.OwnerSchema.{IsOwnerSchema};
-ghost use Rattle.schema_model.specs.Tables as spec;
 ghost use Rattle.subject_erase.specs.Flags.{AreFlagsOf, AreFlagsOfTable};
 ghost use Rattle.subject_erase.specs.Staying.{is_claimed, is_other_subject};
 ghost use Rattle.subject_model.specs.Owners.{owns};
@@ -15,19 +14,10 @@ use crate::flags::{Flags, flag, flags_of};
 use crate::followed::Followed;
 use crate::marks::mark;
 use own_base::{List, TableNo};
-use own_model::{Edge, Schema, StoreView};
+use own_model::{Edge, StoreView};
 use owner_graph::Graph;
+use row_reading::is_subject;
 use std::alloc::{AllocError, Global};
-
-/// Whether the rows of a table are data subjects. Takes no memory.
-pub(crate) fn is_subject(schema: &Schema, table: TableNo) -> bool
-    ensures { result ≡ spec.is_subject schema.now table.0 }
-{
-    match schema.tables.items().get(table.0 as usize) {
-        Some(definition) => definition.subject,
-        None => false,
-    }
-}
 
 /// Whether one is true and the other isn't.
 fn without(one: bool, other: bool) -> bool

@@ -17,13 +17,13 @@ ghost use Rattle.txn_space.specs.Put.{IsChangeOf, is_of_table, put_rows};
 use crate::flags::flag_at;
 use crate::losing::{loses_some, row_left};
 use crate::plan::ErasePlan;
-use crate::row_name::row_name;
 use crate::staying::staying_flags;
 use anon_rules::blanked;
 use own_base::{Change, ColumnSet, EdgeNo, List, MakeCopy, Row, Subject, TableNo};
 use own_model::{StoreView, TableDef};
 use owner_graph::{Graph, graph_of};
 use owner_sets::{ByEdges, OwnerSets};
+use row_reading::row_name;
 use std::alloc::{AllocError, Global};
 
 /// That a row goes.

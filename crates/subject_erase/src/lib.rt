@@ -9,7 +9,6 @@ mod losing;
 mod marks;
 mod owned;
 mod plan;
-mod row_name;
 mod staying;
 mod struck;
 

@@ -12,26 +12,16 @@ ghost use Rattle.subject_erase.specs.Staying.{is_claimed, stays_by};
 ghost use Rattle.subject_model.specs.Owners.{owners, owns};
 ghost use Rattle.subject_model.specs.Stays.{stays};
 
-use crate::claimed::{claimed_flags, is_subject};
+use crate::claimed::claimed_flags;
 use crate::flags::{Flags, flag_at};
 use crate::owned::owned_flags;
 use crate::struck::struck_flags;
 use own_base::{List, Subject, TableNo};
-use own_model::{Schema, StoreView};
+use own_model::StoreView;
 use owner_graph::Graph;
 use owner_sets::OwnerSets;
+use row_reading::{is_private, is_subject};
 use std::alloc::{AllocError, Global};
-
-/// Whether an owner edge goes out of a table. Takes no memory.
-fn is_private(schema: &Schema, table: TableNo) -> bool
-    ensures { result ≡ spec.is_private schema.now table.0 }
-{
-    schema
-        .edges
-        .items()
-        .iter()
-        .any(|edge| edge.owner && edge.lower.0 == table.0)
-}
 
 /// Whether a row stays: not the subject's own row, which is the only subject row that it owns, and of a private table only
 /// a row that another subject holds.

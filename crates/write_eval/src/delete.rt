@@ -6,11 +6,11 @@ ghost use Rattle.write_eval.specs.Deletions as spec;
 ghost use Rattle.write_eval.specs.Writes.{Writes};
 
 use crate::definition::definition;
-use crate::row_key::key_of;
 use crate::target::target_rows;
 use crate::written::Written;
 use own_base::{Change, List, MakeCopy, Row, RowName, TableNo};
 use own_model::{BoundCond, StoreView, TableDef};
+use row_reading::key_of;
 use std::alloc::{AllocError, Global};
 
 /// That a row goes.

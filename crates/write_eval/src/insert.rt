@@ -5,10 +5,10 @@ ghost use Rattle.write_eval.specs.Insertions as spec;
 ghost use Rattle.write_eval.specs.Writes.{Answers};
 
 use crate::definition::definition;
-use crate::row_key::key_of;
 use crate::written::Written;
 use own_base::{Change, Key, List, MakeCopy, Row, RowName, TableNo};
 use own_model::{Refusal, StoreView, TableDef};
+use row_reading::key_of;
 use std::alloc::{AllocError, Global};
 use std::collections::BTreeMap;
 use std::mem::drop;

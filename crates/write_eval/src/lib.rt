@@ -4,7 +4,6 @@
 mod definition;
 mod delete;
 mod insert;
-mod row_key;
 mod set_value;
 mod target;
 mod update;

@@ -8,13 +8,13 @@ ghost use Rattle.write_eval.specs.Write.{SpareKey};
 ghost use Rattle.write_eval.specs.Writes.{Answers};
 
 use crate::definition::definition;
-use crate::row_key::key_of;
 use crate::set_value::set_value;
 use crate::target::target_rows;
 use crate::update_fault::first_fault;
 use crate::written::Written;
 use own_base::{Change, ColNo, List, MakeCopy, Row, RowName, TableNo};
 use own_model::{BoundCond, BoundExpr, Refusal, StoreView, TableDef};
+use row_reading::key_of;
 use std::alloc::{AllocError, Global};
 
 /// A row after an UPDATE of it, of which each expression sees the row as it was.

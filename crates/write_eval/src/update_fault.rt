@@ -8,7 +8,7 @@ ghost use Rattle.write_eval.specs.FirstFaults as spec;
 use crate::set_value::value_of;
 use own_base::{ColNo, MakeCopy, Name, Row, Value};
 use own_model::{BoundExpr, Column, Refusal, TableDef};
-use pred_eval::cell;
+use row_reading::cell;
 use std::alloc::{AllocError, Global};
 use std::marker::Model;
 

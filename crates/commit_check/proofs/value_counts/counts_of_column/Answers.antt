@@ -18,7 +18,7 @@ count_value-requires g c =
 pub loop-at-preserved : goal.loop-at-preserved
 loop-at-preserved g c =
     let rows = rows_at (g.V.StoreView.db c.args.view.now).rows c.args.table.0 in
-    counts-more c.args.column.0 rows c.loop-at.at c.in-Some.row.now c.held_in-value.result c.loop-at.counts.entries _ c.loop-at.invariant (sym c.in-Some.ensures) c.held_in-value.ensures
+    counts-more c.args.column.0 rows c.loop-at.at c.in-Some.row.now c.lent_from-value.result c.loop-at.counts.entries _ c.loop-at.invariant (sym c.in-Some.ensures) c.lent_from-value.ensures
     c.in_ok-count_value.ensures
 
 pub returns-in-None : goal.returns-in-None
