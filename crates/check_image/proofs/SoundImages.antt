@@ -29,6 +29,7 @@ use Rattle.state_model.proofs.Faultless.{faultless-from}
 use Rattle.disk_model.specs.Bounds.{AreShortRows, IsBoundedImage, IsCountable, IsShortRow, IsShortValue}
 use Rattle.disk_model.specs.Image.{table_count}
 use Rattle.check_image.specs.Gated.{image_from}
+use Rattle.query_model.proofs.NoFaults.{none-if}
 
 -- ---- rows
 
@@ -70,15 +71,11 @@ tables_short (table ∷ tables) (one ∷ rows) within are few =
     let count = later.1 in
     ((((omega arith), short_rows table one within.0 are.0), later.0), omega arith)
 
-none_if : {X : Type 0} (test : Bool) (x : X) → (if test then x ∷ [] else []) ≡ [] → test ≡ false
-none_if true x none = let never : ⊥ = cc in absurd never
-none_if false x none = refl
-
 -- a database without a fault has no more rows than a store may have
 few_rows : (db : Db) → fault db ≡ None → row_count db ≤ STORE_ROWS
 few_rows db none =
     let both = append-none _ _ (faultless-from db none).limit in
-    ltb-false STORE_ROWS (row_count db) (none_if _ _ both.0)
+    ltb-false STORE_ROWS (row_count db) (none-if _ _ both.0)
 
 pub sound_rows : (db : Db) → Sound db → AllByRecursion AreShortRows db.rows × (length db.rows ≡ length db.schema.tables) × (length db.schema.tables ≤ TABLES)
 sound_rows db sound =

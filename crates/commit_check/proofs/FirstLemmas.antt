@@ -10,6 +10,7 @@ use Rattle.own_model.specs.Db.{Db, Row}
 use Rattle.own_model.specs.Stored.{rows_at}
 use Rattle.state_model.specs.Fault.{first_of, over_rows}
 use Rattle.commit_check.specs.Firsts.{Rule, first_by, first_in_table}
+use Rattle.subject_model.proofs.TableByTable.{drop-place, past-none}
 
 -- where nothing is found in one list, the first is that of the next
 pub first-behind : (xs ys : List Refusal) → first_of xs ≡ None → first_of (xs ++ ys) ≡ first_of ys
@@ -20,14 +21,6 @@ first-behind (x ∷ xs) ys none = let never : ⊥ = cc in absurd never
 pub first-before : (xs ys : List Refusal) (fault : Refusal) → first_of xs ≡ Some fault → first_of (xs ++ ys) ≡ Some fault
 first-before [] ys fault is = let never : ⊥ = cc in absurd never
 first-before (x ∷ xs) ys fault is = is
-
--- what is left of a list from a place on begins with what stands there
-pub drop-place : {X : Type 0} (xs : List X) (place : ℕ) (x : X) → slice_get xs place ≡ Some x → drop place xs ≡ x ∷ drop (place + 1) xs
-drop-place xs place x is = rw add-one (drop-cons xs place x (slice_get_within xs place x is) ∙ ap (λ y. y ∷ drop (suc place) xs) (get_or_from_slice_get xs place x x is))
-
--- where nothing stands the list has ended
-pub past-none : {X : Type 0} (xs : List X) (place : ℕ) → slice_get xs place ≡ None → length xs ≤ place
-past-none xs place none = elim (slice_get_cases xs place).1 [ inl (x, within, is, at) ↦ let never : ⊥ = cc in absurd never | inr (past, gone) ↦ past ]
 
 -- nothing is found before a place
 pub record NoneBefore {X : Type 0} (f : X → List Refusal) (xs : List X) (place : ℕ) : Type 0 where

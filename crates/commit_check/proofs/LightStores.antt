@@ -8,12 +8,9 @@ use Rattle.schema_model.proofs.Places.{append-none}
 use Rattle.state_model.specs.Fault.{fault}
 use Rattle.state_model.specs.Weight.{weight}
 use Rattle.state_model.proofs.Faultless.{faultless-from}
-
-none_if : {X : Type 0} (test : Bool) (x : X) → (if test then x ∷ [] else []) ≡ [] → test ≡ false
-none_if true x none = let never : ⊥ = cc in absurd never
-none_if false x none = refl
+use Rattle.query_model.proofs.NoFaults.{none-if}
 
 pub weight-most : (db : Db) → fault db ≡ None → weight db ≤ STORE_WEIGHT
 weight-most db none =
     let both = append-none _ _ (faultless-from db none).limit in
-    ltb-false STORE_WEIGHT (weight db) (none_if _ _ both.1)
+    ltb-false STORE_WEIGHT (weight db) (none-if _ _ both.1)

@@ -17,8 +17,8 @@ use Rattle.subject_model.specs.Owners.{owners, reach}
 use Rattle.state_model.specs.Weight.{at_least_one, row_weight, seers, view_weight}
 use Rattle.state_model.proofs.OwnerCounts.{seers-owners}
 use Rattle.commit_check.specs.Saturated.{saturated}
-use Rattle.commit_check.proofs.FirstLemmas.{drop-place}
 use Rattle.commit_check.proofs.SaturatedLemmas.{saturated-add, saturated-mul}
+use Rattle.subject_model.proofs.TableByTable.{from-table}
 
 -- those that reach a row and don't own it are as many as reach it, less its owners
 seers-less : (db : Db) (name : RowName) → seers db name ≡ length (reach db name) - length (owners db name)
@@ -39,25 +39,6 @@ row_weight-counted db named size owned reached is own all =
 -- a view over a table that isn't there weighs nothing
 pub view-absent : (db : Db) (view : ViewDef) (table : TableNo) → view.query.source ≡ Table table → length db.rows ≤ table.0 → 0 ≡ saturated (view_weight db view)
 view-absent db view table is past = rw (is, get_or_past db.rows table.0 [] past) refl
-
-from_none : (number : ℕ) (tables : List TableDef) → rows_from number tables [] ≡ []
-unfolding rows_from
-from_none number [] = refl
-from_none number (table ∷ tables) = refl
-
-from-table : (number : ℕ) (table : TableDef) (tables : List TableDef) (rows : List (List Row)) → slice_get tables number ≡ Some table
-    → rows_from number (drop number tables) (drop number rows) ≡ rows_in number table (rows_at rows number) ++ rows_from (number + 1) (drop (number + 1) tables) (drop (number + 1) rows)
-unfolding rows_from
-from-table number table tables rows is =
-    elim (slice_get_cases rows number).1 [
-      | inl (own, within, there, at) ↦
-          rw (drop-place tables number table is, drop-place rows number own there, get_or_from_slice_get rows number own [] there) refl
-      | inr (past, none) ↦
-          let gone : drop number rows ≡ [] = drop_all number rows past in
-          let later : drop (number + 1) rows ≡ [] = drop_all (number + 1) rows (omega arith) in
-          let own : get_or rows number [] ≡ [] = get_or_past rows number [] past in
-          rw (drop-place tables number table is, gone, later, own) (sym (from_none (number + 1) (drop (number + 1) tables)))
-    ]
 
 -- the tables before a number are counted: with what is left they weigh what all do
 pub record WeighedTo (db : Db) (number total : ℕ) : Type 0 where

@@ -14,7 +14,7 @@ use Rattle.query_model.specs.Scope.{table_named}
 use Rattle.query_model.specs.SelectFaults.{no_table}
 use Rattle.query_model.specs.SelectMeaning.{table_number}
 use Rattle.query_model.specs.WriteFaults.{faults_in, gdpr_faults, subject_faults}
-use Rattle.readable_model.proofs.NoFaults.{none-first, none-if, none-last, none-lowest}
+use Rattle.query_model.proofs.NoFaults.{none-first, none-if, none-last, none-lowest}
 use Rattle.own_model.specs.declared.footprint.FootItem.{FootItem}
 use Rattle.own_model.specs.declared.reply.Reply.{Reply}
 use Rattle.own_model.specs.declared.reply.Reply.TheVariants.{Refused}

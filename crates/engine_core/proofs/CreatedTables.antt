@@ -19,7 +19,7 @@ use Rattle.own_model.specs.Db.{Db}
 use Rattle.own_model.specs.Stored.{holds_rows}
 use Rattle.query_model.specs.BoundView.{bound_view, new_view, view_faults, view_unless as given_unless}
 use Rattle.query_model.specs.Refused.{lowest}
-use Rattle.readable_model.proofs.NoFaults.{none-if, none-last, none-lowest}
+use Rattle.query_model.proofs.NoFaults.{none-if, none-last, none-lowest}
 use Rattle.schema_model.specs.Refusal.{refusal_of}
 use Rattle.schema_model.specs.WithTable.{with_table}
 use Rattle.store_version.specs.Added.{db_viewed, db_with}

@@ -17,7 +17,7 @@ use Rattle.own_model.specs.declared.schema.Schema.{Schema}
 use Rattle.own_model.specs.declared.schema.TableDef.{TableDef}
 use Rattle.schema_model.specs.Tables.{is_subject}
 use Rattle.own_model.specs.Db.{Db, Row}
-use Rattle.readable_model.proofs.NoFaults.{none-first, none-if}
+use Rattle.query_model.proofs.NoFaults.{none-first, none-if}
 use Rattle.state_model.specs.Fault.{fault}
 use Rattle.state_model.specs.CommitRefusal.{first_refusal}
 use Rattle.state_model.specs.Sound.{Sound}

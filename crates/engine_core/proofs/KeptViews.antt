@@ -12,7 +12,7 @@ use Rattle.schema_model.specs.WithTable.{with_table}
 use Rattle.schema_model.proofs.Places.{all-append, all-weaker}
 use Rattle.query_model.specs.BoundView.{new_view, view_faults}
 use Rattle.query_eval.specs.Sources.{IsBaseOf}
-use Rattle.readable_model.proofs.NoFaults.{none-lowest}
+use Rattle.query_model.proofs.NoFaults.{none-lowest}
 use Rattle.state_model.specs.Create.{with_view}
 use Rattle.state_model.specs.Created.{Create, IsAdmitted, IsCreated, IsReadableCreate, OfTable, OfView, with_create}
 use Rattle.state_model.proofs.CreatedLemmas.{kept-created}

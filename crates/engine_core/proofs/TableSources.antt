@@ -21,7 +21,7 @@ use Rattle.query_model.specs.SelectFaults.{no_table, select_faults}
 use Rattle.query_model.specs.SelectMeaning.{bound_select}
 use Rattle.query_eval.specs.Sources.{IsBaseOf}
 use Rattle.readable_model.specs.Sources.{IsSourceThere, IsThere}
-use Rattle.readable_model.proofs.NoFaults.{none-first, none-if, none-last}
+use Rattle.query_model.proofs.NoFaults.{none-first, none-if, none-last}
 use Rattle.readable_model.proofs.Sources.{source_is_there}
 
 -- a source that is one table

@@ -7,3 +7,4 @@ pub mod Requests
 pub mod Shrinking
 pub mod TextBytes
 pub mod Utf8Texts
+pub mod Languages

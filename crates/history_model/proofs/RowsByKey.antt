@@ -14,11 +14,7 @@ use Rattle.own_model.specs.Db.{IsRising, Row, key_of}
 use Rattle.own_model.specs.Stored.{has_key, is_equal}
 use Rattle.own_model.proofs.KeyOrder.{key_order}
 use Rattle.run_model.proofs.Overlaps.{each_weaker}
-
-equal_is : (o : Ordering) → is_equal o ≡ true → o ≡ Equal
-equal_is Less is = cc
-equal_is Equal is = refl
-equal_is Greater is = cc
+use Rattle.subject_model.proofs.NamedLemmas.{equal_is}
 
 module _ (table : TableDef) where
   -- no row behind a key has it

@@ -13,7 +13,7 @@ use Rattle.query_model.specs.Scope.{NameBytes, table_named}
 use Rattle.query_model.specs.SelectFaults.{no_table}
 use Rattle.query_model.specs.SelectMeaning.{table_number}
 use Rattle.query_model.specs.WriteFaults.{faults_in, gdpr_faults, subject_faults}
-use Rattle.readable_model.proofs.NoFaults.{none-first, none-last, none-lowest}
+use Rattle.query_model.proofs.NoFaults.{none-first, none-last, none-lowest}
 use Rattle.run_model.proofs.Numbered.{IfNumbered, numbered-found}
 
 subject_step : (subject : Bool) (why : Refusal) → (if subject then [] else why ∷ []) ≡ [] → subject ≡ true

@@ -19,6 +19,7 @@ use Rattle.owner_sets.specs.Gathered.{IsWithin}
 use Rattle.owner_sets.specs.Links.{link, link_at, links, place_named}
 use Rattle.owner_sets.proofs.Ranges.{contains_of_option, contains_option, contains_range}
 use Rattle.owner_sets.proofs.Standing.{Named, NamesRow, StandsAt, held_at, place_named-names, place_named-row, there-standing}
+use Rattle.subject_model.proofs.JoinsLemmas.{same_table}
 
 -- An edge joins the rows at the places of a link.
 pub record Linked (db : Db) (edge : Edge) (lower_at upper_at : ℕ) : Type 0 where
@@ -27,9 +28,6 @@ pub record Linked (db : Db) (edge : Edge) (lower_at upper_at : ℕ) : Type 0 whe
   pub lower_stands : StandsAt db lower lower_at
   pub upper_stands : StandsAt db upper upper_at
   pub joined : Joins db lower edge upper
-
-same_table : (one other : TableNo) → one.0 ≡ other.0 → one ≡ other
-same_table one other same = ap (λ (n : ℕ). record { 0 = n }) same
 
 -- the table that the column names, by which of the two holds it
 abbrev named_by : Bool → Edge → TableNo

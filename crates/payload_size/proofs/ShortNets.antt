@@ -28,6 +28,7 @@ use Rattle.state_model.specs.Same.{is_same_state}
 use Rattle.state_model.specs.Weight.{row_count}
 use Rattle.state_model.proofs.Faultless.{faultless-from}
 use Rattle.payload_size.specs.SoundNet.{IsSoundNet}
+use Rattle.query_model.proofs.NoFaults.{none-if}
 
 -- what a value takes at most, and what a change of one row does
 abbrev pub value_most : ℕ
@@ -164,15 +165,11 @@ net_few number (table ∷ tables) (before ∷ befores) (after ∷ afters) within
     let other = sum_by-cons length after afters in
     omega arith
 
-none_if : {X : Type 0} (test : Bool) (x : X) → (if test then x ∷ [] else []) ≡ [] → test ≡ false
-none_if true x none = let never : ⊥ = cc in absurd never
-none_if false x none = refl
-
 -- a database without a fault has no more rows than a store may have
 few_rows : (db : Db) → fault db ≡ None → row_count db ≤ STORE_ROWS
 few_rows db none =
     let both = append-none _ _ (faultless-from db none).limit in
-    ltb-false STORE_ROWS (row_count db) (none_if _ _ both.0)
+    ltb-false STORE_ROWS (row_count db) (none-if _ _ both.0)
 
 -- Neither the payload of a store's net nor the number of its changes' bytes is too great for 64 bits.
 pub short_net : (changes : List Change) → IsSoundNet changes → payload_bytes changes < 2 ^ 64

@@ -7,3 +7,4 @@ pub mod SortedRows
 pub mod TruthByVariant
 pub mod ValueOrder
 pub mod ViewLimits
+pub mod NoFaults

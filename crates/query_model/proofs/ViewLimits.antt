@@ -23,11 +23,12 @@ use Rattle.own_model.specs.declared.select.Select.{Select}
 use Rattle.schema_model.specs.WithTable.{with_table}
 use Rattle.schema_model.specs.WithinLimits.{IsTableWithin, IsWithinLimits}
 use Rattle.query_model.specs.BoundView.{bound_view, new_view, view_faults, view_names, view_unless}
-use Rattle.query_model.specs.Refused.{lowest, rank, sooner}
+use Rattle.query_model.specs.Refused.{lowest}
 use Rattle.query_model.specs.Scope.{NameBytes, Scope, columns_named, scope_from, table_columns, table_columns_named, table_named, view_columns, view_named}
 use Rattle.query_model.specs.SelectFaults.{listed_items, output_name, select_scope}
 use Rattle.query_model.specs.SelectMeaning.{output_names}
 use Rattle.query_model.specs.WithinLimits.{AreViewsWithin, IsSelectWithin, IsViewWithin}
+use Rattle.query_model.proofs.NoFaults.{none-if, none-last, none-lowest}
 
 -- what holds of an item and of what is found behind it holds of what is found
 found-step : {A : Type 0} (P : A → Type 0) (passes : Bool) (n : ℕ) (x : A) (later : Option (ℕ × A)) (found : ℕ × A)
@@ -110,31 +111,6 @@ length-output_names : (scope : Scope) (items : Items) → length scope ≤ SELEC
 length-output_names scope Star named listed = omega (arith, length-map scope (λ named. named.column))
 length-output_names scope (Listed items) named listed = omega (arith, length-map items output_name)
 
--- where no fault is reported there is none
-told-step : (one other : Refusal) (lower : Bool) (later : Option Refusal → Option Refusal)
-    → ((kept : Refusal) → later (Some kept) ≡ None → ⊥) → later (cond lower (Some one) (Some other)) ≡ None → ⊥
-told-step one other true later tells none = tells one none
-told-step one other false later tells none = tells other none
-
-fold-sooner : (faults : List Refusal) (kept : Refusal) → fold sooner (Some kept) faults ≡ None → ⊥
-fold-sooner [] kept none = cc
-fold-sooner (fault ∷ faults) kept none = told-step fault kept (nat_lt (rank fault) (rank kept)) (λ o. fold sooner o faults) (fold-sooner faults) none
-
-none-lowest : (faults : List Refusal) → lowest faults ≡ None → faults ≡ []
-unfolding lowest
-none-lowest [] none = refl
-none-lowest (fault ∷ faults) none = absurd (fold-sooner faults fault none)
-
--- the last part of an empty list
-append-none : {A : Type 0} (xs ys : List A) → xs ++ ys ≡ [] → ys ≡ []
-append-none [] ys none = none
-append-none (x ∷ xs) ys none = absurd (cc)
-
--- a test that gives nothing
-none-if : {A : Type 0} (test : Bool) (x : A) → (if test then x ∷ [] else []) ≡ [] → test ≡ false
-none-if true x none = absurd (cc)
-none-if false x none = refl
-
 -- a view that is given, and not refused
 given-unless : (told : Option Refusal) (made view : ViewDef) → view_unless told made ≡ Ok view → (told ≡ None) × (made ≡ view)
 given-unless None made view is = (refl, cc)
@@ -144,7 +120,7 @@ given-unless (Some why) made view is = absurd (cc)
 few-views : (schema : Schema) (create : CreateView) → view_faults schema create ≡ [] → length schema.views + 1 ≤ VIEWS
 unfolding view_faults
 few-views schema create none =
-    let test : nat_lt VIEWS (length schema.views + 1) ≡ false = none-if _ _ (append-none _ _ none) in grind (arith, nat_tests)
+    let test : nat_lt VIEWS (length schema.views + 1) ≡ false = none-if _ _ (none-last _ _ none) in grind (arith, nat_tests)
 
 -- The view that a CREATE VIEW gives is within its limit, and so are the views with it.
 pub view_within : (schema : Schema) (create : CreateView) (view : ViewDef) → IsWithinLimits schema → AreViewsWithin schema → IsSelectWithin create.select

@@ -1,4 +1,3 @@
 pub mod Literals
-pub mod NoFaults
 pub mod Sources
 pub mod Within

@@ -8,32 +8,11 @@ use Rattle.own_model.specs.declared.limit.TheConstants.{NESTING_LEVELS}
 use Rattle.own_model.specs.declared.request.Request.TheVariants.{Run}
 use Rattle.own_model.specs.declared.statement.Statement.{Statement}
 use Rattle.grammar_model.specs.Grammar as rules
-use Rattle.grammar_model.specs.Language as languages
-use Rattle.grammar_model.specs.Language.{Language, ◌>>◌, many_from, listed, bracketed}
 use Rattle.grammar_model.specs.Limits.{Limits, store_limits}
 use Rattle.grammar_model.specs.Readable.{IsReadable}
 use Rattle.grammar_model.specs.Terminal.{Terminals}
 use Rattle.grammar_model.proofs.OwnRule.{written-own}
-
--- each value of a language is such a one
-abbrev Gives : {A : Type 0} → (A → Type 0) → Language A → Type 0
-Gives {A} P language = (value : A) (terminals rest : Terminals) → language value terminals rest → P value
-
--- then each value in its lists is, and so is what stands in brackets
-after_commas : {A : Type 0} (P : A → Type 0) (language : Language A) → Gives P language
-    → (values : List A) (before : ℕ) (terminals rest : Terminals) → many_from (λ _. languages.mark (codes ",") >> language) before values terminals rest
-    → AllByRecursion P values
-after_commas P language one [] before terminals rest by = tt
-after_commas P language one (value ∷ values) before terminals rest (middle, (_, start, comma, found), more) =
-    (one value start middle found, after_commas P language one values (before + 1) middle rest more)
-
-listed-gives : {A : Type 0} (P : A → Type 0) (language : Language A) → Gives P language → Gives (AllByRecursion P) (listed language)
-listed-gives P language one values terminals rest (first, middle, by, (others, end, more, last)) =
-    subst (AllByRecursion P) (sym last.0) (one first terminals middle by, after_commas P language one others 0 middle end more)
-
-bracketed-gives : {A : Type 0} (P : A → Type 0) (language : Language A) → Gives P language → Gives P (bracketed language)
-bracketed-gives P language one value terminals rest (_, first, opens, (found, middle, by, (_, _, closes, last))) =
-    subst P (sym last.0) (one found first middle by)
+use Rattle.grammar_model.proofs.Languages.{Gives, gives-bracketed, gives-listed}
 
 -- a value that is no sum
 abbrev IsNoSum : Value → Type 0
@@ -47,13 +26,13 @@ literal-no_sum limits value terminals rest (inr (inr by)) number is = let int = 
 
 tuple-no_sums : (limits : Limits) → Gives (AllByRecursion IsNoSum) (rules.tuple limits)
 unfolding rules.tuple
-tuple-no_sums limits = bracketed-gives (AllByRecursion IsNoSum) _ (listed-gives IsNoSum _ (literal-no_sum limits))
+tuple-no_sums limits = gives-bracketed (AllByRecursion IsNoSum) _ (gives-listed IsNoSum _ (literal-no_sum limits))
 
 insert-no_sums : (limits : Limits) (table : List ℕ) (columns : Option (List (List ℕ))) (rows : List (List Value)) (terminals rest : Terminals)
     → rules.insert limits (Statement.Insert table columns rows) terminals rest → AllByRecursion (AllByRecursion IsNoSum) rows
 unfolding rules.insert
 insert-no_sums limits table columns rows terminals rest (_, _, _, (_, _, _, (called, _, _, (named, _, _, (_, start, _, (tuples, end, all, last)))))) =
-    subst (AllByRecursion (AllByRecursion IsNoSum)) (sym (same rows tuples last.0)) (listed-gives (AllByRecursion IsNoSum) _ (tuple-no_sums limits) tuples start end all)
+    subst (AllByRecursion (AllByRecursion IsNoSum)) (sym (same rows tuples last.0)) (gives-listed (AllByRecursion IsNoSum) _ (tuple-no_sums limits) tuples start end all)
   where
     same : (one other : List (List Value)) → Statement.Insert table columns one ≡ Statement.Insert called named other → one ≡ other
     same one other is = cc

@@ -25,7 +25,7 @@ use Rattle.query_model.specs.Scope.{NameBytes, table_named, view_named}
 use Rattle.query_model.specs.SelectFaults.{from_faults, joined_twice, no_table, scoped_faults, select_faults, select_scope}
 use Rattle.query_model.specs.SelectMeaning.{bound_select, table_number}
 use Rattle.readable_model.specs.Sources.{IsSourceThere, IsThere}
-use Rattle.readable_model.proofs.NoFaults.{none-first, none-if, none-last, none-lowest}
+use Rattle.query_model.proofs.NoFaults.{none-first, none-if, none-last, none-lowest}
 
 -- the number of what is found
 abbrev number_found : {A : Type 0} → Option (ℕ × A) → ℕ

@@ -17,7 +17,7 @@ use Rattle.grammar_model.proofs.OwnRule.{written-own}
 use Rattle.grammar_model.proofs.Utf8Texts.{IsInUtf8, terminals-in_utf8}
 use Rattle.query_model.specs.Scope.{NameBytes}
 use Rattle.state_model.specs.Rows.{IsOf64Bits, IsStorable}
-use Rattle.state_model.proofs.Languages.{Anything, of-any, of-bind, of-listed, of-or, of-own, of-pure}
+use Rattle.grammar_model.proofs.Languages.{Anything, of-any, of-bind, of-listed, of-or, of-own, of-pure}
 use Rattle.run_model.proofs.KeylessSets.{Written}
 use Rattle.run_model.proofs.PutRows.{IsNoSum}
 use Rattle.run_model.proofs.RightSets.{AreFit, IsFit}

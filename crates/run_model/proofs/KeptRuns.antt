@@ -23,7 +23,7 @@ use Rattle.schema_model.specs.OwnerSchema.{ColumnsDiffer}
 use Rattle.schema_model.proofs.Places.{all-at, append-none, flat_map-none}
 use Rattle.grammar_model.specs.Readable.{IsReadable}
 use Rattle.readable_model.proofs.Literals.{no_sums}
-use Rattle.readable_model.proofs.NoFaults.{none-lowest}
+use Rattle.query_model.proofs.NoFaults.{none-lowest}
 use Rattle.state_model.specs.Rows.{AreRowsOf, IsRowOf}
 use Rattle.state_model.specs.Sound.{IsWellFormed}
 use Rattle.state_model.proofs.CreatedLemmas.{created-rows}

@@ -18,7 +18,7 @@ use Rattle.query_model.specs.SelectMeaning.{table_number}
 use Rattle.query_model.specs.WriteFaults.{column_in, expression_faults, set_faults, twice, update_faults}
 use Rattle.query_model.specs.WriteMeaning.{bound_sets, column_number}
 use Rattle.schema_model.proofs.Places.{append-none, flat_map-none}
-use Rattle.readable_model.proofs.NoFaults.{none-first, none-if, none-lowest}
+use Rattle.query_model.proofs.NoFaults.{none-first, none-if, none-lowest}
 use Rattle.run_model.proofs.Numbered.{named-at}
 use Rattle.run_model.proofs.RisingKeys.{AreKeyless}
 

@@ -24,7 +24,7 @@ use Rattle.query_model.specs.Truth.{cell}
 use Rattle.query_model.specs.WriteFaults.{assigned_kind, column_in, expression_faults, key_write, not_a_column, set_faults}
 use Rattle.query_model.specs.WriteMeaning.{bound_expression, bound_sets, column_number}
 use Rattle.schema_model.proofs.Places.{all-at}
-use Rattle.readable_model.proofs.NoFaults.{none-first, none-last}
+use Rattle.query_model.proofs.NoFaults.{none-first, none-last}
 use Rattle.state_model.proofs.PlainKinds.{IsPlain, IsPlainColumn, IsPlainTable}
 use Rattle.state_model.specs.Rows.{AreOfKinds, IsRowOf, IsStorable}
 use Rattle.run_model.proofs.KeylessSets.{AreFaultless, Written, column_set}

@@ -16,7 +16,7 @@ use Rattle.grammar_model.specs.Values.{NumberIs, TextIs, digits_after, signed}
 use Rattle.grammar_model.proofs.OwnRule.{written-own}
 use Rattle.grammar_model.proofs.Utf8Texts.{IsInUtf8, terminals-in_utf8}
 use Rattle.state_model.specs.Rows.{IsOf64Bits, IsStorable}
-use Rattle.state_model.proofs.Languages.{Anything, GivesOf, of-any, of-bind, of-bracketed, of-listed, of-one, of-optional, of-or, of-own, of-pure}
+use Rattle.grammar_model.proofs.Languages.{Anything, GivesOf, of-any, of-bind, of-bracketed, of-listed, of-one, of-optional, of-or, of-own, of-pure}
 
 -- values that a row can hold alone stand in the rows of an INSERT
 abbrev pub AreStorable : List (List Value) → Type 0

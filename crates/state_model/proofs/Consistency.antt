@@ -36,6 +36,7 @@ use Rattle.state_model.specs.Weight.{row_count, weight}
 use Rattle.state_model.proofs.FaultLemmas.{columns_pass, each_row, held_at}
 use Rattle.state_model.proofs.Faultless.{IsFaultless, faultless-from}
 use Rattle.state_model.proofs.SameLemmas.{value_same}
+use Rattle.query_model.proofs.NoFaults.{none-if}
 
 -- where the row of a name stands
 pub record StandsAt (db : Db) (name : RowName) (table : TableDef) (row : Row) : Type 0 where
@@ -215,16 +216,11 @@ module _ (db : Db) (none : IsFaultless db) where
       let named : TableNo → Key → RowName = λ t k. record { table = t; key = k } in
       ap (named one.table) key_same ∙ ap (λ t. named t other.key) table
 
--- a test that gives nothing fails
-none_if : {X : Type 0} (test : Bool) (x : X) → (if test then x ∷ [] else []) ≡ [] → test ≡ false
-none_if true x none = let never : ⊥ = cc in absurd never
-none_if false x none = refl
-
 rows_within : (db : Db) → limit_faults db ≡ [] → (row_count db ≤ STORE_ROWS) × (weight db ≤ STORE_WEIGHT)
 rows_within db none =
     let both = append-none _ _ none in
-    let rows : nat_lt STORE_ROWS (row_count db) ≡ false = none_if _ _ both.0 in
-    let weights : nat_lt STORE_WEIGHT (weight db) ≡ false = none_if _ _ both.1 in
+    let rows : nat_lt STORE_ROWS (row_count db) ≡ false = none-if _ _ both.0 in
+    let weights : nat_lt STORE_WEIGHT (weight db) ≡ false = none-if _ _ both.1 in
     (ltb-false _ _ rows, ltb-false _ _ weights)
 
 -- a sound database is consistent

@@ -17,7 +17,6 @@ pub mod ForgetUnique
 pub mod ForgetWeight
 pub mod WellFormedLemmas
 pub mod KeyColumns
-pub mod Languages
 pub mod NetRows
 pub mod OwnerCounts
 pub mod OwnersLeft

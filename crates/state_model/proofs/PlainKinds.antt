@@ -23,7 +23,7 @@ use Rattle.grammar_model.specs.Language.{pure}
 use Rattle.grammar_model.specs.Limits.{store_limits}
 use Rattle.grammar_model.specs.Readable.{IsWritten}
 use Rattle.grammar_model.proofs.OwnRule.{written-own}
-use Rattle.state_model.proofs.Languages.{Gives, gives-bind, gives-bracketed, gives-listed, gives-or, gives-own, gives-pure}
+use Rattle.grammar_model.proofs.Languages.{Gives, gives-bind, gives-bracketed, gives-listed, gives-or, gives-own, gives-pure}
 
 -- a kind of numbers or texts, as a table's column has it
 abbrev pub IsPlain : Kind → Type 0

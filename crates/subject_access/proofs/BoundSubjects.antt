@@ -14,7 +14,7 @@ use Rattle.query_model.specs.Scope.{NameBytes}
 use Rattle.query_model.specs.SelectFaults.{no_table}
 use Rattle.query_model.specs.SelectMeaning.{table_number}
 use Rattle.query_model.specs.WriteFaults.{faults_in, gdpr_faults, subject_faults}
-use Rattle.readable_model.proofs.NoFaults.{none-first, none-lowest}
+use Rattle.query_model.proofs.NoFaults.{none-first, none-lowest}
 use Rattle.readable_model.proofs.Sources.{table-there}
 
 given : (told : Option Refusal) (meant got : Bound) → bound_unless told meant ≡ Ok got → (told ≡ None) × (meant ≡ got)

@@ -31,6 +31,7 @@ use Rattle.subject_model.proofs.Members.{all_contained}
 use Rattle.subject_model.proofs.NamedLemmas.{table-there}
 use Rattle.subject_model.proofs.OwnerLemmas.{from_owner}
 use Rattle.subject_model.proofs.StayLemmas.{from_stays, stays_from}
+use Rattle.subject_model.proofs.JoinsLemmas.{same_table}
 
 -- the key of a key's value is it
 key_of_own : (key : Key) → literal_key (value_of key) ≡ Some key
@@ -48,9 +49,6 @@ found_row None there = let never : false ≡ true = there in cc
 found_row (Some row) there = (row, refl)
 
 -- a table is told by its number, and a name by table and key
-same_table : (one other : TableNo) → one.0 ≡ other.0 → one ≡ other
-same_table one other same = ap (λ (n : ℕ). record { 0 = n }) same
-
 same_name : (one other : RowName) → one.table ≡ other.table → one.key ≡ other.key → one ≡ other
 same_name one other table key =
     let name : TableNo → Key → RowName = λ table key. record { table = table; key = key } in

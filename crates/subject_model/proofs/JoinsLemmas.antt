@@ -36,7 +36,7 @@ names_key key (Some value) is = ap Some (value_of_key key value is)
 key_named : (key : Key) (held : Option Value) → held ≡ Some (value_of key) → option_map_or (is_key key) held false ≡ true
 key_named key held is = rw is (key_of_value key)
 
-same_table : (one other : TableNo) → one.0 ≡ other.0 → one ≡ other
+pub same_table : (one other : TableNo) → one.0 ≡ other.0 → one ≡ other
 same_table one other same = ap (λ (n : ℕ). record { 0 = n }) same
 
 -- where the test says so, an edge of the schema joins two rows

@@ -19,3 +19,4 @@ pub mod PathLemmas
 pub mod RisingNames
 pub mod StayLemmas
 pub mod TableRank
+pub mod TableByTable

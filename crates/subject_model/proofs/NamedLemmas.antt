@@ -28,7 +28,7 @@ key_exact (Int one) (Text other) is = cc
 key_exact (Text one) (Int other) is = cc
 key_exact (Text one) (Text other) is = ap Text (exact_bytes one other is)
 
-equal_is : (o : Ordering) → is_equal o ≡ true → o ≡ Equal
+pub equal_is : (o : Ordering) → is_equal o ≡ true → o ≡ Equal
 equal_is Less is = cc
 equal_is Equal is = refl
 equal_is Greater is = cc

@@ -8,7 +8,7 @@ use Rattle.own_model.specs.declared.limit.TheConstants.{STORE_ROWS, STORE_WEIGHT
 use Rattle.own_model.specs.declared.refusal.Refusal.TheVariants.{Limit}
 use Rattle.own_model.specs.Db.{Db, Row}
 use Rattle.own_model.specs.Stored.{rows_at}
-use Rattle.readable_model.proofs.NoFaults.{none-if}
+use Rattle.query_model.proofs.NoFaults.{none-if}
 use Rattle.schema_model.proofs.Places.{append-none}
 use Rattle.state_model.specs.Fault.{fault}
 use Rattle.state_model.specs.Sound.{Sound}

@@ -30,10 +30,7 @@ use Rattle.unlinked_check.proofs.LinkedRows.{AreSameElsewhere, under}
 use Rattle.unlinked_check.proofs.RowSums.{Exchanged, exchanged_as}
 use Rattle.unlinked_check.proofs.TableLeads.{LeadsFrom, leads-all}
 use Rattle.unlinked_check.proofs.WeightLemmas.{AreLone, same-elsewhere, weight-sum}
-
-none_if : {X : Type 0} (test : Bool) (x : X) → (if test then x ∷ [] else []) ≡ [] → test ≡ false
-none_if true x none = let never : ⊥ = cc in absurd never
-none_if false x none = refl
+use Rattle.query_model.proofs.NoFaults.{none-if}
 
 module _ (db next : Db) (changes : List Change) (owner : IsOwnerSchema db.schema) (before : IsOrdered db) (after : IsOrdered (under db next))
     (is : changes ≡ net db (under db next)) (put : put_rows db.schema.tables changes db.rows ≡ next.rows) (once : (number : ℕ) → KeysDiffer (filter (is_of_table number) changes))
@@ -69,7 +66,7 @@ module _ (db next : Db) (changes : List Change) (owner : IsOwnerSchema db.schema
   weight_most : weight db ≤ STORE_WEIGHT
   weight_most =
       let both = append-none _ _ (faultless-from db none).limit in
-      ltb-false STORE_WEIGHT (weight db) (none_if _ _ both.1)
+      ltb-false STORE_WEIGHT (weight db) (none-if _ _ both.1)
 
   -- so the first fault is that there are too many rows, or what is judged of the weight
   pub judged_rows : (first : Refusal) → past (nat_lt STORE_ROWS (row_count (under db next))) (Limit limit.Rows) ≡ Some first → IsJudged (under db next) (Fault first)

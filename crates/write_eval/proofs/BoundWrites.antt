@@ -24,7 +24,7 @@ use Rattle.query_model.specs.SelectFaults.{no_table}
 use Rattle.query_model.specs.SelectMeaning.{table_number}
 use Rattle.query_model.specs.WriteFaults.{delete_faults, faults_in, insert_faults, insert_faults_in, update_faults}
 use Rattle.query_model.specs.WriteMeaning.{bound_sets}
-use Rattle.readable_model.proofs.NoFaults.{none-first, none-lowest}
+use Rattle.query_model.proofs.NoFaults.{none-first, none-lowest}
 use Rattle.readable_model.proofs.Sources.{table-there}
 use Rattle.run_model.specs.Update.{Sets}
 use Rattle.run_model.proofs.KeylessSets.{keyless-bound_sets, sets_over}

@@ -3,8 +3,8 @@ use Rattle.own_model.specs.Stored.{rows_at}
 use Rattle.std.proofs.lemmas.List.{take_all}
 use Rattle.commit_check.specs.ValueCounts.{CountsRows}
 use Rattle.commit_check.proofs.CountLemmas.{counts-few, counts-more, counts-none}
-use Rattle.commit_check.proofs.FirstLemmas.{past-none}
 use Rattle.commit_check.proofs.value_counts.counts_of_column.Goals as goal
+use Rattle.subject_model.proofs.TableByTable.{past-none}
 
 pub loop-at-init : goal.loop-at-init
 loop-at-init g c = rw c.new-counts.ensures.empty (counts-none c.args.column.0 [])
