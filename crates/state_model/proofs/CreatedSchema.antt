@@ -55,7 +55,8 @@ rules-with_view : (schema : Schema) (view : CreateView) (edge : Edge) → RulesW
 unfolding with_view
 rules-with_view schema view edge well = record { no_key = well.no_key; own_alone = well.own_alone }
 
-owner_schema-with_view : (schema : Schema) (view : CreateView) → IsOwnerSchema schema → IsOwnerSchema (with_view schema view)
+-- its edges stay an ownership graph
+pub owner_schema-with_view : (schema : Schema) (view : CreateView) → IsOwnerSchema schema → IsOwnerSchema (with_view schema view)
 unfolding with_view
 owner_schema-with_view schema view owner = record {
   numbered = owner.numbered;

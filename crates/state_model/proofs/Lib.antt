@@ -17,8 +17,14 @@ pub mod ForgetUnique
 pub mod ForgetWeight
 pub mod WellFormedLemmas
 pub mod KeyColumns
+pub mod NetOrder
 pub mod NetRows
 pub mod OwnerCounts
 pub mod OwnersLeft
 pub mod PlainKinds
 pub mod SameLemmas
+pub mod TableOwners
+pub mod TableRows
+pub mod TableSound
+pub mod TableWeight
+pub mod ViewSound

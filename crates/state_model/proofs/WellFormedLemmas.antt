@@ -38,7 +38,8 @@ rows-append [] (one ∷ rows) new are = absurd are
 rows-append (table ∷ tables) [] new are = absurd are
 rows-append (table ∷ tables) (one ∷ rows) new are = (are.0, rows-append tables rows new are.1)
 
-ordered-create : (db : Db) (table : CreateTable) → IsOrdered db → IsOrdered (create db table)
+-- so they do in the whole database
+pub ordered-create : (db : Db) (table : CreateTable) → IsOrdered db → IsOrdered (create db table)
 unfolding create with_table
 ordered-create db table ordered = record { rising = rising-append db.schema.tables db.rows (new_table db.schema table) ordered.rising }
 
@@ -55,7 +56,8 @@ kept-create db table kept readable admitted = record {
   rows = rows-create db table kept.rows;
 }
 
-ordered-create_view : (db : Db) (view : CreateView) → IsOrdered db → IsOrdered (create_view db view)
+-- a view more changes no row
+pub ordered-create_view : (db : Db) (view : CreateView) → IsOrdered db → IsOrdered (create_view db view)
 unfolding create_view with_view
 ordered-create_view db view ordered = record { rising = ordered.rising }
 

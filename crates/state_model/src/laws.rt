@@ -1,19 +1,34 @@
 //! Laws of the definitions in `specs/`: each function does nothing, and what it ensures holds of every database.
-ghost use Rattle.std.specs.Prelude.{◌≡◌, ◌↔◌, ◌≤◌, Contains, IsTrue};
+ghost use Rattle.std.specs.Prelude.{◌≡◌, ◌↔◌, ◌≤◌, ◌+◌, Contains, IsTrue, None, Some, map, nat_lt, if◌then◌else◌};
+ghost use Rattle.std.specs.List.Sorted.{IsStrictlySortedBy};
 ghost use Rattle.own_base.specs.declared.change.Change.{Change};
 ghost use Rattle.own_base.specs.declared.row_name.RowName.{RowName};
+ghost use Rattle.own_model.specs.declared.create.CreateTable.{CreateTable as TableCreate};
+ghost use Rattle.own_model.specs.declared.create.CreateView.{CreateView as ViewCreate};
+ghost use Rattle.own_model.specs.declared.limit.LimitName.TheVariants as limit;
+ghost use Rattle.own_model.specs.declared.limit.TheConstants.{STORE_WEIGHT};
+ghost use Rattle.own_model.specs.declared.refusal.Refusal.TheVariants.{Limit};
+ghost use Rattle.own_model.specs.declared.request.Request.TheVariants.{Run};
+ghost use Rattle.own_model.specs.declared.statement.Statement.TheVariants.{CreateTable};
 ghost use Rattle.own_model.specs.Db.{Db, IsOrdered, empty};
-ghost use Rattle.schema_model.specs.Tables.{is_subject};
-ghost use Rattle.subject_model.specs.Forget.{forget};
+ghost use Rattle.own_model.specs.Stored.{holds_rows};
 ghost use Rattle.schema_model.specs.OwnerSchema.{IsOwnerSchema};
+ghost use Rattle.schema_model.specs.Refusal.{refusal_of};
+ghost use Rattle.schema_model.specs.Tables.{is_subject};
 ghost use Rattle.schema_model.specs.WithinLimits.{IsWithinLimits};
+ghost use Rattle.query_model.specs.BoundView.{new_view};
 ghost use Rattle.query_model.specs.WithinLimits.{AreViewsWithin};
+ghost use Rattle.grammar_model.specs.Readable.{IsReadable};
+ghost use Rattle.subject_model.specs.Forget.{forget};
+ghost use Rattle.subject_model.specs.NameOrder.{name_cmp};
 ghost use Rattle.state_model.specs.ChangeOf.{IsChangeOf};
 ghost use Rattle.state_model.specs.Consistent.{IsConsistent};
+ghost use Rattle.state_model.specs.Create.{create, create_view};
 ghost use Rattle.state_model.specs.Created.{IsCreated};
+ghost use Rattle.state_model.specs.Fault.{fault};
 ghost use Rattle.state_model.specs.Net.{net};
 ghost use Rattle.state_model.specs.Sound.{IsWellFormed, Sound};
-ghost use Rattle.state_model.specs.Weight.{row_count, weight};
+ghost use Rattle.state_model.specs.Weight.{row_count, view_weight, weight};
 
 /// The edges of the schema that admitted creates give are an ownership graph, and it is within the limits, with its views.
 pub fn created_schema_is_an_owner_schema()
@@ -56,4 +71,25 @@ pub fn forget_raises_neither_rows_nor_weight()
     ensures rows { (db : Db) (subject : RowName) → row_count (forget db subject) ≤ row_count db }
     ensures weight { (db : Db) (subject : RowName) → IsTrue (is_subject db.schema subject.table.0) → IsWellFormed db
         → weight (forget db subject) ≤ weight db }
+{}
+
+/// The changes of a net stand by table, then by key, each name once.
+pub fn names_of_a_net_rise()
+    ensures { (before after : Db) → IsStrictlySortedBy name_cmp (map (λ change. change.name) (net before after)) }
+{}
+
+/// A CREATE TABLE that is admitted leaves a database that a store may represent one, and of the same weight: the new table
+/// has no rows, and no row of another loses its owner or its reference by it.
+pub fn table_that_comes_breaks_nothing()
+    ensures sound { (db : Db) (table : TableCreate) → Sound db → IsReadable (Run (CreateTable table)) → refusal_of db.schema (holds_rows db.rows) table ≡ None
+        → Sound (create db table) }
+    ensures weight { (db : Db) (table : TableCreate) → IsWellFormed db → refusal_of db.schema (holds_rows db.rows) table ≡ None → weight (create db table) ≡ weight db }
+{}
+
+/// A CREATE VIEW adds to the weight what the view weighs. That the sum is too great is all that can be wrong with what it
+/// leaves of a database that a store may represent.
+pub fn view_that_comes_adds_its_weight()
+    ensures fault { (db : Db) (view : ViewCreate) → Sound db → fault (create_view db view) ≡
+        (if nat_lt STORE_WEIGHT (weight db + view_weight db (new_view db.schema view)) then Some (Limit limit.Weight) else None) }
+    ensures weight { (db : Db) (view : ViewCreate) → IsWellFormed db → weight (create_view db view) ≡ weight db + view_weight db (new_view db.schema view) }
 {}

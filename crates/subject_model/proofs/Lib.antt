@@ -17,6 +17,7 @@ pub mod OwnerLemmas
 pub mod OwnerLists
 pub mod PathLemmas
 pub mod RisingNames
+pub mod SamePaths
 pub mod StayLemmas
 pub mod TableRank
 pub mod TableByTable

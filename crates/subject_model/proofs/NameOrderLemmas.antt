@@ -19,7 +19,7 @@ use Rattle.subject_model.proofs.NamedLemmas.{at_from}
 
 module _ {K : Type 0} (cmp : K → K → Ordering) where
   -- two lists that rise, the one below the other, rise as one
-  rising_append : (xs ys : List K) → IsStrictlySortedBy cmp xs → IsStrictlySortedBy cmp ys → ((x y : K) → Contains xs x → Contains ys y → cmp x y ≡ Less) → IsStrictlySortedBy cmp (xs ++ ys)
+  pub rising_append : (xs ys : List K) → IsStrictlySortedBy cmp xs → IsStrictlySortedBy cmp ys → ((x y : K) → Contains xs x → Contains ys y → cmp x y ≡ Less) → IsStrictlySortedBy cmp (xs ++ ys)
   unfolding IsStrictlySortedBy
   rising_append [] ys up more below = more
   rising_append (x ∷ xs) ys up more below = (
@@ -28,11 +28,11 @@ module _ {K : Type 0} (cmp : K → K → Ordering) where
   )
 
 -- a lower table comes first
-lower_first : (one other : RowName) → one.table.0 < other.table.0 → name_cmp one other ≡ Less
+pub lower_first : (one other : RowName) → one.table.0 < other.table.0 → name_cmp one other ≡ Less
 lower_first one other below = rw (lt-ltb one.table.0 other.table.0 below) refl
 
 -- in one table the lower key does
-key_first : (one other : RowName) → one.table.0 ≡ other.table.0 → key_cmp one.key other.key ≡ Less → name_cmp one other ≡ Less
+pub key_first : (one other : RowName) → one.table.0 ≡ other.table.0 → key_cmp one.key other.key ≡ Less → name_cmp one other ≡ Less
 key_first one other same below = rw (same, tied_itself nat_cmp_total other.table.0) below
 
 -- the name of a named row
