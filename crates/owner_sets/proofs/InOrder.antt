@@ -3,6 +3,7 @@ use Rattle.std.proofs.Common.{◌≡◌, ℕ, ◌+◌, ◌<◌, ◌≤◌, List,
 use Rattle.std.specs.Prelude.{◌==◌, Contains, Option, Some, filter, map, slice_get}
 use Rattle.std.specs.List.{range_with_len}
 use Rattle.std.proofs.lemmas.Bool.{cases_eq, cases_lt, eqb-true}
+use Rattle.std.proofs.lemmas.List.{get_or_past}
 use Rattle.std.proofs.lemmas.List.FromFn.{get_or-range_with_len, length-range_with_len}
 use Rattle.std.proofs.lemmas.Option.{get_or_from_slice_get, same_Some, slice_get_read}
 use Rattle.std.proofs.lemmas.List.Sorted.{Contains-permutation, IsPermutation-sym}
@@ -108,5 +109,12 @@ module _ (db : Db) (listed : RowName → List RowName) (order : List TableNo) (g
               let number : TableNo = record { 0 = table } in
               let (at, found) = order_has (length db.schema.tables) db.schema.edges order graph number (place-lt db.schema.tables table definition table_is) in
               (done.each at number (omega (arith, place-lt order at number found)) found).at row_place definition row table_is row_is;
+          none = λ row_place none. elim (cases_lt table (length db.schema.tables)) [
+            | inl within ↦
+                let number : TableNo = record { 0 = table } in
+                let (at, found) = order_has (length db.schema.tables) db.schema.edges order graph number within in
+                (done.each at number (omega (arith, place-lt order at number found)) found).none row_place none
+            | inr past ↦ ap (λ list. get_or list row_place []) (get_or_past sets table [] (omega (arith, done.tables)))
+          ];
         };
       }

@@ -27,6 +27,7 @@ use Rattle.owner_sets.specs.Gathered.{handed_down, name_at, over_edge, row_alone
 use Rattle.owner_sets.specs.Leading.{is_among, is_named, leading, leads}
 use Rattle.owner_sets.specs.Sets.{AreSetsOf, Sets, as_subject}
 use Rattle.owner_sets.proofs.GatheredLemmas.{HandsDown, HasOver, has-over_edge, over_edge-has, subjects-names}
+use Rattle.owner_sets.proofs.NoRow.{nothing_past}
 use Rattle.owner_sets.proofs.Standing.{StandsAt, standing_at}
 
 -- the test of a list says whether the subject stands in it
@@ -113,14 +114,15 @@ module _ (db : Db) (ordered : IsOrdered db) (owner : IsOwnerSchema db.schema) (s
         (filter_agrees (reaches_by db subject.0 name) (leads db.schema db.rows sets subject name.table.0 place) db.schema.edges reaches_by-leads)
 
   -- so lists of such edges are those by which the subject reaches the rows of a table
-  pub edges-leading : (table : TableNo) (lists : List (List EdgeNo))
+  pub edges-leading : (table : TableNo) (lists : List (List EdgeNo)) → length lists ≡ length (rows_at db.rows table.0)
       → ((place : ℕ) → place < length (rows_at db.rows table.0) → get_or lists place [] ≡ leading db.schema db.rows sets subject table.0 db.schema.edges place)
       → AreEdgesOfTable db subject.0 table.0 lists
-  edges-leading table lists given =
+  edges-leading table lists rows given =
       record {
         at = λ place definition row table_is row_is.
             let name : RowName = name_of table.0 definition row in
             given place (place-lt (rows_at db.rows table.0) place row row_is) ∙ sym (by-leading name place (standing_at db table place definition row table_is row_is));
+        none = λ place none. nothing_past (rows_at db.rows table.0) lists place rows none;
       }
 
 -- a subject stands in a row's set exactly where it reaches the row

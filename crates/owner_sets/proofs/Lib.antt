@@ -9,3 +9,4 @@ pub mod SetsLemmas
 pub mod InOrder
 pub mod LeadingLemmas
 pub mod MarkLemmas
+pub mod NoRow

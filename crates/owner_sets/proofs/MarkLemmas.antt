@@ -4,7 +4,7 @@ use Rattle.std.specs.Prelude.{◌==◌, Contains, filter, flat_map}
 use Rattle.std.proofs.Math.Bool.{or_assoc}
 use Rattle.std.proofs.Math.Seq.{get_or-append_seam}
 use Rattle.std.proofs.lemmas.Bool.{cases_eq, cases_lt}
-use Rattle.std.proofs.lemmas.List.{append-nil, get_or_append_left, map-append, take_more}
+use Rattle.std.proofs.lemmas.List.{append-nil, get_or_append_left, get_or_past, map-append, take_more}
 use Rattle.std.proofs.lemmas.List.Elements.{filter-append}
 use Rattle.std.proofs.lemmas.List.Folds.{list_any-append}
 use Rattle.std.proofs.lemmas.Option.{get_or_from_slice_get, slice_get-get_or}
@@ -158,6 +158,10 @@ module _ (db : Db) (subject : RowName) where
         each = λ table. record {
           at = λ place definition row table_is row_is.
               (before.each table (omega (arith, place-lt db.schema.tables table definition table_is))).at place definition row table_is row_is;
+          none = λ place none. elim (cases_lt table number) [
+            | inl within ↦ (before.each table within).none place none
+            | inr after ↦ ap (λ list. get_or list place []) (get_or_past lists table [] (omega (arith, before.tables)))
+          ];
         };
       }
 

@@ -1,5 +1,5 @@
 -- A table's rows have their sets once the rows above them have theirs.
-use Rattle.std.proofs.Common.{◌≡◌, ℕ, List, [], ◌∷◌, get_or, refl, ap, sym, ◌∙◌, subst, map}
+use Rattle.std.proofs.Common.{◌≡◌, ℕ, List, [], ◌∷◌, length, get_or, refl, ap, sym, ◌∙◌, subst, map}
 use Rattle.std.specs.Prelude.{◌↔◌, ◌==◌, Contains, Some, filter, slice_get}
 use Rattle.std.specs.List.{AllByRecursion}
 use Rattle.std.specs.List.Sorted.{IsStrictlySortedBy}
@@ -14,7 +14,7 @@ use Rattle.schema_model.specs.OwnerSchema.{IsOwnerSchema}
 use Rattle.subject_model.specs.LocalEquation.{MeetsLocalEquation}
 use Rattle.subject_model.specs.NameOrder.{name_cmp}
 use Rattle.subject_model.specs.Named.{name_of}
-use Rattle.subject_model.proofs.Members.{contains_map, contains_of_map}
+use Rattle.subject_model.proofs.Members.{contains_here, contains_map, contains_none, contains_of_map}
 use Rattle.subject_model.proofs.OwnerLists.{owners_meet, owners_rise, reach_meets, reach_rise}
 use Rattle.subject_model.proofs.RisingNames.{name_order, same_rising}
 use Rattle.owner_sets.specs.declared.which.Which.{Which}
@@ -25,6 +25,7 @@ use Rattle.owner_sets.specs.SubjectOrder.{subject_cmp}
 use Rattle.owner_sets.specs.Sets.{AreSetsOfTable, Sets, as_subject}
 use Rattle.owner_sets.specs.WhichSets.{counts, listed}
 use Rattle.owner_sets.proofs.GatheredLemmas.{gathered-iff_whose}
+use Rattle.owner_sets.proofs.NoRow.{nothing_past}
 use Rattle.owner_sets.proofs.Standing.{StandsAt, standing_at, there-standing}
 
 -- the lists of either kind meet its local equation
@@ -60,6 +61,11 @@ names_of-subject set name = (
   (λ among. contains_map (λ (s : Subject). s.0) set (as_subject name) among),
 )
 
+-- the set of no subjects has none
+no_subject : (set : List Subject) → IsSortedSet [] set → set ≡ []
+no_subject [] is = refl
+no_subject (subject ∷ set) is = absurd (contains_none subject ((is.same subject).0 (contains_here subject set)))
+
 module _ (which : Which) (db : Db) (done : Sets) (ordered : IsOrdered db) (owner : IsOwnerSchema db.schema) (table : TableNo) (edges : List Edge)
     (out : edges ≡ filter (λ edge. edge.lower.0 == table.0) db.schema.edges)
     (above : (edge : Edge) → Contains edges edge → AreSetsOfTable db (listed which db) edge.upper.0 (get_or done edge.upper.0 [])) where
@@ -78,8 +84,8 @@ module _ (which : Which) (db : Db) (done : Sets) (ordered : IsOrdered db) (owner
 
   -- what is gathered for each row of a table, as a set, is its set
   pub sorted_sets : (lists sets : List (List Subject)) → ((place : ℕ) (row : Row) → slice_get (rows_at db.rows table.0) place ≡ Some row → get_or lists place [] ≡ gathered which db.schema db.rows done table.0 edges place)
-      → ((place : ℕ) → IsSortedSet (get_or lists place []) (get_or sets place [])) → AreSetsOfTable db (listed which db) table.0 sets
-  sorted_sets lists sets gathers as_sorted =
+      → length lists ≡ length (rows_at db.rows table.0) → ((place : ℕ) → IsSortedSet (get_or lists place []) (get_or sets place [])) → AreSetsOfTable db (listed which db) table.0 sets
+  sorted_sets lists sets gathers rows as_sorted =
       record {
         at = λ place definition row table_is row_is.
             let name : RowName = name_of table.0 definition row in
@@ -87,4 +93,7 @@ module _ (which : Which) (db : Db) (done : Sets) (ordered : IsOrdered db) (owner
             let set = get_or sets place [] in
             let own : IsSortedSet (gathered which db.schema db.rows done table.0 edges place) set = subst (λ list. IsSortedSet list set) (gathers place row row_is) (as_sorted place) in
             sym (subjects-names_of set) ∙ ap (map as_subject) (sorted_names name place set stands refl own);
+        none = λ place none.
+            let nothing = nothing_past (rows_at db.rows table.0) lists place rows none in
+            no_subject (get_or sets place []) (subst (λ list. IsSortedSet list (get_or sets place [])) nothing (as_sorted place));
       }

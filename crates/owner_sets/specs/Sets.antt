@@ -1,5 +1,5 @@
 -- Sets of data subjects, one for each row of a store.
-use Rattle.std.specs.Prelude.{◌≡◌, ℕ, List, [], Some, map, slice_get, slice_index_or}
+use Rattle.std.specs.Prelude.{◌≡◌, ℕ, List, [], None, Some, map, slice_get, slice_index_or}
 use Rattle.own_base.specs.declared.row_name.RowName.{RowName}
 use Rattle.own_base.specs.declared.row_name.Subject.{Subject}
 use Rattle.own_model.specs.declared.schema.TableDef.{TableDef}
@@ -24,10 +24,11 @@ pub record OwnerSetsSeen : Type 0 where
 abbrev pub as_subject : RowName → Subject
 as_subject name = record { 0 = name }
 
--- each row of a table has its set: the subjects that are listed for the row's name
+-- each row of a table has its set: the subjects that are listed for the row's name; a place without a row has none
 pub record AreSetsOfTable (db : Db) (listed : RowName → List RowName) (table : ℕ) (sets : List (List Subject)) : Type 0 where
   pub at : (place : ℕ) (definition : TableDef) (row : Row) → slice_get db.schema.tables table ≡ Some definition → slice_get (rows_at db.rows table) place ≡ Some row
       → slice_index_or sets place [] ≡ map as_subject (listed (name_of table definition row))
+  pub none : (place : ℕ) → slice_get (rows_at db.rows table) place ≡ None → slice_index_or sets place [] ≡ []
 
 -- and so has each row of each table
 pub record AreSetsOf (db : Db) (listed : RowName → List RowName) (sets : Sets) : Type 0 where

@@ -152,7 +152,8 @@ pub(crate) fn gathered<V: StoreView>(
 ) -> Result<Vec<List<Subject>>, AllocError>
     requires there { table.0 < length (V.db view.now).schema.tables }
     requires within { AllByRecursion (IsWithin (V.db view.now).schema) edges.now }
-    ensures { IfOk result (λ lists. (place : ℕ) → place < length (rows_at (V.db view.now).rows table.0)
+    ensures rows { IfOk result (λ lists. length lists.items ≡ length (rows_at (V.db view.now).rows table.0)) }
+    ensures each { IfOk result (λ lists. (place : ℕ) → place < length (rows_at (V.db view.now).rows table.0)
         → slice_index_or lists.items place [] ≡ gathered which (V.db view.now).schema (V.db view.now).rows done.now table.0 edges.now place) }
 {
     let mut lists = own_sets(alloc, view, table)?;

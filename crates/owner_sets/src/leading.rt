@@ -142,7 +142,8 @@ pub(crate) fn leading<V: StoreView>(
 ) -> Result<Vec<List<EdgeNo>>, AllocError>
     requires there { table.0 < length (V.db view.now).schema.tables }
     requires owner { IsOwnerSchema (V.db view.now).schema }
-    ensures { IfOk result (λ lists. (place : ℕ) → place < length (rows_at (V.db view.now).rows table.0)
+    ensures rows { IfOk result (λ lists. length lists.items ≡ length (rows_at (V.db view.now).rows table.0)) }
+    ensures each { IfOk result (λ lists. (place : ℕ) → place < length (rows_at (V.db view.now).rows table.0)
         → slice_index_or lists.items place [] ≡ leading (V.db view.now).schema (V.db view.now).rows reach.now subject.now table.0 (V.db view.now).schema.edges place) }
 {
     let mut lists = none_yet(alloc, view.count(table))?;

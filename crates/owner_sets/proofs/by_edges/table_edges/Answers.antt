@@ -8,4 +8,4 @@ pub returns : goal.returns
 returns g c =
     let db = g.V.StoreView.db c.args.view.now in
     subst (AreEdgesOfTable db c.args.subject.now.0 c.args.table.0) (sym c.from_vec.ensures)
-    (edges-leading db (g.met.V.StoreView.ordered c.args.view.now) c.requires.owner c.args.sets.now c.requires.reach c.args.subject.now c.args.table c.in_ok-lists.lists.items c.in_ok-lists.ensures)
+    (edges-leading db (g.met.V.StoreView.ordered c.args.view.now) c.requires.owner c.args.sets.now c.requires.reach c.args.subject.now c.args.table c.in_ok-lists.lists.items c.in_ok-lists.ensures.rows c.in_ok-lists.ensures.each)

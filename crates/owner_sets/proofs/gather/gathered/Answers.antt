@@ -6,9 +6,18 @@ use Rattle.own_model.specs.Stored.{rows_at}
 use Rattle.owner_sets.specs.Gathered.{gathered, over_counted, own_set}
 use Rattle.owner_sets.proofs.gather.gathered.Goals as goal
 
-pub returns : goal.returns
+-- the lists of the rows' own sets stay as many
+pub returns-clause-rows : goal.returns-clause-rows
+returns-clause-rows g c =
+    let schema = (g.V.StoreView.db c.args.view.now).schema in
+    let rows = (g.V.StoreView.db c.args.view.now).rows in
+    let count = length (rows_at rows c.args.table.0) in
+    let own = own_set schema rows c.args.table.0 in
+    c.loop-edge.invariant.same_length ∙ (ap length c.in_ok-lists.ensures ∙ length-map-range_with_len own 0 count)
+
+pub returns-clause-each : goal.returns-clause-each
 unfolding gathered
-returns g c = λ place within.
+returns-clause-each g c = λ place within.
     let schema = (g.V.StoreView.db c.args.view.now).schema in
     let rows = (g.V.StoreView.db c.args.view.now).rows in
     let count = length (rows_at rows c.args.table.0) in

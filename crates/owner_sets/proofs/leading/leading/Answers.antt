@@ -26,9 +26,16 @@ loop-edge-preserved g c =
     edges-more (g.V.StoreView.db c.args.view.now).schema (g.V.StoreView.db c.args.view.now).rows c.args.reach.now c.args.subject.now c.args.table.0 c.items-edge-items.result.now
     c.loop-edge.edge-index _ c.in_ok-lists.lists.items c.loop-edge.lists.items c.add_edge.new.lists.items c.loop-edge-test.true c.loop-edge.invariant c.in_ok-add_edge.ensures
 
+-- each row keeps its list
+pub returns-clause-rows : goal.returns-clause-rows
+returns-clause-rows g c =
+    let count = length (rows_at (g.V.StoreView.db c.args.view.now).rows c.args.table.0) in
+    let first : c.in_ok-lists.lists.items ≡ replicate count [] = c.in_ok-lists.ensures ∙ ap (λ n. replicate n []) c.count.ensures in
+    c.loop-edge.invariant.same_length ∙ (ap length first ∙ length-replicate {A = List EdgeNo} count [])
+
 -- all edges are gone through, and none was listed before
-pub returns : goal.returns
-returns g c = λ place within.
+pub returns-clause-each : goal.returns-clause-each
+returns-clause-each g c = λ place within.
     let schema = (g.V.StoreView.db c.args.view.now).schema in
     let rows = (g.V.StoreView.db c.args.view.now).rows in
     let count = length (rows_at rows c.args.table.0) in

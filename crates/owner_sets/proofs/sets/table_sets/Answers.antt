@@ -31,5 +31,5 @@ returns g c =
     (AreSetsOfTable db (listed c.args.which db) c.args.table.0)
     (λ sets as_sorted.
     sorted_sets c.args.which db c.args.done.now (g.met.V.StoreView.ordered c.args.view.now) c.requires.owner c.args.table c.args.edges.now c.requires.edges c.requires.above c.in_ok-lists.lists.items sets
-    (λ place row at. c.in_ok-lists.ensures place (place-lt (rows_at db.rows c.args.table.0) place row at)) as_sorted)
+    (λ place row at. c.in_ok-lists.ensures.each place (place-lt (rows_at db.rows c.args.table.0) place row at)) c.in_ok-lists.ensures.rows as_sorted)
     c.as_sets.ensures
