@@ -7,6 +7,7 @@ ghost use Rattle.schema_model.specs.WithinLimits.{IsWithinLimits};
 ghost use Rattle.state_model.specs.Weight.{at_least_one, item_size, row_weight, view_weight, weight};
 ghost use Rattle.subject_model.specs.Named.{named_rows, rows_in};
 ghost use Rattle.subject_model.specs.Owners.{owners, reach};
+ghost use Rattle.commit_check.specs.Judged.{IsWeighed};
 ghost use Rattle.commit_check.specs.Saturated.{saturated};
 
 use crate::judged::{Judged, judge_weight};
@@ -133,6 +134,14 @@ fn view_weight<V: StoreView>(view: &V, definition: &ViewDef) -> u64
         }
         Source1::View(_) | Source1::Pair { .. } => 0,
     }
+}
+
+/// What is judged of a state that weighs so much, with a view more: that the weight is greater than a store may have, else
+/// the weight. No row but those of the view's table is looked at. Takes no memory.
+pub fn judge_view<V: StoreView>(before: &V, weight: u64, definition: &ViewDef) -> Judged
+    ensures { IsWeighed (weight + view_weight (V.db before.now) definition.now) result }
+{
+    judge_weight(weight.saturating_add(view_weight(before, definition)))
 }
 
 /// What all views weigh.

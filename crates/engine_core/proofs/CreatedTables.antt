@@ -45,7 +45,8 @@ unfolding create_table create with_table
 create-admitted db table admitted text is text_is =
     rw is.unrefused (outcome _ _ _ _ (rw (is.table, is.edges, text_is)) refl)
 
-given : (told : Option Refusal) (meant got : ViewDef) → given_unless told meant ≡ Ok got → (told ≡ None) × (meant ≡ got)
+-- a view is given where it has no fault
+pub given : (told : Option Refusal) (meant got : ViewDef) → given_unless told meant ≡ Ok got → (told ≡ None) × (meant ≡ got)
 given None meant got is = (refl, cc)
 given (Some fault) meant got is = absurd (cc)
 
@@ -100,14 +101,6 @@ next-table db next table admitted text is text_is next_is = create-admitted db t
 pub next-view : (db next : Db) (view : ViewCreate) (definition : ViewDef) (text : List ℕ) → bound_view db.schema view ≡ Ok definition
     → text ≡ canonical (CreateView view) → next ≡ db_viewed db definition text → add_view db view ≡ record { db = next; reply = Done }
 next-view db next view definition text is text_is next_is = view-bound db view definition text is text_is ∙ outcome _ _ _ _ (sym next_is) refl
-
-pub kept-table : (db next : Db) (table : TableCreate) → IsWellFormed db → IsReadable (Run (CreateTable table)) → create_table db table ≡ record { db = next; reply = Done } → IsWellFormed next
-unfolding run
-kept-table db next table kept readable is = subst (λ (o : Outcome). IsWellFormed o.db) is (kept-run db kept (CreateTable table) readable)
-
-pub kept-view : (db next : Db) (view : ViewCreate) → IsWellFormed db → IsReadable (Run (CreateView view)) → add_view db view ≡ record { db = next; reply = Done } → IsWellFormed next
-unfolding run
-kept-view db next view kept readable is = subst (λ (o : Outcome). IsWellFormed o.db) is (kept-run db kept (CreateView view) readable)
 
 pub tells-created : (db next : Db) (made : Outcome) (answer : Answer) → made ≡ record { db = next; reply = Done }
     → ((any : Db) → Tells any (committing Took true (fault next) Done) next answer) → Tells db (create_reply Took made) made.db answer

@@ -7,6 +7,7 @@ mod Erased
 pub mod FewColumns
 pub mod Forgotten
 pub mod Judged
+mod JudgedCreates
 pub mod KeptTables
 pub mod KeptViews
 mod Nets

@@ -26,7 +26,7 @@ use store_version::{Next, Shown, Version, prepare};
 use unlinked_check::{are_unlinked, judge_unlinked};
 
 /// What is judged of a next version as a whole.
-pub(crate) fn judged(alloc: Global, next: &Next) -> Result<Judged, AllocError>
+fn judged(alloc: Global, next: &Next) -> Result<Judged, AllocError>
     requires { IsWellFormed next.now }
     ensures { IfOk result (IsJudged next.now) }
 {

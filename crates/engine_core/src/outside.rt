@@ -98,7 +98,7 @@ fn answer_to_create(
     session: SessionNo,
     statement: &Statement,
 ) -> Result<Answer, AllocError>
-    requires kept { IsWellFormed state.now.version }
+    requires sound { Sound state.now.version }
     requires stands { RepresentsWorld state.now (world empty history.now) }
     requires written { IsWritten STATEMENT_BYTES statement.now }
     requires create { IsCreate statement.now }
@@ -108,7 +108,7 @@ fn answer_to_create(
     let _ = history;
     match state.txns.lowest_other(session) {
         Some(other) => Ok(Answer::told(alloc, Reply::Refused(Refusal::Busy(other)))),
-        None => create(alloc, &state.version, statement),
+        None => create(alloc, &state.version, state.weighs, statement),
     }
 }
 

@@ -11,8 +11,9 @@ use Rattle.own_model.specs.Stored.{holds_rows}
 use Rattle.schema_model.specs.Refusal.{refusal_of}
 use Rattle.text_model.specs.Canonical.{canonical}
 use Rattle.run_model.specs.Run.{create_table}
-use Rattle.engine_core.proofs.CreatedTables.{kept-table, next-table, tells-created, tells-uncreated}
+use Rattle.engine_core.proofs.CreatedTables.{next-table, tells-created, tells-uncreated}
 use Rattle.engine_core.proofs.FewColumns.{columns-few}
+use Rattle.engine_core.proofs.JudgedCreates.{judged-table}
 use Rattle.engine_core.proofs.creating.create_table.Goals as goal
 
 pub admit-requires-clause-columns : goal.admit-requires-clause-columns
@@ -28,23 +29,23 @@ returns-in-Err-clause-tells c =
     tells-uncreated db create (refusal_seen c.in-Err.fault) answer is (told.0 ∙ ap (λ why. Refused why) c.into_refusal.ensures) told.1)
     c.refused.ensures
 
--- the table that is admitted is what the next version has more
+-- the table that is admitted is what the next version has more, and nothing is wrong with it
 pub checked-requires : goal.checked-requires
 checked-requires c =
     let db = c.args.version.now in
     let create = c.args.create.now in
     let text = c.in-Ok-print_statement.ensures ∙ ap canonical c.requires.of in
     let admitted = subst (λ (schema : Schema). IsAdmitted schema (holds_rows db.rows) create c.in-Ok.admitted) c.catalog.ensures.schema c.in-Ok.ensures.admitted in
-    let next = c.in_ok-prepare_table-in-Ok-print_statement.field-0 in
-    let made = next-table db next create c.in-Ok.admitted c.in-Ok-print_statement.text admitted text c.in_ok-prepare_table-in-Ok-print_statement.ensures in
-    kept-table db next create c.requires.kept (subst (IsWritten STATEMENT_BYTES) c.requires.of c.requires.written) made
+    let next = c.in_ok-next-in-Ok-print_statement.next in
+    let made = next-table db next create c.in-Ok.admitted c.in-Ok-print_statement.text admitted text c.in_ok-next-in-Ok-print_statement.ensures in
+    judged-table db next create c.args.weighs c.requires.sound c.requires.weighs (subst (IsWritten STATEMENT_BYTES) c.requires.of c.requires.written) admitted.unrefused made
 
-pub returns-in_ok-prepare_table-in-Ok-print_statement-clause-tells : goal.returns-in_ok-prepare_table-in-Ok-print_statement-clause-tells
-returns-in_ok-prepare_table-in-Ok-print_statement-clause-tells c =
+pub returns-in_ok-next-in-Ok-print_statement-clause-tells : goal.returns-in_ok-next-in-Ok-print_statement-clause-tells
+returns-in_ok-next-in-Ok-print_statement-clause-tells c =
     let db = c.args.version.now in
     let create = c.args.create.now in
     let text = c.in-Ok-print_statement.ensures ∙ ap canonical c.requires.of in
     let admitted = subst (λ (schema : Schema). IsAdmitted schema (holds_rows db.rows) create c.in-Ok.admitted) c.catalog.ensures.schema c.in-Ok.ensures.admitted in
-    let next = c.in_ok-prepare_table-in-Ok-print_statement.field-0 in
-    let made = next-table db next create c.in-Ok.admitted c.in-Ok-print_statement.text admitted text c.in_ok-prepare_table-in-Ok-print_statement.ensures in
-    IfOk-weaker c.checked.result _ _ (λ answer told. tells-created db next (create_table db create) answer made told) c.checked.ensures.tells
+    let next = c.in_ok-next-in-Ok-print_statement.next in
+    let made = next-table db next create c.in-Ok.admitted c.in-Ok-print_statement.text admitted text c.in_ok-next-in-Ok-print_statement.ensures in
+    tells-created db next (create_table db create) c.checked.result made c.checked.ensures.tells
