@@ -40,8 +40,8 @@ module _ (rows : List Row) (at : ℕ) (run : List Row) (runs : IsRunFrom rows at
       ∙ ap (λ (rest : List Row). out ++ (flat_map spelling run ++ flat_map spelling rest)) behind
       ∙ ap (λ (tail : List ℕ). out ++ tail) (sym apart) ∙ so_far
 
-  pub run_held : (P : Row → Type 0) → AllByRecursion P run → (AllByRecursion P (drop at rows) → AllByRecursion P rows) → AllByRecursion P (drop (at + length run) rows) → AllByRecursion P rows
-  run_held P own whole rest = whole (subst (AllByRecursion P) (sym runs.follow) (all_both P run runs.rest own (subst (AllByRecursion P) behind rest)))
+  pub run_typed : (P : Row → Type 0) → AllByRecursion P run → (AllByRecursion P (drop at rows) → AllByRecursion P rows) → AllByRecursion P (drop (at + length run) rows) → AllByRecursion P rows
+  run_typed P own whole rest = whole (subst (AllByRecursion P) (sym runs.follow) (all_both P run runs.rest own (subst (AllByRecursion P) behind rest)))
 
 -- the table at a place, and those after it
 module _ (tables : List (List Row)) (at : ℕ) (below : at < length tables) where
@@ -60,13 +60,13 @@ module _ (tables : List (List Row)) (at : ℕ) (below : at < length tables) wher
       ∙ append_assoc out (spelling (rows_at tables at)) (flat_map spelling (drop (at + 1) tables))
       ∙ ap (λ (tail : List ℕ). out ++ tail) (sym apart) ∙ so_far
 
-  pub table_held : (P : List Row → Type 0) → P (rows_at tables at) → (AllByRecursion P (drop at tables) → AllByRecursion P tables) → AllByRecursion P (drop (at + 1) tables) → AllByRecursion P tables
-  table_held P own whole rest = whole (subst (AllByRecursion P) (sym at_place) (own, rest))
+  pub table_typed : (P : List Row → Type 0) → P (rows_at tables at) → (AllByRecursion P (drop at tables) → AllByRecursion P tables) → AllByRecursion P (drop (at + 1) tables) → AllByRecursion P tables
+  table_typed P own whole rest = whole (subst (AllByRecursion P) (sym at_place) (own, rest))
 
 -- none is left behind the last
 pub all_written : {A : Type 0} (spelling : A → List ℕ) (xs : List A) (at : ℕ) (out total : List ℕ) → length xs ≤ at → out ++ flat_map spelling (drop at xs) ≡ total → out ≡ total
 all_written spelling xs at out total past so_far =
     sym (append-nil out) ∙ ap (λ (tail : List ℕ). out ++ tail) (sym (ap (flat_map spelling) (drop_all at xs past))) ∙ so_far
 
-pub all_held : {A : Type 0} (P : A → Type 0) (xs : List A) (at : ℕ) → length xs ≤ at → (AllByRecursion P (drop at xs) → AllByRecursion P xs) → AllByRecursion P xs
-all_held P xs at past whole = whole (subst (AllByRecursion P) (sym (drop_all at xs past)) tt)
+pub all_typed : {A : Type 0} (P : A → Type 0) (xs : List A) (at : ℕ) → length xs ≤ at → (AllByRecursion P (drop at xs) → AllByRecursion P xs) → AllByRecursion P xs
+all_typed P xs at past whole = whole (subst (AllByRecursion P) (sym (drop_all at xs past)) tt)

@@ -28,7 +28,7 @@ fn write_creates(creates: &[CreateText], out: &mut Vec<u8>) -> Result<(), AllocE
     requires few { IsCountable creates.now }
     requires each { AllByRecursion (λ create. IsCountable create.text) creates.now }
     ensures written { OnOk result (out.new.items ≡ out.old.items ++ list_spelling create_spelling creates.now) }
-    ensures held { OnOk result (AllByRecursion (λ create. IsUtf8 create.text) creates.now) }
+    ensures typed { OnOk result (AllByRecursion (λ create. IsUtf8 create.text) creates.now) }
 {
     write_u32(creates.len() as u32, out)?;
     write_items(creates, out)

@@ -2,7 +2,7 @@ ghost use Rattle.std.specs.Prelude.{◌≡◌, ◌≤◌, ◌<◌, ◌++◌, OnO
 ghost use Rattle.std.specs.List.{AllByRecursion, flat_map};
 ghost use Rattle.own_model.specs.Stored.{rows_at};
 ghost use Rattle.own_model.specs.declared.limit.TheConstants.{TABLES};
-ghost use Rattle.disk_model.specs.Bounds.{AreShortRows, IsHeldRow, IsShortRow};
+ghost use Rattle.disk_model.specs.Bounds.{AreShortRows, IsTypedRow, IsShortRow};
 ghost use Rattle.disk_model.specs.Spelling.{list_spelling, row_spelling};
 
 use disk_fields::{write_items, write_u32};
@@ -15,7 +15,7 @@ fn write_rows<V: StoreView>(view: &V, table: TableNo, out: &mut Vec<u8>) -> Resu
     requires there { table.0 < length (V.db view.now).schema.tables }
     requires rows { AllByRecursion IsShortRow (rows_at (V.db view.now).rows table.0) }
     ensures written { OnOk result (out.new.items ≡ out.old.items ++ flat_map row_spelling (rows_at (V.db view.now).rows table.0)) }
-    ensures held { OnOk result (AllByRecursion IsHeldRow (rows_at (V.db view.now).rows table.0)) }
+    ensures typed { OnOk result (AllByRecursion IsTypedRow (rows_at (V.db view.now).rows table.0)) }
 {
     let count = view.count(table);
     let mut at = 0;
@@ -32,7 +32,7 @@ fn write_table<V: StoreView>(view: &V, table: TableNo, out: &mut Vec<u8>) -> Res
     requires there { table.0 < length (V.db view.now).schema.tables }
     requires rows { AreShortRows (rows_at (V.db view.now).rows table.0) }
     ensures written { OnOk result (out.new.items ≡ out.old.items ++ list_spelling row_spelling (rows_at (V.db view.now).rows table.0)) }
-    ensures held { OnOk result (AllByRecursion IsHeldRow (rows_at (V.db view.now).rows table.0)) }
+    ensures typed { OnOk result (AllByRecursion IsTypedRow (rows_at (V.db view.now).rows table.0)) }
 {
     write_u32(view.count(table) as u32, out)?;
     write_rows(view, table, out)
@@ -44,7 +44,7 @@ pub(crate) fn write_tables<V: StoreView>(view: &V, out: &mut Vec<u8>) -> Result<
     requires each { length (V.db view.now).rows ≡ length (V.db view.now).schema.tables }
     requires rows { AllByRecursion AreShortRows (V.db view.now).rows }
     ensures written { OnOk result (out.new.items ≡ out.old.items ++ flat_map (list_spelling row_spelling) (V.db view.now).rows) }
-    ensures held { OnOk result (AllByRecursion (AllByRecursion IsHeldRow) (V.db view.now).rows) }
+    ensures typed { OnOk result (AllByRecursion (AllByRecursion IsTypedRow) (V.db view.now).rows) }
 {
     let count = view.schema().tables.items().len() as u32;
     for number in 0..count {

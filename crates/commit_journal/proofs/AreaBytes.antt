@@ -13,7 +13,7 @@ use Rattle.outer_world.specs.Overwritten.{overwritten}
 use Rattle.outer_world.specs.Torn.{Torn}
 use Rattle.outer_world.specs.TornCut.{TornCut}
 use Rattle.own_model.specs.declared.limit.TheConstants.{JOURNAL_ROOM}
-use Rattle.disk_model.specs.Area.{IsBelow, IsGated, IsOpened, IsStorable, Says, StandFor, StandForNothing, Stored, epoch_of, image_of, image_part, in_front, laid, with_payload}
+use Rattle.disk_model.specs.Area.{IsBelow, IsGated, IsOpened, IsStorable, Says, Represent, RepresentNothing, Stored, epoch_of, image_of, image_part, in_front, laid, with_payload}
 use Rattle.disk_model.specs.Records.{IsFramed, IsPayloadSize, measured, payload_of, record_of, records_of}
 use Rattle.commit_journal.specs.AreaCalls.{IsAdding, IsFront}
 use Rattle.commit_journal.specs.Filled.{IsFilling}
@@ -158,8 +158,8 @@ module _ (stored : Stored) (old : List ℕ) (says : Says old stored) (end : ℕ)
           | inr closed ↦ inl (says_behind (get_or new end 0) new closed tail whole)
         ]
 
-    pub adding_stands : (new : List ℕ) → IsAdding old end framed new → Says new stored ⊎ Says new (with_payload stored (payload_of framed))
-    adding_stands new adding = elim adding [
+    pub adding_says : (new : List ℕ) → IsAdding old end framed new → Says new stored ⊎ Says new (with_payload stored (payload_of framed))
+    adding_says new adding = elim adding [
       | inl torn ↦ inl (torn_behind new torn.front)
       | inr torn ↦ torn_record new torn
     ]
@@ -261,10 +261,10 @@ not_retiring old new retiring shut opened = shut (retiring.opened opened)
 
 -- ---- two areas
 
-pub stand_in : (area : Area) (stored : Stored) (a b : List ℕ) → Says (bytes_in area a b) stored → IsBelow (bytes_in (other_of area) a b) stored.epoch → StandFor a b stored
-stand_in A stored a b says below = inl (record { says = says; below = below })
-stand_in B stored a b says below = inr (record { says = says; below = below })
+pub represent_in : (area : Area) (stored : Stored) (a b : List ℕ) → Says (bytes_in area a b) stored → IsBelow (bytes_in (other_of area) a b) stored.epoch → Represent a b stored
+represent_in A stored a b says below = inl (record { says = says; below = below })
+represent_in B stored a b says below = inr (record { says = says; below = below })
 
-pub nothing_in : (area : Area) (a b : List ℕ) → (¬ IsOpened (bytes_in area a b)) → (¬ IsOpened (bytes_in (other_of area) a b)) → StandForNothing a b
+pub nothing_in : (area : Area) (a b : List ℕ) → (¬ IsOpened (bytes_in area a b)) → (¬ IsOpened (bytes_in (other_of area) a b)) → RepresentNothing a b
 nothing_in A a b here beside = record { not_a = here; not_b = beside }
 nothing_in B a b here beside = record { not_a = beside; not_b = here }

@@ -12,7 +12,7 @@ pub record AreSynced {D : Type 0} (holds : D → Area → List ℕ) (leaves : D 
   pub a : IsSynced holds leaves A disk
   pub b : IsSynced holds leaves B disk
 
--- the area holds these bytes now, the other what it held, and nothing can be lost
+-- the area has these bytes now, the other those that it had, and nothing can be lost
 pub record IsMade {D : Type 0} (holds : D → Area → List ℕ) (leaves : D → Area → List ℕ → Type 0) (area : Area) (bytes : List ℕ) (old new : D) : Type 0 where
   pub here : holds new area ≡ bytes
   pub beside : holds new (other_of area) ≡ holds old (other_of area)
@@ -28,7 +28,7 @@ abbrev pub IsFront : ℕ → List ℕ → List ℕ → Type 0
 IsFront place old new = take place new ≡ take place old
 
 -- of an area with a closed gate at this place: the bytes that are written behind the gate are torn, or they stand there
--- and the gate is
+-- and the gate is torn
 abbrev pub IsAdding : List ℕ → ℕ → List ℕ → List ℕ → Type 0
 IsAdding old gate framed new =
     Torn (gate + 1) (length framed) old new ⊎ Torn gate 1 (overwritten old (gate + 1) framed) new

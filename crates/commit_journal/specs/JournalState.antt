@@ -3,7 +3,7 @@ use Rattle.std.specs.Prelude.{◌≡◌, ℕ, ◌+◌, ◌≤◌, ◌⊎◌, fal
 use Rattle.own_model.specs.declared.limit.TheConstants.{JOURNAL_ROOM}
 use Rattle.own_base.specs.declared.number.Area.{Area}
 use Rattle.outer_world.specs.OtherArea.{other_of}
-use Rattle.disk_model.specs.Area.{IsBelow, Says, StandFor, StandForNothing, Stored, in_front}
+use Rattle.disk_model.specs.Area.{IsBelow, Says, Represent, RepresentNothing, Stored, in_front}
 use Rattle.commit_journal.specs.AreaCalls.{AreSynced}
 use Rattle.commit_journal.specs.declared.journal.Journal.{Journal}
 
@@ -31,7 +31,7 @@ pub record Rests {D : Type 0} (holds : D → Area → List ℕ) (leaves : D → 
   pub beside : holds journal.disk (other_of journal.area) ≡ 0 ∷ []
   pub synced : AreSynced holds leaves journal.disk
 
--- it rests with something
+-- whatever its area says
 pub record IsAtRest {D : Type 0} (holds : D → Area → List ℕ) (leaves : D → Area → List ℕ → Type 0) (journal : Journal D) : Type 0 where
   pub stored : Stored
   pub rests : Rests holds leaves journal stored
@@ -41,10 +41,10 @@ pub record HasRoom {D : Type 0} (journal : Journal D) (bytes : ℕ) : Type 0 whe
   pub epoch : journal.epoch + 1 ≤ JOURNAL_ROOM
   pub end : journal.end + bytes ≤ JOURNAL_ROOM
 
--- what a crash leaves represents the one or for the other
-abbrev pub StandForEither : Stored → Stored → List ℕ → List ℕ → Type 0
-StandForEither old new a b = StandFor a b old ⊎ StandFor a b new
+-- what a crash leaves represents the one or the other
+abbrev pub RepresentEither : Stored → Stored → List ℕ → List ℕ → Type 0
+RepresentEither old new a b = Represent a b old ⊎ Represent a b new
 
--- for nothing, or for this
-abbrev pub StandForAtMost : Stored → List ℕ → List ℕ → Type 0
-StandForAtMost stored a b = StandForNothing a b ⊎ StandFor a b stored
+-- what a crash leaves represents nothing, or this
+abbrev pub RepresentAtMost : Stored → List ℕ → List ℕ → Type 0
+RepresentAtMost stored a b = RepresentNothing a b ⊎ Represent a b stored

@@ -2,7 +2,7 @@ ghost use Rattle.std.specs.Prelude.{◌≡◌, [], ◌∷◌, ◌++◌, ◌<◌,
 ghost use Rattle.std.specs.Int.{bytes_high_first};
 ghost use Rattle.commit_journal.specs.AreaCalls.{AreSynced, IsMade, OnlyIn};
 ghost use Rattle.commit_journal.specs.Filled.{IsFilling, SaysLess};
-ghost use Rattle.commit_journal.specs.JournalState.{StandForEither};
+ghost use Rattle.commit_journal.specs.JournalState.{RepresentEither};
 ghost use Rattle.disk_model.specs.Area.{IsGated, Says, Stored, in_front, laid};
 ghost use Rattle.outer_world.specs.FaultCount.{CountRose};
 ghost use Rattle.outer_world.specs.LeavesOnly.{LeavesOnly};
@@ -66,7 +66,7 @@ pub(crate) fn move_on<D: Disk>(
     ensures here { OnOk result (IsTrue (D.honest disk.old) → D.holds disk.new area ≡ 0 ∷ []) }
     ensures synced { OnOk result (IsTrue (D.honest disk.old) → AreSynced D.holds D.leaves disk.new) }
     ensures moments { (stored : Stored) → IsTrue (D.honest disk.old) → Says (D.holds disk.old area) stored
-        → LeavesOnly D.moment D.might_have_left (StandForEither stored (laid epoch gated.now)) disk.old disk.new }
+        → LeavesOnly D.moment D.might_have_left (RepresentEither stored (laid epoch gated.now)) disk.old disk.new }
     ensures honesty { D.honest disk.new ≡ D.honest disk.old }
     ensures time { D.moment disk.old ≤ D.moment disk.new }
 

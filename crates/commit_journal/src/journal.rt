@@ -1,7 +1,7 @@
 ghost use Rattle.std.specs.Prelude.{◌≡◌, [], ◌∷◌, ◌+◌, ◌++◌, ◌<◌, ◌≤◌, ◌⊎◌, ◌↔◌, false, true, length, IsTrue, IfOk, IfErr, OnOk, OnErr};
 ghost use Rattle.commit_journal.specs.AreaCalls.{AreSynced, IsAdding, IsMade, OnlyIn};
-ghost use Rattle.commit_journal.specs.JournalState.{CanResume, HasRoom, IsAt, IsAtRest, Rests, StandForAtMost, StandForEither};
-ghost use Rattle.disk_model.specs.Area.{IsGated, IsOpened, StandFor, Stored, in_front, laid, with_payload};
+ghost use Rattle.commit_journal.specs.JournalState.{CanResume, HasRoom, IsAt, IsAtRest, Rests, RepresentAtMost, RepresentEither};
+ghost use Rattle.disk_model.specs.Area.{IsGated, IsOpened, Represent, Stored, in_front, laid, with_payload};
 ghost use Rattle.disk_model.specs.Records.{IsFramed, payload_of};
 ghost use Rattle.outer_world.specs.FaultCount.{CountRose};
 ghost use Rattle.outer_world.specs.LeavesOnly.{LeavesOnly};
@@ -45,9 +45,9 @@ impl<D: Disk> Journal<D> {
         ensures alone { IfOk result (λ journal. IsTrue (D.honest disk)
             → D.holds journal.disk A ≡ in_front (laid 1 gated.now) ++ 0 ∷ []) }
         ensures moments { IfOk result (λ journal. IsTrue (D.honest disk)
-            → LeavesOnly D.moment D.might_have_left (StandForAtMost (laid 1 gated.now)) disk journal.disk) }
+            → LeavesOnly D.moment D.might_have_left (RepresentAtMost (laid 1 gated.now)) disk journal.disk) }
         ensures moments_err { IfErr result (λ back. IsTrue (D.honest disk)
-            → LeavesOnly D.moment D.might_have_left (StandForAtMost (laid 1 gated.now)) disk back) }
+            → LeavesOnly D.moment D.might_have_left (RepresentAtMost (laid 1 gated.now)) disk back) }
         ensures honesty { IfOk result (λ journal. D.honest journal.disk ≡ D.honest disk) }
         ensures honesty_err { IfErr result (λ back. D.honest back ≡ D.honest disk) }
         ensures time { IfOk result (λ journal. D.moment disk ≤ D.moment journal.disk) }
@@ -80,10 +80,10 @@ impl<D: Disk> Journal<D> {
             → CanResume D.holds D.leaves disk area epoch end stored → Rests D.holds D.leaves journal stored) }
         ensures moments { IfOk result (λ journal. (stored : Stored) → IsTrue (D.honest disk)
             → CanResume D.holds D.leaves disk area epoch end stored
-            → LeavesOnly D.moment D.might_have_left (λ a b. StandFor a b stored) disk journal.disk) }
+            → LeavesOnly D.moment D.might_have_left (λ a b. Represent a b stored) disk journal.disk) }
         ensures moments_err { IfErr result (λ back. (stored : Stored) → IsTrue (D.honest disk)
             → CanResume D.holds D.leaves disk area epoch end stored
-            → LeavesOnly D.moment D.might_have_left (λ a b. StandFor a b stored) disk back) }
+            → LeavesOnly D.moment D.might_have_left (λ a b. Represent a b stored) disk back) }
         ensures honesty { IfOk result (λ journal. D.honest journal.disk ≡ D.honest disk) }
         ensures honesty_err { IfErr result (λ back. D.honest back ≡ D.honest disk) }
         ensures time { IfOk result (λ journal. D.moment disk ≤ D.moment journal.disk) }
@@ -127,7 +127,7 @@ impl<D: Disk> Journal<D> {
             → Rests D.holds D.leaves self.new (with_payload stored (payload_of framed.now))) }
         ensures moments { (stored : Stored) → IsTrue (D.honest self.old.disk) → Rests D.holds D.leaves self.old stored
             → LeavesOnly D.moment D.might_have_left
-            (StandForEither stored (with_payload stored (payload_of framed.now))) self.old.disk self.new.disk }
+            (RepresentEither stored (with_payload stored (payload_of framed.now))) self.old.disk self.new.disk }
         ensures honesty { D.honest self.new.disk ≡ D.honest self.old.disk }
         ensures time { D.moment self.old.disk ≤ D.moment self.new.disk }
 
@@ -164,7 +164,7 @@ impl<D: Disk> Journal<D> {
             → D.holds self.new.disk (other_of self.old.area) ≡ in_front (laid (self.old.epoch + 1) gated.now) ++ 0 ∷ []) }
         ensures moments { (stored : Stored) → IsTrue (D.honest self.old.disk) → Rests D.holds D.leaves self.old stored
             → LeavesOnly D.moment D.might_have_left
-            (StandForEither stored (laid (self.old.epoch + 1) gated.now)) self.old.disk self.new.disk }
+            (RepresentEither stored (laid (self.old.epoch + 1) gated.now)) self.old.disk self.new.disk }
         ensures honesty { D.honest self.new.disk ≡ D.honest self.old.disk }
         ensures time { D.moment self.old.disk ≤ D.moment self.new.disk }
 
@@ -222,7 +222,7 @@ fn begin<D: Disk>(disk: &mut D, gated: &[u8]) -> Result<(), Failed>
     ensures in_b { OnOk result (IsTrue (D.honest disk.old) → D.holds disk.new B ≡ 0 ∷ []) }
     ensures synced { OnOk result (IsTrue (D.honest disk.old) → AreSynced D.holds D.leaves disk.new) }
     ensures moments { IsTrue (D.honest disk.old)
-        → LeavesOnly D.moment D.might_have_left (StandForAtMost (laid 1 gated.now)) disk.old disk.new }
+        → LeavesOnly D.moment D.might_have_left (RepresentAtMost (laid 1 gated.now)) disk.old disk.new }
     ensures honesty { D.honest disk.new ≡ D.honest disk.old }
     ensures time { D.moment disk.old ≤ D.moment disk.new }
 

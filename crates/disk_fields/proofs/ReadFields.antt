@@ -32,9 +32,9 @@ value_found (suc zero ∷ bytes) x all is =
     let own = signed.found bytes number.0 all.1 number.1 in
     subst (λ (x : Value × List ℕ). IsValue x.0 (1 ∷ bytes) x.1 × AreBytes x.1) (some_is _ x number.2) ((refl, own.0), own.1)
 value_found (suc (suc zero) ∷ bytes) x all is =
-    let held = bind_some (text_at TEXT_BYTES bytes) (λ text. Some (Text text.0, text.1)) x is in
-    let own = (text TEXT_BYTES).found bytes held.0 all.1 held.1 in
-    subst (λ (x : Value × List ℕ). IsValue x.0 (2 ∷ bytes) x.1 × AreBytes x.1) (some_is _ x held.2) ((refl, own.0), own.1)
+    let part = bind_some (text_at TEXT_BYTES bytes) (λ text. Some (Text text.0, text.1)) x is in
+    let own = (text TEXT_BYTES).found bytes part.0 all.1 part.1 in
+    subst (λ (x : Value × List ℕ). IsValue x.0 (2 ∷ bytes) x.1 × AreBytes x.1) (some_is _ x part.2) ((refl, own.0), own.1)
 value_found (suc (suc (suc kind)) ∷ bytes) x all is = absurd cc
 
 value_only : (x : Value) (bytes rest : List ℕ) → IsValue x bytes rest → value_at bytes ≡ Some (x, rest)
@@ -42,7 +42,7 @@ unfolding value_at
 value_only x [] rest is = absurd is
 value_only Null (kind ∷ bytes) rest is = rw (is.0, is.1) refl
 value_only (Int number) (kind ∷ bytes) rest is = rw (is.0, signed.only number bytes rest is.1) refl
-value_only (Text held) (kind ∷ bytes) rest is = rw (is.0, (text TEXT_BYTES).only held bytes rest is.1) refl
+value_only (Text words) (kind ∷ bytes) rest is = rw (is.0, (text TEXT_BYTES).only words bytes rest is.1) refl
 value_only (Sum number) (kind ∷ bytes) rest is = absurd is
 
 pub value : IsReadBy IsValue value_at
@@ -51,21 +51,21 @@ value = record { found = value_found; only = value_only }
 key_of : (value : Value) (bytes rest : List ℕ) (x : Key) → IsValue value bytes rest → key_from value ≡ Some x → IsKey x bytes rest
 key_of Null bytes rest x own is = absurd cc
 key_of (Int number) bytes rest x own is = subst (λ (x : Key). IsKey x bytes rest) (some_is _ x is) own
-key_of (Text held) bytes rest x own is = subst (λ (x : Key). IsKey x bytes rest) (some_is _ x is) own
+key_of (Text words) bytes rest x own is = subst (λ (x : Key). IsKey x bytes rest) (some_is _ x is) own
 key_of (Sum number) bytes rest x own is = absurd cc
 
 key_found : (bytes : List ℕ) (x : Key × List ℕ) → AreBytes bytes → key_at bytes ≡ Some x → IsKey x.0 bytes x.1 × AreBytes x.1
 unfolding key_at
 key_found bytes x all is =
-    let held = bind_some (value_at bytes) (λ value. key_from value.0 >>= λ key. Some (key, value.1)) x is in
-    let kept = bind_some (key_from held.0.0) (λ key. Some (key, held.0.1)) x held.2 in
-    let own = value_found bytes held.0 all held.1 in
-    subst (λ (x : Key × List ℕ). IsKey x.0 bytes x.1 × AreBytes x.1) (some_is _ x kept.2) (key_of held.0.0 bytes held.0.1 kept.0 own.0 kept.1, own.1)
+    let part = bind_some (value_at bytes) (λ value. key_from value.0 >>= λ key. Some (key, value.1)) x is in
+    let as_key = bind_some (key_from part.0.0) (λ key. Some (key, part.0.1)) x part.2 in
+    let own = value_found bytes part.0 all part.1 in
+    subst (λ (x : Key × List ℕ). IsKey x.0 bytes x.1 × AreBytes x.1) (some_is _ x as_key.2) (key_of part.0.0 bytes part.0.1 as_key.0 own.0 as_key.1, own.1)
 
 key_only : (x : Key) (bytes rest : List ℕ) → IsKey x bytes rest → key_at bytes ≡ Some (x, rest)
 unfolding key_at
 key_only (keys.Int number) bytes rest is = rw (value_only (Int number) bytes rest is) refl
-key_only (keys.Text held) bytes rest is = rw (value_only (Text held) bytes rest is) refl
+key_only (keys.Text words) bytes rest is = rw (value_only (Text words) bytes rest is) refl
 
 pub key : IsReadBy IsKey key_at
 key = record { found = key_found; only = key_only }
@@ -138,9 +138,9 @@ unfolding state_at
 state_found [] x all is = absurd cc
 state_found (zero ∷ bytes) x all is = subst (λ (x : Option Row × List ℕ). IsState x.0 (0 ∷ bytes) x.1 × AreBytes x.1) (some_is _ x is) ((refl, refl), all.1)
 state_found (suc zero ∷ bytes) x all is =
-    let held = bind_some (row_at bytes) (λ row. Some (Some row.0, row.1)) x is in
-    let own = row.found bytes held.0 all.1 held.1 in
-    subst (λ (x : Option Row × List ℕ). IsState x.0 (1 ∷ bytes) x.1 × AreBytes x.1) (some_is _ x held.2) ((refl, own.0), own.1)
+    let part = bind_some (row_at bytes) (λ row. Some (Some row.0, row.1)) x is in
+    let own = row.found bytes part.0 all.1 part.1 in
+    subst (λ (x : Option Row × List ℕ). IsState x.0 (1 ∷ bytes) x.1 × AreBytes x.1) (some_is _ x part.2) ((refl, own.0), own.1)
 state_found (suc (suc kind) ∷ bytes) x all is = absurd cc
 
 state_only : (x : Option Row) (bytes rest : List ℕ) → IsState x bytes rest → state_at bytes ≡ Some (x, rest)
@@ -158,10 +158,10 @@ name_found : (bytes : List ℕ) (x : RowName × List ℕ) → AreBytes bytes →
 unfolding name_at
 name_found bytes x all is =
     let table = bind_some (number_at w32 bytes) (λ table. key_at table.1 >>= λ key. Some (record { table = record { 0 = table.0 }; key = key.0 }, key.1)) x is in
-    let held = bind_some (key_at table.0.1) (λ key. Some (record { table = record { 0 = table.0.0 }; key = key.0 }, key.1)) x table.2 in
+    let part = bind_some (key_at table.0.1) (λ key. Some (record { table = record { 0 = table.0.0 }; key = key.0 }, key.1)) x table.2 in
     let first = number4.found bytes table.0 all table.1 in
-    let second = key_found table.0.1 held.0 first.1 held.1 in
-    subst (λ (x : RowName × List ℕ). IsName x.0 bytes x.1 × AreBytes x.1) (some_is _ x held.2) ((table.0.1, first.0, second.0), second.1)
+    let second = key_found table.0.1 part.0 first.1 part.1 in
+    subst (λ (x : RowName × List ℕ). IsName x.0 bytes x.1 × AreBytes x.1) (some_is _ x part.2) ((table.0.1, first.0, second.0), second.1)
 
 name_only : (x : RowName) (bytes rest : List ℕ) → IsName x bytes rest → name_at bytes ≡ Some (x, rest)
 unfolding name_at
@@ -174,10 +174,10 @@ put_found : (bytes : List ℕ) (x : Put × List ℕ) → AreBytes bytes → put_
 unfolding put_at
 put_found bytes x all is =
     let named = bind_some (name_at bytes) (λ name. state_at name.1 >>= λ state. Some (record { name = name.0; after = state.0 }, state.1)) x is in
-    let held = bind_some (state_at named.0.1) (λ state. Some (record { name = named.0.0; after = state.0 }, state.1)) x named.2 in
+    let part = bind_some (state_at named.0.1) (λ state. Some (record { name = named.0.0; after = state.0 }, state.1)) x named.2 in
     let first = name_found bytes named.0 all named.1 in
-    let second = state_found named.0.1 held.0 first.1 held.1 in
-    subst (λ (x : Put × List ℕ). IsPut x.0 bytes x.1 × AreBytes x.1) (some_is _ x held.2) ((named.0.1, first.0, second.0), second.1)
+    let second = state_found named.0.1 part.0 first.1 part.1 in
+    subst (λ (x : Put × List ℕ). IsPut x.0 bytes x.1 × AreBytes x.1) (some_is _ x part.2) ((named.0.1, first.0, second.0), second.1)
 
 put_only : (x : Put) (bytes rest : List ℕ) → IsPut x bytes rest → put_at bytes ≡ Some (x, rest)
 unfolding put_at
@@ -191,13 +191,13 @@ unfolding create_at
 create_found [] x all is = absurd cc
 create_found (zero ∷ bytes) x all is = absurd cc
 create_found (suc zero ∷ bytes) x all is =
-    let held = bind_some (text_at most_bytes bytes) (λ text. Some (record { view = false; text = text.0 }, text.1)) x is in
-    let own = (text most_bytes).found bytes held.0 all.1 held.1 in
-    subst (λ (x : CreateText × List ℕ). IsCreateText x.0 (1 ∷ bytes) x.1 × AreBytes x.1) (some_is _ x held.2) ((refl, own.0.1), own.1)
+    let part = bind_some (text_at most_bytes bytes) (λ text. Some (record { view = false; text = text.0 }, text.1)) x is in
+    let own = (text most_bytes).found bytes part.0 all.1 part.1 in
+    subst (λ (x : CreateText × List ℕ). IsCreateText x.0 (1 ∷ bytes) x.1 × AreBytes x.1) (some_is _ x part.2) ((refl, own.0.1), own.1)
 create_found (suc (suc zero) ∷ bytes) x all is =
-    let held = bind_some (text_at most_bytes bytes) (λ text. Some (record { view = true; text = text.0 }, text.1)) x is in
-    let own = (text most_bytes).found bytes held.0 all.1 held.1 in
-    subst (λ (x : CreateText × List ℕ). IsCreateText x.0 (2 ∷ bytes) x.1 × AreBytes x.1) (some_is _ x held.2) ((refl, own.0.1), own.1)
+    let part = bind_some (text_at most_bytes bytes) (λ text. Some (record { view = true; text = text.0 }, text.1)) x is in
+    let own = (text most_bytes).found bytes part.0 all.1 part.1 in
+    subst (λ (x : CreateText × List ℕ). IsCreateText x.0 (2 ∷ bytes) x.1 × AreBytes x.1) (some_is _ x part.2) ((refl, own.0.1), own.1)
 create_found (suc (suc (suc kind)) ∷ bytes) x all is = absurd cc
 
 create_read : (view : Bool) (x bytes rest : List ℕ) → text_at most_bytes bytes ≡ Some (x, rest) → create_at (create_kind view ∷ bytes) ≡ Some (record { view = view; text = x }, rest)

@@ -139,13 +139,13 @@ text_found most bytes x all is =
     let own = number4_found bytes number.0 all number.1 in
     let few = not_stopped (ltb most n) _ x number.2 in
     let long = not_stopped (ltb (length middle) n) _ x few.1 in
-    let held = let_through (is_utf8 (take n middle)) (Some (take n middle, drop n middle)) x long.1 in
+    let through = let_through (is_utf8 (take n middle)) (Some (take n middle, drop n middle)) x long.1 in
     let most_is : n ≤ most = ltb-false most n few.0 in
     let long_is : n ≤ length middle = ltb-false (length middle) n long.0 in
     let count : length (take n middle) ≡ n = omega (arith, length-take n middle) in
     let text : IsText (take n middle) bytes (drop n middle) =
-    (middle, subst (λ (count : ℕ). IsNumber 4 count bytes middle) (sym count) own.0, IsUtf8-from_is_utf8 (take n middle) held.0, sym (take-append-drop n middle)) in
-    subst (λ (x : List ℕ × List ℕ). IsTextUpTo most x.0 bytes x.1 × AreBytes x.1) (some_is _ x held.1) ((omega arith, text), bytes-drop n middle own.1)
+    (middle, subst (λ (count : ℕ). IsNumber 4 count bytes middle) (sym count) own.0, IsUtf8-from_is_utf8 (take n middle) through.0, sym (take-append-drop n middle)) in
+    subst (λ (x : List ℕ × List ℕ). IsTextUpTo most x.0 bytes x.1 × AreBytes x.1) (some_is _ x through.1) ((omega arith, text), bytes-drop n middle own.1)
 
 text_only : (most : ℕ) (text bytes rest : List ℕ) → IsTextUpTo most text bytes rest → text_at most bytes ≡ Some (text, rest)
 unfolding text_at

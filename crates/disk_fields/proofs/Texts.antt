@@ -14,8 +14,8 @@ not_utf8 bytes none false is = is
 pub is_text : (most n : ℕ) (bytes rest front back : List ℕ) → number_at w32 bytes ≡ Some (n, rest) → n ≤ most → n ≤ length rest
     → front ≡ take n rest → back ≡ drop n rest → IsUtf8 front → text_at most bytes ≡ Some (front, back)
 unfolding text_at
-is_text most n bytes rest front back number few long front-is back-is held =
-    let utf8 : is_utf8 (take n rest) ≡ true = rw (← front-is) (is_utf8-from_IsUtf8 front held) in
+is_text most n bytes rest front back number few long front-is back-is encoded =
+    let utf8 : is_utf8 (take n rest) ≡ true = rw (← front-is) (is_utf8-from_IsUtf8 front encoded) in
     rw (number, le-ltb most n few, le-ltb (length rest) n long, utf8, front-is, back-is) refl
 
 pub is_no_text : (most n : ℕ) (bytes rest front : List ℕ) → number_at w32 bytes ≡ Some (n, rest) → n ≤ most → n ≤ length rest

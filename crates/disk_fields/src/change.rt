@@ -6,7 +6,7 @@ use own_base::{Key, Row, RowName, TableNo};
 use std::alloc::{AllocError, Global};
 
 impl Field for RowName {
-    ghost use Rattle.disk_model.specs.Bounds.{IsHeldName, IsShortName};
+    ghost use Rattle.disk_model.specs.Bounds.{IsTypedName, IsShortName};
     ghost use Rattle.disk_model.specs.Spelling.{name_spelling};
     ghost use Rattle.disk_fields.specs.Reading.{name_at};
 
@@ -16,7 +16,7 @@ impl Field for RowName {
 
     ghost is_bounded = { IsShortName };
 
-    ghost is_held = { IsHeldName };
+    ghost is_typed = { IsTypedName };
 
     #[tactic(auto, unfolding(crate::specs::Reading::name_at))]
     fn read(alloc: Global, bytes: &[u8]) -> Result<(RowName, &[u8]), Unread> {
@@ -40,7 +40,7 @@ impl Field for RowName {
 }
 
 impl Field for Put {
-    ghost use Rattle.disk_model.specs.Bounds.{IsHeldPut, IsShortPut};
+    ghost use Rattle.disk_model.specs.Bounds.{IsTypedPut, IsShortPut};
     ghost use Rattle.disk_model.specs.Spelling.{put_spelling};
     ghost use Rattle.disk_fields.specs.Reading.{put_at};
 
@@ -50,7 +50,7 @@ impl Field for Put {
 
     ghost is_bounded = { IsShortPut };
 
-    ghost is_held = { IsHeldPut };
+    ghost is_typed = { IsTypedPut };
 
     #[tactic(auto, unfolding(crate::specs::Reading::put_at))]
     fn read(alloc: Global, bytes: &[u8]) -> Result<(Put, &[u8]), Unread> {

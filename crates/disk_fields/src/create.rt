@@ -17,7 +17,7 @@ impl Field for CreateText {
 
     ghost is_bounded = { λ create. IsCountable create.text };
 
-    ghost is_held = { λ create. IsUtf8 create.text };
+    ghost is_typed = { λ create. IsUtf8 create.text };
 
     #[tactic(auto, unfolding(crate::specs::Reading::create_at))]
     fn read(alloc: Global, bytes: &[u8]) -> Result<(CreateText, &[u8]), Unread> {

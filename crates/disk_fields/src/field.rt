@@ -21,7 +21,7 @@ pub trait Field {
     ghost is_bounded: { Self → Type 0 };
 
     // What its type sees to.
-    ghost is_held: { Self → Type 0 };
+    ghost is_typed: { Self → Type 0 };
 
     /// Reads it from the front, and lends the bytes after it.
     fn read(alloc: Global, bytes: &[u8]) -> Result<(Self, &[u8]), Unread>
@@ -36,7 +36,7 @@ pub trait Field {
     fn write(&self, out: &mut Vec<u8>) -> Result<(), AllocError>
         requires { is_bounded self.now }
         ensures written { OnOk result (out.new.items ≡ out.old.items ++ spelling self.now) }
-        ensures held { OnOk result (is_held self.now) };
+        ensures typed { OnOk result (is_typed self.now) };
 }
 
 /// Nothing may follow.
@@ -84,7 +84,7 @@ pub fn byte_count_of<F: Field>(items: &[F]) -> u64
 pub fn write_items<F: Field>(items: &[F], out: &mut Vec<u8>) -> Result<(), AllocError>
     requires { AllByRecursion F.is_bounded items.now }
     ensures written { OnOk result (out.new.items ≡ out.old.items ++ flat_map F.spelling items.now) }
-    ensures held { OnOk result (AllByRecursion F.is_held items.now) }
+    ensures typed { OnOk result (AllByRecursion F.is_typed items.now) }
 {
     for item in items {
         item.write(out)?;
@@ -100,7 +100,7 @@ impl<F: Field + Drop> Field for Items<F> {
 
     ghost is_bounded = { λ items. IsCountable items × AllByRecursion F.is_bounded items };
 
-    ghost is_held = { AllByRecursion F.is_held };
+    ghost is_typed = { AllByRecursion F.is_typed };
 
     #[tactic(auto, unfolding(crate::specs::Reading::list_at))]
     fn read(alloc: Global, bytes: &[u8]) -> Result<(Items<F>, &[u8]), Unread> {

@@ -6,7 +6,7 @@ use own_model::TABLE_COLUMNS;
 use std::alloc::{AllocError, Global};
 
 impl Field for Row {
-    ghost use Rattle.disk_model.specs.Bounds.{IsHeldRow, IsShortRow};
+    ghost use Rattle.disk_model.specs.Bounds.{IsTypedRow, IsShortRow};
     ghost use Rattle.disk_model.specs.Spelling.{row_spelling};
     ghost use Rattle.disk_fields.specs.Reading.{row_at};
 
@@ -16,7 +16,7 @@ impl Field for Row {
 
     ghost is_bounded = { IsShortRow };
 
-    ghost is_held = { IsHeldRow };
+    ghost is_typed = { IsTypedRow };
 
     #[tactic(auto, unfolding(crate::specs::Reading::row_at))]
     fn read(alloc: Global, bytes: &[u8]) -> Result<(Row, &[u8]), Unread> {
@@ -40,7 +40,7 @@ impl Field for Row {
 
 /// A byte 1 and the row, or a byte 0 where there is none.
 impl Field for Option<Row> {
-    ghost use Rattle.disk_model.specs.Bounds.{IsHeldState, IsShortState};
+    ghost use Rattle.disk_model.specs.Bounds.{IsTypedState, IsShortState};
     ghost use Rattle.disk_model.specs.Spelling.{state_spelling};
     ghost use Rattle.disk_fields.specs.Reading.{state_at};
 
@@ -50,7 +50,7 @@ impl Field for Option<Row> {
 
     ghost is_bounded = { IsShortState };
 
-    ghost is_held = { IsHeldState };
+    ghost is_typed = { IsTypedState };
 
     #[tactic(auto, unfolding(crate::specs::Reading::state_at))]
     fn read(alloc: Global, bytes: &[u8]) -> Result<(Option<Row>, &[u8]), Unread> {

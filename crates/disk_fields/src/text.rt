@@ -32,7 +32,7 @@ pub fn read_text(alloc: Global, most: u32, bytes: &[u8]) -> Result<(Text, &[u8])
 pub fn write_text(text: &Text, out: &mut Vec<u8>) -> Result<(), AllocError>
     requires { IsCountable text.now }
     ensures written { OnOk result (out.new.items ≡ out.old.items ++ text_spelling text.now) }
-    ensures held { OnOk result (IsUtf8 text.now) }
+    ensures typed { OnOk result (IsUtf8 text.now) }
 {
     let bytes = text.bytes();
     write_u32(bytes.len() as u32, out)?;

@@ -9,7 +9,7 @@ use own_model::TEXT_BYTES;
 use std::alloc::{AllocError, Global};
 
 impl Field for Value {
-    ghost use Rattle.disk_model.specs.Bounds.{IsHeldValue, IsShortValue};
+    ghost use Rattle.disk_model.specs.Bounds.{IsTypedValue, IsShortValue};
     ghost use Rattle.disk_model.specs.Spelling.{value_spelling};
     ghost use Rattle.disk_fields.specs.Reading.{value_at};
 
@@ -19,7 +19,7 @@ impl Field for Value {
 
     ghost is_bounded = { IsShortValue };
 
-    ghost is_held = { IsHeldValue };
+    ghost is_typed = { IsTypedValue };
 
     #[tactic(auto, unfolding(crate::specs::Reading::value_at))]
     fn read(alloc: Global, bytes: &[u8]) -> Result<(Value, &[u8]), Unread> {
@@ -78,7 +78,7 @@ fn into_key(value: Value) -> Result<Key, Unread>
 }
 
 impl Field for Key {
-    ghost use Rattle.disk_model.specs.Bounds.{IsHeldValue, IsShortValue};
+    ghost use Rattle.disk_model.specs.Bounds.{IsTypedValue, IsShortValue};
     ghost use Rattle.disk_model.specs.Spelling.{key_spelling};
     ghost use Rattle.disk_model.specs.Value.{as_value};
     ghost use Rattle.disk_fields.specs.Reading.{key_at};
@@ -89,7 +89,7 @@ impl Field for Key {
 
     ghost is_bounded = { λ key. IsShortValue (as_value key) };
 
-    ghost is_held = { λ key. IsHeldValue (as_value key) };
+    ghost is_typed = { λ key. IsTypedValue (as_value key) };
 
     #[tactic(auto, unfolding(crate::specs::Reading::key_at))]
     fn read(alloc: Global, bytes: &[u8]) -> Result<(Key, &[u8]), Unread> {

@@ -6,7 +6,7 @@ use Rattle.std.proofs.lemmas.List.{take_at, drop_at}
 use Rattle.std.proofs.lemmas.List.Elements.{All-head, All-tail}
 use Rattle.std.proofs.lemmas.Nat.{from_be_bytes-to_be_bytes_4, from_be_bytes-to_be_bytes_8}
 use Rattle.own_model.specs.declared.limit.TheConstants.{JOURNAL_ROOM, PAYLOAD_BYTES}
-use Rattle.disk_model.specs.Area.{IsBelow, IsChosen, IsOpened, IsStorable, Says, StandFor, StandForNothing, Stored, epoch_of, image_part, in_front}
+use Rattle.disk_model.specs.Area.{IsBelow, IsChosen, IsOpened, IsStorable, Says, Represent, RepresentNothing, Stored, epoch_of, image_part, in_front}
 use Rattle.disk_model.specs.Records.{IsPayloadSize, measured, record_of, records_of}
 
 -- ---- records
@@ -121,13 +121,13 @@ not_both one other s t first second =
     omega arith
 
 -- two areas represent one thing at most
-pub stand_for_one : (a b : List ℕ) (s t : Stored) → StandFor a b s → StandFor a b t → s ≡ t
-stand_for_one a b s t (inl first) (inl second) = says_same a s t first.says second.says
-stand_for_one a b s t (inr first) (inr second) = says_same b s t first.says second.says
-stand_for_one a b s t (inl first) (inr second) = absurd (not_both a b s t first second)
-stand_for_one a b s t (inr first) (inl second) = absurd (not_both b a s t first second)
+pub represent_one : (a b : List ℕ) (s t : Stored) → Represent a b s → Represent a b t → s ≡ t
+represent_one a b s t (inl first) (inl second) = says_same a s t first.says second.says
+represent_one a b s t (inr first) (inr second) = says_same b s t first.says second.says
+represent_one a b s t (inl first) (inr second) = absurd (not_both a b s t first second)
+represent_one a b s t (inr first) (inl second) = absurd (not_both b a s t first second)
 
 -- and where they represent something, they don't represent nothing
-pub not_for_nothing : (a b : List ℕ) (stored : Stored) → StandFor a b stored → StandForNothing a b → ⊥
-not_for_nothing a b stored (inl chosen) nothing = nothing.not_a (says_opened a stored chosen.says)
-not_for_nothing a b stored (inr chosen) nothing = nothing.not_b (says_opened b stored chosen.says)
+pub something_not_nothing : (a b : List ℕ) (stored : Stored) → Represent a b stored → RepresentNothing a b → ⊥
+something_not_nothing a b stored (inl chosen) nothing = nothing.not_a (says_opened a stored chosen.says)
+something_not_nothing a b stored (inr chosen) nothing = nothing.not_b (says_opened b stored chosen.says)

@@ -99,5 +99,5 @@ signed-of_spelling n rest fits = (cast_unsigned w64 n, (number8-of_spelling (cas
 signed_fits : (bits : ℕ) → bits < 2 ^ 64 → FitsSigned w64 (cast_signed w64 bits)
 signed_fits bits below = sfits_to_z {w = w64} (search rules)
 
-pub signed-held : (n : ℤ) (bytes rest : List ℕ) → IsSigned n bytes rest → FitsSigned w64 n
-signed-held n bytes rest is = subst (FitsSigned w64) (sym is.2) (signed_fits is.0 (number8-spelled is.0 bytes rest is.1).1)
+pub signed-typed : (n : ℤ) (bytes rest : List ℕ) → IsSigned n bytes rest → FitsSigned w64 n
+signed-typed n bytes rest is = subst (FitsSigned w64) (sym is.2) (signed_fits is.0 (number8-spelled is.0 bytes rest is.1).1)

@@ -69,10 +69,10 @@ pub record IsChosen (stored : Stored) (one other : List ℕ) : Type 0 where
   pub below : IsBelow other stored.epoch
 
 -- two areas represent this
-abbrev pub StandFor : List ℕ → List ℕ → Stored → Type 0
-StandFor a b stored = IsChosen stored a b ⊎ IsChosen stored b a
+abbrev pub Represent : List ℕ → List ℕ → Stored → Type 0
+Represent a b stored = IsChosen stored a b ⊎ IsChosen stored b a
 
 -- two areas represent nothing yet: none is opened
-pub record StandForNothing (a b : List ℕ) : Type 0 where
+pub record RepresentNothing (a b : List ℕ) : Type 0 where
   pub not_a : ¬ IsOpened a
   pub not_b : ¬ IsOpened b

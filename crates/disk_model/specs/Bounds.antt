@@ -65,31 +65,31 @@ pub record IsBoundedImage (image : Image) : Type 0 where
 -- ---- what the types see to
 
 -- a number of 64 bits, a text in UTF-8
-abbrev pub IsHeldValue : Value → Type 0
-IsHeldValue Null = Unit {0}
-IsHeldValue (Int number) = FitsSigned w64 number
-IsHeldValue (Text text) = IsUtf8 text
-IsHeldValue (Sum number) = Unit {0}
+abbrev pub IsTypedValue : Value → Type 0
+IsTypedValue Null = Unit {0}
+IsTypedValue (Int number) = FitsSigned w64 number
+IsTypedValue (Text text) = IsUtf8 text
+IsTypedValue (Sum number) = Unit {0}
 
-abbrev pub IsHeldName : RowName → Type 0
-IsHeldName name = (name.table.0 < 2 ^ 32) × IsHeldValue (as_value name.key)
+abbrev pub IsTypedName : RowName → Type 0
+IsTypedName name = (name.table.0 < 2 ^ 32) × IsTypedValue (as_value name.key)
 
-abbrev pub IsHeldRow : Row → Type 0
-IsHeldRow row = AllByRecursion IsHeldValue row
+abbrev pub IsTypedRow : Row → Type 0
+IsTypedRow row = AllByRecursion IsTypedValue row
 
-abbrev pub IsHeldState : Option Row → Type 0
-IsHeldState None = Unit {0}
-IsHeldState (Some row) = IsHeldRow row
+abbrev pub IsTypedState : Option Row → Type 0
+IsTypedState None = Unit {0}
+IsTypedState (Some row) = IsTypedRow row
 
-abbrev pub IsHeldPut : Put → Type 0
-IsHeldPut put = IsHeldName put.name × IsHeldState put.after
+abbrev pub IsTypedPut : Put → Type 0
+IsTypedPut put = IsTypedName put.name × IsTypedState put.after
 
-abbrev pub IsHeld : Commit → Type 0
-IsHeld (CreateTable text) = IsUtf8 text
-IsHeld (CreateView text) = IsUtf8 text
-IsHeld (Changes puts) = AllByRecursion IsHeldPut puts
-IsHeld (Forget name) = IsHeldName name
+abbrev pub IsTyped : Commit → Type 0
+IsTyped (CreateTable text) = IsUtf8 text
+IsTyped (CreateView text) = IsUtf8 text
+IsTyped (Changes puts) = AllByRecursion IsTypedPut puts
+IsTyped (Forget name) = IsTypedName name
 
-pub record IsHeldImage (image : Image) : Type 0 where
+pub record IsTypedImage (image : Image) : Type 0 where
   pub creates : AllByRecursion (λ create. IsUtf8 create.text) image.creates
-  pub tables : AllByRecursion (λ rows. AllByRecursion IsHeldRow rows) image.tables
+  pub tables : AllByRecursion (λ rows. AllByRecursion IsTypedRow rows) image.tables

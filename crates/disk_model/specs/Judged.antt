@@ -28,7 +28,7 @@ pub record IsLawful (db : Db) (payload : List ℕ) (after : Db) : Type 0 where
   pub is_payload : IsPayload commit payload
   pub follows : Follows db commit after
 
--- each is lawful on what those before it leave, or the first that isn't is told
+-- each is lawful on what those before it leave, or the first that isn't is reported
 abbrev pub AreJudged : Db → ℕ → List Laid → Judged → Type 0
 AreJudged db number [] judged = judged ≡ Store db number
 AreJudged db number (laid ∷ rest) judged =

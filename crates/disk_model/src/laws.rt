@@ -7,7 +7,7 @@ ghost use Rattle.state_model.specs.Sound.{Sound};
 ghost use Rattle.disk_model.specs.declared.commit.Commit.{Commit};
 ghost use Rattle.disk_model.specs.declared.commit.Commit.TheVariants.{Changes};
 ghost use Rattle.disk_model.specs.declared.image.Image.{Image};
-ghost use Rattle.disk_model.specs.Bounds.{IsBounded, IsBoundedImage, IsHeld, IsHeldImage};
+ghost use Rattle.disk_model.specs.Bounds.{IsBounded, IsBoundedImage, IsTyped, IsTypedImage};
 ghost use Rattle.disk_model.specs.Follows.{Follows};
 ghost use Rattle.disk_model.specs.Image.{IsImage};
 ghost use Rattle.disk_model.specs.Payload.{IsPayload};
@@ -15,18 +15,18 @@ ghost use Rattle.disk_model.specs.PutOf.{puts_of};
 ghost use Rattle.disk_model.specs.StoreOf.{AreFollowed, IsStoreOf};
 ghost use Rattle.disk_model.specs.Spelling.{image_spelling, payload_spelling};
 
-/// A commit has one payload, its spelling, and has it exactly where it is bounded and held.
+/// A commit has one payload, its spelling, and has it exactly where it is bounded and typed.
 pub fn commit_has_one_payload()
     ensures spelled { (commit : Commit) (bytes : List ℕ) → IsPayload commit bytes → bytes ≡ payload_spelling commit }
-    ensures bounded { (commit : Commit) (bytes : List ℕ) → IsPayload commit bytes → IsBounded commit × IsHeld commit }
-    ensures written { (commit : Commit) → IsBounded commit → IsHeld commit → IsPayload commit (payload_spelling commit) }
+    ensures bounded { (commit : Commit) (bytes : List ℕ) → IsPayload commit bytes → IsBounded commit × IsTyped commit }
+    ensures written { (commit : Commit) → IsBounded commit → IsTyped commit → IsPayload commit (payload_spelling commit) }
 {}
 
-/// An image has one list of bytes, its spelling, and has it exactly where it is bounded and held.
+/// An image has one list of bytes, its spelling, and has it exactly where it is bounded and typed.
 pub fn image_has_one_spelling()
     ensures spelled { (image : Image) (bytes : List ℕ) → IsImage image bytes → bytes ≡ image_spelling image }
-    ensures bounded { (image : Image) (bytes : List ℕ) → IsImage image bytes → IsBoundedImage image × IsHeldImage image }
-    ensures written { (image : Image) → IsBoundedImage image → IsHeldImage image → IsImage image (image_spelling image) }
+    ensures bounded { (image : Image) (bytes : List ℕ) → IsImage image bytes → IsBoundedImage image × IsTypedImage image }
+    ensures written { (image : Image) → IsBoundedImage image → IsTypedImage image → IsImage image (image_spelling image) }
 {}
 
 /// The payload of changes is as long as is counted of them.
@@ -34,8 +34,8 @@ pub fn payload_is_as_long_as_counted()
     ensures { (changes : List Change) (payload : List ℕ) → IsPayload (Changes (puts_of changes)) payload → length payload ≡ payload_bytes changes }
 {}
 
-/// A lawful commit leaves a sound database sound, and so do commits one after another. So what an image and commits stand
-/// for is sound.
+/// A lawful commit leaves a sound database sound, and so do commits one after another. So what an image and commits
+/// represent is sound.
 pub fn lawful_commits_leave_a_sound_database()
     ensures one { (db : Db) (commit : Commit) (after : Db) → Sound db → Follows db commit after → Sound after }
     ensures several { (db : Db) (commits : List Commit) (after : Db) → Sound db → AreFollowed db commits after → Sound after }

@@ -2,7 +2,7 @@
 use Rattle.std.proofs.Common.{◌≡◌, ℕ, ◌≤◌, List, [], ◌∷◌, ◌++◌, length, subst, sym, ◌∙◌, append_assoc, arith}
 use Rattle.own_model.specs.declared.limit.TheConstants.{PAYLOAD_BYTES}
 use Rattle.disk_model.specs.declared.commit.Commit.{Commit}
-use Rattle.disk_model.specs.Bounds.{IsBounded, IsHeld}
+use Rattle.disk_model.specs.Bounds.{IsBounded, IsTyped}
 use Rattle.disk_model.specs.Number.{IsNumber}
 use Rattle.disk_model.specs.Payload.{IsPayload}
 use Rattle.disk_model.specs.Spelling.{number_spelling, payload_spelling}
@@ -10,11 +10,11 @@ use Rattle.disk_model.proofs.Numbers.{number4-of_spelling}
 use Rattle.disk_model.proofs.Spelled.{payload-of_spelling, payload-spelled}
 use Rattle.rec_codec.specs.Framed.{IsFramed, payload_length}
 
-pub is_framed : (commit : Commit) (bytes : List ℕ) → IsBounded commit → IsHeld commit → payload_length commit ≤ PAYLOAD_BYTES
+pub is_framed : (commit : Commit) (bytes : List ℕ) → IsBounded commit → IsTyped commit → payload_length commit ≤ PAYLOAD_BYTES
     → bytes ≡ number_spelling 4 (payload_length commit) ++ (payload_spelling commit ++ 0 ∷ []) → IsFramed commit bytes
-is_framed commit bytes bounded held few is = record {
+is_framed commit bytes bounded typed few is = record {
   payload = payload_spelling commit;
-  is_payload = payload-of_spelling commit bounded held;
+  is_payload = payload-of_spelling commit bounded typed;
   few = few;
   parts = subst (λ (bytes : List ℕ). IsNumber 4 (payload_length commit) bytes (payload_spelling commit ++ 0 ∷ [])) (sym is)
       (number4-of_spelling (payload_length commit) (payload_spelling commit ++ 0 ∷ []) (omega arith));

@@ -22,22 +22,22 @@ unfolding payload_of changes_of
 payload-found [] commit all is = absurd cc
 payload-found (zero ∷ bytes) commit all is = absurd cc
 payload-found (suc zero ∷ bytes) commit all is =
-    let held = bind_some (all_of (text_at most_bytes bytes)) (λ text. Some (CreateTable text)) commit is in
-    let own = all-found (IsTextUpTo most_bytes) (text_at most_bytes) (text most_bytes) bytes held.0 all.1 held.1 in
-    subst (λ (commit : Commit). IsPayload commit (1 ∷ bytes)) (some_is _ commit held.2) (refl, own.1)
+    let part = bind_some (all_of (text_at most_bytes bytes)) (λ text. Some (CreateTable text)) commit is in
+    let own = all-found (IsTextUpTo most_bytes) (text_at most_bytes) (text most_bytes) bytes part.0 all.1 part.1 in
+    subst (λ (commit : Commit). IsPayload commit (1 ∷ bytes)) (some_is _ commit part.2) (refl, own.1)
 payload-found (suc (suc zero) ∷ bytes) commit all is =
-    let held = bind_some (all_of (text_at most_bytes bytes)) (λ text. Some (CreateView text)) commit is in
-    let own = all-found (IsTextUpTo most_bytes) (text_at most_bytes) (text most_bytes) bytes held.0 all.1 held.1 in
-    subst (λ (commit : Commit). IsPayload commit (2 ∷ bytes)) (some_is _ commit held.2) (refl, own.1)
+    let part = bind_some (all_of (text_at most_bytes bytes)) (λ text. Some (CreateView text)) commit is in
+    let own = all-found (IsTextUpTo most_bytes) (text_at most_bytes) (text most_bytes) bytes part.0 all.1 part.1 in
+    subst (λ (commit : Commit). IsPayload commit (2 ∷ bytes)) (some_is _ commit part.2) (refl, own.1)
 payload-found (suc (suc (suc zero)) ∷ bytes) commit all is =
-    let held = bind_some (all_of (list_at put_at bytes)) (λ puts. cond (are_changes puts) (Some (Changes puts)) None) commit is in
-    let own = all-found (IsList IsPut) (list_at put_at) (list IsPut put_at put) bytes held.0 all.1 held.1 in
-    let through = let_through (are_changes held.0) (Some (Changes held.0)) commit held.2 in
-    subst (λ (commit : Commit). IsPayload commit (3 ∷ bytes)) (some_is _ commit through.1) (refl, changes-found held.0 through.0, own)
+    let part = bind_some (all_of (list_at put_at bytes)) (λ puts. cond (are_changes puts) (Some (Changes puts)) None) commit is in
+    let own = all-found (IsList IsPut) (list_at put_at) (list IsPut put_at put) bytes part.0 all.1 part.1 in
+    let through = let_through (are_changes part.0) (Some (Changes part.0)) commit part.2 in
+    subst (λ (commit : Commit). IsPayload commit (3 ∷ bytes)) (some_is _ commit through.1) (refl, changes-found part.0 through.0, own)
 payload-found (suc (suc (suc (suc zero))) ∷ bytes) commit all is =
-    let held = bind_some (all_of (name_at bytes)) (λ name. Some (Forget name)) commit is in
-    let own = all-found IsName name_at name bytes held.0 all.1 held.1 in
-    subst (λ (commit : Commit). IsPayload commit (4 ∷ bytes)) (some_is _ commit held.2) (refl, own)
+    let part = bind_some (all_of (name_at bytes)) (λ name. Some (Forget name)) commit is in
+    let own = all-found IsName name_at name bytes part.0 all.1 part.1 in
+    subst (λ (commit : Commit). IsPayload commit (4 ∷ bytes)) (some_is _ commit part.2) (refl, own)
 payload-found (suc (suc (suc (suc (suc kind)))) ∷ bytes) commit all is = absurd cc
 
 pub payload-only : (commit : Commit) (bytes : List ℕ) → IsPayload commit bytes → payload_of bytes ≡ Some commit

@@ -19,7 +19,7 @@ pub record IsFramed (commit : Commit) (bytes : List ℕ) : Type 0 where
 abbrev pub payload_length : Commit → ℕ
 payload_length commit = length (payload_spelling commit)
 
--- Exactly where the payload is too long its length is told; memory is refused only where it isn't.
+-- Exactly where the payload is too long its length is answered; memory is refused only where it isn't.
 abbrev pub Encodes : Commit → Result (List ℕ) EncodeFault → Type 0
 Encodes commit (Ok bytes) = IsFramed commit bytes
 Encodes commit (Err (TooBig count)) = (count ≡ payload_length commit) × (PAYLOAD_BYTES < count)

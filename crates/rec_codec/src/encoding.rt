@@ -1,5 +1,5 @@
 ghost use Rattle.std.specs.Prelude.{◌≡◌, ◌++◌, OnOk};
-ghost use Rattle.disk_model.specs.Bounds.{IsBounded, IsHeld};
+ghost use Rattle.disk_model.specs.Bounds.{IsBounded, IsTyped};
 ghost use Rattle.disk_model.specs.Spelling.{payload_spelling};
 ghost use Rattle.rec_codec.specs.Encodable.{IsEncodable};
 ghost use Rattle.rec_codec.specs.Framed.{Encodes, payload_length};
@@ -27,7 +27,7 @@ fn payload_length(commit: &Commit) -> u64
 fn write_payload(commit: &Commit, out: &mut Vec<u8>) -> Result<(), AllocError>
     requires { IsBounded commit.now }
     ensures written { OnOk result (out.new.items ≡ out.old.items ++ payload_spelling commit.now) }
-    ensures held { OnOk result (IsHeld commit.now) }
+    ensures typed { OnOk result (IsTyped commit.now) }
 {
     match commit {
         Commit::CreateTable(text) => {

@@ -1,7 +1,7 @@
 use Rattle.std.proofs.Common.{◌≡◌, ◌<◌, ◌^◌, ◌++◌, length, ap, subst, arith, rules}
 use Rattle.std.specs.Prelude.{IsUtf8}
 use Rattle.std.specs.List.{AllByRecursion}
-use Rattle.disk_model.specs.Bounds.{IsCountable, IsHeldImage}
+use Rattle.disk_model.specs.Bounds.{IsCountable, IsTypedImage}
 use Rattle.disk_model.specs.Spelling.{create_spelling, list_spelling}
 use Rattle.check_image.specs.Gated.{image_from}
 use Rattle.check_image.proofs.GatedImages.{gated, one_behind_another}
@@ -28,11 +28,11 @@ returns g c =
     let db = g.V.StoreView.db c.args.view.now in
     let texts : AllByRecursion (λ create. IsCountable create.text) c.args.creates.now = search rules in
     let fits : c.args.commits < 2 ^ 64 = omega arith in
-    let held : IsHeldImage (image_from db c.args.commits) = record {
-      creates = subst (AllByRecursion (λ create. IsUtf8 create.text)) c.requires.creates c.in_ok-write_creates.ensures.held;
-      tables = c.in_ok-write_tables.ensures.held;
+    let typed : IsTypedImage (image_from db c.args.commits) = record {
+      creates = subst (AllByRecursion (λ create. IsUtf8 create.text)) c.requires.creates c.in_ok-write_creates.ensures.typed;
+      tables = c.in_ok-write_tables.ensures.typed;
     } in
-    gated db c.args.commits c.from_vec.result c.requires.sound fits (subst (AllByRecursion (λ create. IsCountable create.text)) c.requires.creates texts) held
+    gated db c.args.commits c.from_vec.result c.requires.sound fits (subst (AllByRecursion (λ create. IsCountable create.text)) c.requires.creates texts) typed
     (one_behind_another db c.args.commits c.new-out.result.items c.push.new.self.items c.write_u64.new.out.items c.write_creates.new.out.items c.write_tables.new.out.items c.push-2.new.self.items
     c.from_vec.result c.new-out.ensures.items c.in_ok-push.ensures.items c.in_ok-write_u64.ensures
     (subst (λ creates. c.write_creates.new.out.items ≡ c.write_u64.new.out.items ++ list_spelling create_spelling creates) c.requires.creates c.in_ok-write_creates.ensures.written)

@@ -1,8 +1,8 @@
 use Rattle.std.proofs.Common.{arith}
 use Rattle.own_model.specs.Stored.{rows_at}
-use Rattle.disk_model.specs.Bounds.{IsHeldRow, IsShortRow}
+use Rattle.disk_model.specs.Bounds.{IsTypedRow, IsShortRow}
 use Rattle.disk_model.specs.Spelling.{row_spelling}
-use Rattle.check_image.proofs.Runs.{run_held, run_holds, run_within, run_written}
+use Rattle.check_image.proofs.Runs.{run_holds, run_typed, run_within, run_written}
 use Rattle.check_image.proofs.tables.write_rows.Goals as goal
 
 -- what a run is asked to be
@@ -26,5 +26,5 @@ loop-at-preserved g c =
       omega (arith, more),
       run_written rows c.loop-at.at run c.rows_from-run.ensures row_spelling c.loop-at.out.items c.write_items.new.out.items _ c.in_ok-write_items.ensures.written c.loop-at.invariant.2,
       (run_holds rows c.loop-at.at run c.rows_from-run.ensures IsShortRow c.loop-at.invariant.3).1,
-      run_held rows c.loop-at.at run c.rows_from-run.ensures IsHeldRow c.in_ok-write_items.ensures.held c.loop-at.invariant.4,
+      run_typed rows c.loop-at.at run c.rows_from-run.ensures IsTypedRow c.in_ok-write_items.ensures.typed c.loop-at.invariant.4,
     )

@@ -39,9 +39,9 @@ returns-clause-moments g c honest =
     let two = c.write_at-2.new.self in
     let new = c.sync.new.self in
     let area = c.args.area in
-    let held = D.holds old area in
+    let stood = D.holds old area in
     let apart = D.holds old (other_of area) in
-    let P = OnlyIn area (IsFront 1 held) apart in
+    let P = OnlyIn area (IsFront 1 stood) apart in
     let honest_1 : IsTrue (D.honest one) = subst IsTrue (sym c.write_at.ensures.honesty) honest in
     let honest_2 : IsTrue (D.honest two) = subst IsTrue (sym c.write_at-2.ensures.honesty) honest_1 in
     let synced = c.requires.synced honest in
@@ -54,7 +54,7 @@ returns-clause-moments g c honest =
       stays = (synced_in D.holds D.leaves old (other_of area) synced).only (bytes_in (other_of area) a b) (left_in D.holds D.leaves old (other_of area) a b in_a in_b);
     }) in
     let first = goes_on D.leaves D.moment D.might_have_left only_now old old one P start c.write_at.ensures.time (λ a b in_a in_b.
-    only_in_less area _ _ apart a b (λ bytes torn. torn_front 1 _ held bytes (omega arith) torn)
+    only_in_less area _ _ apart a b (λ bytes torn. torn_front 1 _ stood bytes (omega arith) torn)
     (left_step D.holds D.leaves old one area _ synced torn_1 beside_1 a b in_a in_b)) in
     let after_two = left_steps D.holds D.leaves old one two area _ _ (IsFront 1) synced
     (λ before middle after t_1 t_2. front_then before middle after (torn_front 1 _ before middle (omega arith) t_1) (torn_front 17 _ middle after (omega arith) t_2))

@@ -5,10 +5,10 @@ use Rattle.outer_world.specs.OtherArea.{other_of}
 use Rattle.disk_model.specs.Area.{IsBelow, Says, in_front, laid}
 use Rattle.commit_journal.specs.AreaCalls.{IsMade, OnlyIn}
 use Rattle.commit_journal.specs.Filled.{IsFilling}
-use Rattle.commit_journal.specs.JournalState.{StandForEither}
+use Rattle.commit_journal.specs.JournalState.{RepresentEither}
 use Rattle.commit_journal.proofs.AreaBytes.{laid_says, says_epoch}
 use Rattle.commit_journal.proofs.Steps.{other-other}
-use Rattle.commit_journal.proofs.Stores.{filling_stands, retiring_stands}
+use Rattle.commit_journal.proofs.Stores.{filling_represents, retiring_represents}
 use Rattle.commit_journal.proofs.filling.move_on.Goals as goal
 
 -- while the other area is filled it says nothing, or all of it, under the higher epoch
@@ -23,8 +23,8 @@ returns-in_err-fill-clause-moments g c stored honest says =
     let lower_is = less.lower in
     let lower : stored.epoch < c.args.epoch = omega arith in
     let filled = subst (λ of. LeavesOnly D.moment D.might_have_left (OnlyIn of (IsFilling new) (D.holds old (other_of of))) old c.fill.new.disk) c.other_area.ensures (c.fill.ensures.moments honest) in
-    weaker D.leaves D.moment D.might_have_left g.met.D.Disk.only_now old c.fill.new.disk _ (StandForEither stored new)
-    (λ a b only. filling_stands area stored new (D.holds old area) a b says lower
+    weaker D.leaves D.moment D.might_have_left g.met.D.Disk.only_now old c.fill.new.disk _ (RepresentEither stored new)
+    (λ a b only. filling_represents area stored new (D.holds old area) a b says lower
     (subst (λ beside. OnlyIn (other_of area) (IsFilling new) beside a b) (ap (D.holds old) (other-other area)) only))
     filled
 
@@ -43,8 +43,8 @@ returns-clause-moments g c stored honest says =
     let lower : stored.epoch < c.args.epoch = omega arith in
     let honest_1 : IsTrue (D.honest one) = subst IsTrue (sym c.fill.ensures.honesty) honest in
     let filled = subst (λ of. LeavesOnly D.moment D.might_have_left (OnlyIn of (IsFilling new) (D.holds old (other_of of))) old one) c.other_area.ensures (c.fill.ensures.moments honest) in
-    let first = weaker D.leaves D.moment D.might_have_left only_now old one _ (StandForEither stored new)
-    (λ a b only. filling_stands area stored new (D.holds old area) a b says lower
+    let first = weaker D.leaves D.moment D.might_have_left only_now old one _ (RepresentEither stored new)
+    (λ a b only. filling_represents area stored new (D.holds old area) a b says lower
     (subst (λ beside. OnlyIn (other_of area) (IsFilling new) beside a b) (ap (D.holds old) (other-other area)) only))
     filled in
     let made = subst (λ of. IsMade D.holds D.leaves of (in_front new ++ 0 ∷ []) old one) c.other_area.ensures (c.in_ok-fill.ensures.made honest) in
@@ -53,7 +53,7 @@ returns-clause-moments g c stored honest says =
     let still : Says (D.holds one area) stored = subst (λ l. Says l stored) (sym here) says in
     let epoch = says_epoch (D.holds one area) stored still in
     let below : IsBelow (D.holds one area) new.epoch = λ _. omega arith in
-    let second = weaker D.leaves D.moment D.might_have_left only_now one last _ (StandForEither stored new)
-    (λ a b only. inr (retiring_stands area new (D.holds one area) (D.holds one (other_of area)) a b full below only))
+    let second = weaker D.leaves D.moment D.might_have_left only_now one last _ (RepresentEither stored new)
+    (λ a b only. inr (retiring_represents area new (D.holds one area) (D.holds one (other_of area)) a b full below only))
     (c.retire_opened.ensures.moments honest_1) in
-    then D.leaves D.moment D.might_have_left only_now old one last (StandForEither stored new) first second
+    then D.leaves D.moment D.might_have_left only_now old one last (RepresentEither stored new) first second

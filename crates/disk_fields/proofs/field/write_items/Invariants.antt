@@ -6,4 +6,4 @@ abbrev pub invariant-loop-item : goal.invariant-loop-item
 invariant-loop-item g l =
     (l.out.items ++ flat_map g.F.Field.spelling (drop l.item-index l.items) ≡ l.fn.out.items ++ flat_map g.F.Field.spelling l.items)
     × AllByRecursion g.F.Field.is_bounded (drop l.item-index l.items)
-    × (AllByRecursion g.F.Field.is_held (drop l.item-index l.items) → AllByRecursion g.F.Field.is_held l.items)
+    × (AllByRecursion g.F.Field.is_typed (drop l.item-index l.items) → AllByRecursion g.F.Field.is_typed l.items)

@@ -13,6 +13,6 @@ write_payload-requires c =
 pub returns : goal.returns
 returns c =
     let few : payload_length c.args.commit.now ≤ PAYLOAD_BYTES = omega (arith, c.payload_length-length.ensures) in
-    is_framed c.args.commit.now c.from_vec.result (bounded c.args.commit.now c.requires few) c.in_ok-write_payload.ensures.held few
+    is_framed c.args.commit.now c.from_vec.result (bounded c.args.commit.now c.requires few) c.in_ok-write_payload.ensures.typed few
     (one_behind_another c.args.commit.now c.payload_length-length.result c.in_ok-out.out.items c.write_u32.new.out.items c.write_payload.new.out.items c.push.new.self.items c.from_vec.result
     c.payload_length-length.ensures c.in_ok-out.ensures.items c.in_ok-write_u32.ensures c.in_ok-write_payload.ensures.written c.in_ok-push.ensures.items c.from_vec.ensures)

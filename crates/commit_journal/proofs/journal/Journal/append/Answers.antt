@@ -3,9 +3,9 @@ use Rattle.outer_world.proofs.Moments.{weaker}
 use Rattle.outer_world.specs.OtherArea.{other_of}
 use Rattle.disk_model.specs.Area.{IsOpened, with_payload}
 use Rattle.disk_model.specs.Records.{payload_of}
-use Rattle.commit_journal.specs.JournalState.{StandForEither}
+use Rattle.commit_journal.specs.JournalState.{RepresentEither}
 use Rattle.commit_journal.proofs.AreaBytes.{added_says, closed_gate, length-with}
-use Rattle.commit_journal.proofs.Stores.{adding_stands_for}
+use Rattle.commit_journal.proofs.Stores.{adding_represents}
 use Rattle.commit_journal.proofs.journal.Journal.append.Goals as goal
 
 pub returns-in-Ok-clause-rests : goal.returns-in-Ok-clause-rests
@@ -28,8 +28,8 @@ returns-in-Ok-clause-moments g c stored honest rests =
     let journal = c.args.self.now in
     let framed = c.args.framed.now in
     let shut : ¬ IsOpened (D.holds journal.disk (other_of journal.area)) = subst (λ l. ¬ IsOpened l) (sym rests.beside) closed_gate in
-    weaker D.leaves D.moment D.might_have_left g.met.D.Disk.only_now journal.disk c.add_record.new.disk _ (StandForEither stored (with_payload stored (payload_of framed)))
-    (λ a b only. adding_stands_for journal.area stored (D.holds journal.disk journal.area) journal.end framed (D.holds journal.disk (other_of journal.area)) a b rests.says rests.end c.requires.framed shut only)
+    weaker D.leaves D.moment D.might_have_left g.met.D.Disk.only_now journal.disk c.add_record.new.disk _ (RepresentEither stored (with_payload stored (payload_of framed)))
+    (λ a b only. adding_represents journal.area stored (D.holds journal.disk journal.area) journal.end framed (D.holds journal.disk (other_of journal.area)) a b rests.says rests.end c.requires.framed shut only)
     (c.add_record.ensures.moments honest)
 
 pub returns-in-Err-clause-moments : goal.returns-in-Err-clause-moments
@@ -38,6 +38,6 @@ returns-in-Err-clause-moments g c stored honest rests =
     let journal = c.args.self.now in
     let framed = c.args.framed.now in
     let shut : ¬ IsOpened (D.holds journal.disk (other_of journal.area)) = subst (λ l. ¬ IsOpened l) (sym rests.beside) closed_gate in
-    weaker D.leaves D.moment D.might_have_left g.met.D.Disk.only_now journal.disk c.add_record.new.disk _ (StandForEither stored (with_payload stored (payload_of framed)))
-    (λ a b only. adding_stands_for journal.area stored (D.holds journal.disk journal.area) journal.end framed (D.holds journal.disk (other_of journal.area)) a b rests.says rests.end c.requires.framed shut only)
+    weaker D.leaves D.moment D.might_have_left g.met.D.Disk.only_now journal.disk c.add_record.new.disk _ (RepresentEither stored (with_payload stored (payload_of framed)))
+    (λ a b only. adding_represents journal.area stored (D.holds journal.disk journal.area) journal.end framed (D.holds journal.disk (other_of journal.area)) a b rests.says rests.end c.requires.framed shut only)
     (c.add_record.ensures.moments honest)
