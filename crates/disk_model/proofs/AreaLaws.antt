@@ -30,7 +30,7 @@ first_same p q rest_p rest_q few_p few_q same =
     )
 
 -- a record in front of records
-records_front : (payload : List ℕ) (payloads : List (List ℕ)) (tail : List ℕ) → records_of (payload ∷ payloads) ++ tail ≡ 1 ∷ (measured payload ++ (records_of payloads ++ tail))
+pub records_front : (payload : List ℕ) (payloads : List (List ℕ)) (tail : List ℕ) → records_of (payload ∷ payloads) ++ tail ≡ 1 ∷ (measured payload ++ (records_of payloads ++ tail))
 records_front payload payloads tail = append_assoc (record_of payload) (records_of payloads) tail
 
 tail_same : (x y : ℕ) (xs ys : List ℕ) → x ∷ xs ≡ y ∷ ys → xs ≡ ys

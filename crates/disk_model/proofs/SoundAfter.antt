@@ -10,6 +10,7 @@ use Rattle.own_base.specs.declared.value.Key.TheVariants as keys
 use Rattle.own_base.specs.declared.value.Value.TheVariants.{Null}
 use Rattle.own_model.specs.declared.create.CreateTable.{CreateTable as TableCreate}
 use Rattle.own_model.specs.declared.create.CreateView.{CreateView as ViewCreate}
+use Rattle.own_model.specs.declared.schema.CreateText.{CreateText}
 use Rattle.own_model.specs.declared.schema.Schema.{Schema}
 use Rattle.own_model.specs.declared.schema.TableDef.{TableDef}
 use Rattle.own_model.specs.Db.{AreRising, Db, Row, as_key, empty, key_of}
@@ -36,6 +37,7 @@ use Rattle.disk_model.specs.declared.commit.Put.{Put}
 use Rattle.disk_model.specs.Follows.{Follows, Puts, after_from, is_of_table, with_puts}
 use Rattle.disk_model.specs.Lawful.{IsLawfulPut, IsLawfulState, IsRowUnder}
 use Rattle.disk_model.specs.StoreOf.{AreFollowed}
+use Rattle.disk_model.specs.TextOf.{IsTextOf}
 use Rattle.disk_model.specs.Value.{as_value}
 
 -- ---- changes
@@ -44,7 +46,7 @@ use Rattle.disk_model.specs.Value.{as_value}
 abbrev IsPutOf : TableDef → Put → Type 0
 IsPutOf table put = IsLawfulState table put.name.key put.after
 
-key-of_value : (key : Key) → as_key (as_value key) ≡ key
+pub key-of_value : (key : Key) → as_key (as_value key) ≡ key
 key-of_value (keys.Int number) = refl
 key-of_value (keys.Text text) = refl
 
@@ -140,6 +142,12 @@ sound-puts db puts after sound made =
 
 -- ---- creates
 
+-- the grammar gives a CREATE for its text
+readable-text : (create : Create) (text : CreateText) → IsTextOf create text → IsReadableCreate create
+readable-text create text is =
+    let few = is.few in
+    record { text = text.text; short = omega arith; terminals = is.read.terminals; cut = is.read.cut; spells = is.read.answers.0 }
+
 -- a CREATE more that is admitted after the others
 admitted-append : (schema : Schema) (creates : List Create) (last : Create) → AreAdmitted schema creates
     → IsAdmitted (fold with_create schema creates) last → AreAdmitted schema (creates ++ last ∷ [])
@@ -176,11 +184,11 @@ kept-create_view db view kept readable admitted = record {
 -- a commit
 pub sound-after : (db : Db) (commit : Commit) (after : Db) → Sound db → Follows db commit after → Sound after
 sound-after db (CreateTable text) after sound follows = record {
-  kept = subst IsWellFormed (sym follows.after_is) (kept-create db follows.table sound.kept follows.readable follows.admitted);
+  kept = subst IsWellFormed (sym follows.after_is) (kept-create db follows.table sound.kept (readable-text (OfTable follows.table) _ follows.text_of) follows.admitted);
   faultless = follows.faultless;
 }
 sound-after db (CreateView text) after sound follows = record {
-  kept = subst IsWellFormed (sym follows.after_is) (kept-create_view db follows.view sound.kept follows.readable follows.admitted);
+  kept = subst IsWellFormed (sym follows.after_is) (kept-create_view db follows.view sound.kept (readable-text (OfView follows.view) _ follows.text_of) follows.admitted);
   faultless = follows.faultless;
 }
 sound-after db (Changes puts) after sound follows = sound-puts db puts after sound follows

@@ -1,5 +1,5 @@
 -- What a commit leaves of a database.
-use Rattle.std.specs.Prelude.{◌≡◌, ℕ, ◌+◌, List, [], ◌∷◌, Bool, ◌==◌, None, filter}
+use Rattle.std.specs.Prelude.{◌≡◌, ℕ, ◌+◌, List, [], ◌∷◌, Bool, false, true, ◌==◌, None, filter}
 use Rattle.std.specs.List.{AllByRecursion}
 use Rattle.own_base.specs.Key.{key_cmp}
 use Rattle.own_base.specs.declared.row_name.RowName.{RowName}
@@ -13,13 +13,14 @@ use Rattle.schema_model.specs.Refusal.{refusal_of}
 use Rattle.query_model.specs.BoundView.{view_faults}
 use Rattle.query_model.specs.Refused.{lowest}
 use Rattle.subject_model.specs.Forget.{forget}
-use Rattle.state_model.specs.Create.{create, create_view, kept_text, kept_view_text}
-use Rattle.state_model.specs.Created.{IsReadableCreate, OfTable, OfView}
+use Rattle.state_model.specs.Create.{create, create_view}
+use Rattle.state_model.specs.Created.{OfTable, OfView}
 use Rattle.state_model.specs.Fault.{fault}
 use Rattle.disk_model.specs.declared.commit.Commit.{Commit}
 use Rattle.disk_model.specs.declared.commit.Commit.TheVariants.{CreateTable, CreateView, Changes, Forget}
 use Rattle.disk_model.specs.declared.commit.Put.{Put}
 use Rattle.disk_model.specs.Lawful.{IsLawfulForget, IsLawfulPut}
+use Rattle.disk_model.specs.TextOf.{IsTextOf}
 
 abbrev pub is_of_table : ℕ → Put → Bool
 is_of_table number put = put.name.table.0 == number
@@ -36,11 +37,10 @@ after_from number _ puts _ = []
 abbrev pub with_puts : Db → List Put → Db
 with_puts db puts = record db { rows = after_from 0 db.schema.tables puts db.rows }
 
--- the text is the canonical one of a CREATE TABLE that nothing refuses, and the table is made
+-- the text is that of a CREATE TABLE that nothing refuses, and the table is made
 pub record CreatesTable (db : Db) (text : List ℕ) (after : Db) : Type 0 where
   pub table : TableCreate
-  pub readable : IsReadableCreate (OfTable table)
-  pub text_is : text ≡ (kept_text table).text
+  pub text_of : IsTextOf (OfTable table) (record { view = false; text = text })
   pub admitted : refusal_of db.schema (holds_rows db.rows) table ≡ None
   pub after_is : after ≡ create db table
   pub faultless : fault after ≡ None
@@ -48,8 +48,7 @@ pub record CreatesTable (db : Db) (text : List ℕ) (after : Db) : Type 0 where
 -- the same of a CREATE VIEW
 pub record CreatesView (db : Db) (text : List ℕ) (after : Db) : Type 0 where
   pub view : ViewCreate
-  pub readable : IsReadableCreate (OfView view)
-  pub text_is : text ≡ (kept_view_text view).text
+  pub text_of : IsTextOf (OfView view) (record { view = true; text = text })
   pub admitted : lowest (view_faults db.schema view) ≡ None
   pub after_is : after ≡ create_view db view
   pub faultless : fault after ≡ None

@@ -9,10 +9,12 @@ use Rattle.own_model.specs.Db.{Db, Row}
 use Rattle.own_model.specs.Stored.{row_named}
 use Rattle.schema_model.specs.Tables.{is_subject}
 use Rattle.subject_model.specs.Named.{is_there}
+use Rattle.state_model.specs.Created.{Create, schema_after}
 use Rattle.state_model.specs.Rows.{IsRowOf}
 use Rattle.state_model.specs.Sound.{Sound}
 use Rattle.disk_model.specs.declared.commit.Put.{Put}
 use Rattle.disk_model.specs.declared.image.Image.{Image}
+use Rattle.disk_model.specs.TextOf.{AreTextsOf}
 use Rattle.disk_model.specs.Value.{as_value}
 
 -- a row that may stand in a table, with this key in its key column
@@ -31,9 +33,12 @@ AreKeyedRows [] (rows ∷ rest) = ⊥
 AreKeyedRows (table ∷ tables) [] = ⊥
 AreKeyedRows (table ∷ tables) (rows ∷ rest) = AllByRecursion (IsKeyedRow table) rows × AreKeyedRows tables rest
 
--- An image is of a database that a store may represent: each text is the canonical one of a CREATE that is admitted after those
--- before it, the keys rise and aren't NULL, and nothing is wrong with it as a whole.
+-- An image is of a database that a store may represent: each text is that of a CREATE that is admitted after those before it,
+-- these give the schema, the keys rise and aren't NULL, and nothing is wrong with it as a whole.
 pub record IsLawfulImage (image : Image) (db : Db) : Type 0 where
+  pub made_by : List Create
+  pub texts : AreTextsOf made_by image.creates
+  pub schema : db.schema ≡ schema_after made_by
   pub creates : db.creates ≡ image.creates
   pub rows : db.rows ≡ image.tables
   pub keyed : AreKeyedRows db.schema.tables db.rows

@@ -10,7 +10,10 @@ pub mod Image
 pub mod Spelling
 pub mod Bounds
 pub mod PutOf
+pub mod TextOf
 pub mod Lawful
 pub mod Follows
 pub mod StoreOf
+pub mod JudgedRecords
+pub mod JudgedArea
 pub mod Judged

@@ -3,8 +3,11 @@ use Rattle.std.specs.Prelude.{◌≡◌, ℕ, ◌+◌, List, [], ◌∷◌, leng
 use Rattle.own_model.specs.Db.{Db}
 use Rattle.disk_model.specs.declared.commit.Commit.{Commit}
 use Rattle.disk_model.specs.declared.image.Image.{Image}
+use Rattle.disk_model.specs.Area.{Stored}
 use Rattle.disk_model.specs.Follows.{Follows}
+use Rattle.disk_model.specs.Image.{IsImage}
 use Rattle.disk_model.specs.Lawful.{IsLawfulImage}
+use Rattle.disk_model.specs.Payload.{IsPayload}
 
 -- commits one after another lead from one database to another
 abbrev pub AreFollowed : Db → List Commit → Db → Type 0
@@ -17,3 +20,15 @@ pub record IsStoreOf (image : Image) (commits : List Commit) (db : Db) (number :
   pub lawful : IsLawfulImage image begin
   pub followed : AreFollowed begin commits db
   pub number_is : number ≡ image.commits + length commits
+
+-- a payload for each commit, in order
+abbrev pub ArePayloads : List Commit → List (List ℕ) → Type 0
+ArePayloads [] [] = Unit {0}
+ArePayloads [] (payload ∷ payloads) = ⊥
+ArePayloads (commit ∷ commits) [] = ⊥
+ArePayloads (commit ∷ commits) (payload ∷ payloads) = IsPayload commit payload × ArePayloads commits payloads
+
+-- what an area says is this image and these commits
+pub record IsStoredAs (stored : Stored) (image : Image) (commits : List Commit) : Type 0 where
+  pub is_image : IsImage image stored.image
+  pub are_payloads : ArePayloads commits stored.payloads
