@@ -1,12 +1,12 @@
 -- An area says one thing at most, and two areas represent one thing at most.
-use Rattle.std.proofs.Common.{◌≡◌, ◌⊎◌, inl, inr, ℕ, ◌+◌, ◌≤◌, ◌<◌, ◌^◌, List, [], ◌∷◌, ◌++◌, length, take, drop, get_or, refl, sym, ◌∙◌, ap, arith, append_assoc, length-append}
-use Rattle.std.specs.Prelude.{All, flat_map}
+use Rattle.std.proofs.Common.{◌≡◌, inl, inr, ℕ, ◌≤◌, List, [], ◌∷◌, ◌++◌, length, take, drop, get_or, refl, sym, ◌∙◌, ap, arith, append_assoc, length-append}
+use Rattle.std.specs.Prelude.{All}
 use Rattle.std.specs.Int.{w32, w64, bytes_high_first, from_be_bytes}
 use Rattle.std.proofs.lemmas.List.{take_at, drop_at}
 use Rattle.std.proofs.lemmas.List.Elements.{All-head, All-tail}
 use Rattle.std.proofs.lemmas.Nat.{from_be_bytes-to_be_bytes_4, from_be_bytes-to_be_bytes_8}
-use Rattle.own_model.specs.declared.limit.TheConstants.{JOURNAL_ROOM, PAYLOAD_BYTES}
-use Rattle.disk_model.specs.Area.{IsBelow, IsChosen, IsOpened, IsStorable, Says, Represent, RepresentNothing, Stored, epoch_of, image_part, in_front}
+use Rattle.own_model.specs.declared.limit.TheConstants.{PAYLOAD_BYTES}
+use Rattle.disk_model.specs.Area.{IsChosen, IsOpened, IsStorable, Says, Represent, RepresentNothing, Stored, epoch_of, image_part, in_front}
 use Rattle.disk_model.specs.Records.{IsPayloadSize, measured, record_of, records_of}
 
 -- ---- records

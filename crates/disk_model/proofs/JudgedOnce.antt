@@ -1,5 +1,5 @@
 -- Two areas are judged in one way.
-use Rattle.std.proofs.Common.{◌≡◌, ◌⊎◌, inl, inr, ℕ, ◌+◌, ◌<◌, List, [], ◌∷◌, length, refl, sym, ap, subst, ◌∙◌, arith}
+use Rattle.std.proofs.Common.{◌≡◌, inl, inr, ℕ, ◌+◌, List, [], ◌∷◌, length, refl, sym, ap, subst, ◌∙◌, arith}
 use Rattle.std.specs.Prelude.{false, true}
 use Rattle.own_base.specs.declared.number.Area.{Area}
 use Rattle.own_base.specs.declared.number.Area.TheVariants.{A, B}
@@ -20,7 +20,6 @@ use Rattle.state_model.specs.Created.{Create, OfTable, OfView, schema_after, sta
 use Rattle.disk_model.specs.declared.commit.Commit.{Commit}
 use Rattle.disk_model.specs.declared.commit.Commit.TheVariants.{CreateTable, CreateView, Changes, Forget}
 use Rattle.disk_model.specs.declared.image.Image.{Image}
-use Rattle.disk_model.specs.Area.{IsBelow, IsOpened, epoch_of}
 use Rattle.disk_model.specs.Follows.{Follows}
 use Rattle.disk_model.specs.Judged.{IsDatabaseOf, IsJudged}
 use Rattle.disk_model.specs.JudgedArea.{Damaged, HasEpoch, IsAreaJudged, IsImageJudged, IsLawfulBegin, IsLengthJudged, Judged, Nothing, Store, judged_as}

@@ -1,10 +1,10 @@
 -- Two areas are judged a store exactly where they represent a lawful image and lawful commits.
-use Rattle.std.proofs.Common.{◌≡◌, ◌⊎◌, inl, inr, ℕ, ◌+◌, ◌≤◌, ◌<◌, ◌^◌, List, [], ◌∷◌, ◌++◌, length, refl, sym, ap, subst, ◌∙◌, arith, rules, append_assoc, length-append}
+use Rattle.std.proofs.Common.{◌≡◌, inl, inr, ℕ, ◌+◌, ◌≤◌, ◌<◌, ◌^◌, List, [], ◌∷◌, ◌++◌, length, refl, sym, ap, subst, ◌∙◌, arith, rules, append_assoc, length-append}
 use Rattle.std.specs.Prelude.{All}
 use Rattle.std.proofs.lemmas.List.Elements.{All-head, All-tail, All-cons}
 use Rattle.own_base.specs.declared.number.Area.{Area}
 use Rattle.own_base.specs.declared.number.Area.TheVariants.{A, B}
-use Rattle.own_model.specs.declared.limit.TheConstants.{JOURNAL_ROOM, PAYLOAD_BYTES}
+use Rattle.own_model.specs.declared.limit.TheConstants.{JOURNAL_ROOM}
 use Rattle.own_model.specs.Db.{Db}
 use Rattle.disk_model.specs.declared.commit.Commit.{Commit}
 use Rattle.disk_model.specs.declared.image.Image.{Image}
@@ -12,7 +12,7 @@ use Rattle.disk_model.specs.Area.{IsBelow, IsChosen, IsOpened, Represent, Says, 
 use Rattle.disk_model.specs.Gate.{IsClosedGate}
 use Rattle.disk_model.specs.Image.{IsImage}
 use Rattle.disk_model.specs.Judged.{IsJudged}
-use Rattle.disk_model.specs.JudgedArea.{Damaged, HasEpoch, IsAreaJudged, IsImageJudged, IsLengthJudged, Judged, Nothing, Store, judged_as}
+use Rattle.disk_model.specs.JudgedArea.{HasEpoch, IsAreaJudged, IsImageJudged, IsLengthJudged, Judged, Store, judged_as}
 use Rattle.disk_model.specs.JudgedRecords.{AreRecords, Broken, Closed, End, IsRecord}
 use Rattle.disk_model.specs.Lawful.{IsLawfulImage}
 use Rattle.disk_model.specs.Records.{IsPayloadSize, measured, records_of}

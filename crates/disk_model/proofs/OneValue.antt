@@ -1,11 +1,10 @@
 -- Bytes are of one value at most, with the same bytes behind it.
 use Rattle.std.proofs.Common.{◌≡◌, ℕ, zero, suc, ◌+◌, ◌*◌, ◌<◌, List, [], ◌∷◌, ◌++◌, length, take, drop, refl, sym, ap, subst, ◌∙◌, arith}
-use Rattle.std.specs.Prelude.{Bool, true, false, Option, Some, None, ℤ}
+use Rattle.std.specs.Prelude.{Bool, true, false, Option, Some, None}
 use Rattle.std.specs.Int.{w64, cast_signed}
 use Rattle.std.proofs.lemmas.List.{take_at, drop_at}
 use Rattle.own_base.specs.declared.row_name.RowName.{RowName}
 use Rattle.own_base.specs.declared.value.Key.{Key}
-use Rattle.own_base.specs.declared.value.Value.{Value}
 use Rattle.own_base.specs.declared.value.Value.TheVariants.{Null, Int, Text, Sum}
 use Rattle.own_model.specs.declared.schema.CreateText.{CreateText}
 use Rattle.own_model.specs.Db.{Row, as_key}
@@ -13,7 +12,7 @@ use Rattle.disk_model.specs.declared.commit.Commit.{Commit}
 use Rattle.disk_model.specs.declared.commit.Commit.TheVariants.{CreateTable, CreateView, Changes, Forget}
 use Rattle.disk_model.specs.declared.commit.Put.{Put}
 use Rattle.disk_model.specs.declared.image.Image.{Image}
-use Rattle.disk_model.specs.Image.{HasFields, IsCreateText, IsImage, create_kind, table_count}
+use Rattle.disk_model.specs.Image.{IsCreateText, IsImage, create_kind, table_count}
 use Rattle.disk_model.specs.Number.{Format, IsNumber, IsNumberBehind, IsSigned}
 use Rattle.disk_model.specs.Payload.{IsName, IsPayload, IsPut, IsState}
 use Rattle.disk_model.specs.Row.{AreItems, IsList, IsRow}

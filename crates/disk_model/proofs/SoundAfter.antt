@@ -1,13 +1,12 @@
 -- A lawful commit leaves a sound database sound.
-use Rattle.std.proofs.Common.{◌≡◌, ℕ, zero, suc, ◌+◌, List, [], ◌∷◌, ◌++◌, Bool, true, false, cond, eqb, map, fold, refl, sym, ap, subst, ◌∙◌, arith}
-use Rattle.std.specs.Prelude.{Option, Some, None, IfSome, filter, slice_get, slice_index_or}
+use Rattle.std.proofs.Common.{◌≡◌, ℕ, suc, ◌+◌, List, [], ◌∷◌, ◌++◌, Bool, true, false, cond, fold, refl, sym, ap, subst, ◌∙◌, arith}
+use Rattle.std.specs.Prelude.{Option, Some, None, IfSome, filter, slice_get}
 use Rattle.std.specs.List.{AllByRecursion}
 use Rattle.std.proofs.lemmas.Bool.{eqb-true}
 use Rattle.std.proofs.lemmas.List.{map-append}
 use Rattle.std.proofs.lemmas.List.Sums.{fold-append}
 use Rattle.own_base.specs.declared.value.Key.{Key}
 use Rattle.own_base.specs.declared.value.Key.TheVariants as keys
-use Rattle.own_base.specs.declared.value.Value.TheVariants.{Null}
 use Rattle.own_model.specs.declared.create.CreateTable.{CreateTable as TableCreate}
 use Rattle.own_model.specs.declared.create.CreateView.{CreateView as ViewCreate}
 use Rattle.own_model.specs.declared.schema.CreateText.{CreateText}
@@ -35,7 +34,7 @@ use Rattle.disk_model.specs.declared.commit.Commit.{Commit}
 use Rattle.disk_model.specs.declared.commit.Commit.TheVariants.{CreateTable, CreateView, Changes, Forget}
 use Rattle.disk_model.specs.declared.commit.Put.{Put}
 use Rattle.disk_model.specs.Follows.{Follows, Puts, after_from, is_of_table, with_puts}
-use Rattle.disk_model.specs.Lawful.{IsLawfulPut, IsLawfulState, IsRowUnder}
+use Rattle.disk_model.specs.Lawful.{IsLawfulPut, IsLawfulState}
 use Rattle.disk_model.specs.StoreOf.{AreFollowed}
 use Rattle.disk_model.specs.TextOf.{IsTextOf}
 use Rattle.disk_model.specs.Value.{as_value}
