@@ -9,7 +9,7 @@ use Rattle.outer_world.specs.Overwritten.{overwritten}
 use Rattle.outer_world.specs.Torn.{Torn}
 use Rattle.outer_world.specs.TornCut.{TornCut}
 use Rattle.outer_world.specs.Stretch.{Stretch, IsOutside}
-use Rattle.outer_world.specs.AreaState.{AreaState, settled_area}
+use Rattle.outer_world.specs.AreaState.{AreaState, synced_area}
 use Rattle.outer_world.specs.MayLeave.{MayLeave}
 use Rattle.outer_world.specs.AfterCall.{changed_area}
 use Rattle.outer_world.specs.MemDiskLaws.{IsBetween}
@@ -17,7 +17,7 @@ use Rattle.outer_world.specs.declared.change.Change.TheVariants.{Write, Cut}
 use Rattle.outer_world.proofs.Tabulated.{tabulated, length-tabulated, get_or-tabulated, same_front, same_behind}
 
 -- after a sync a crash leaves what a read gives
-pub left_synced : (state : AreaState) (bytes : List ℕ) → MayLeave (settled_area state.seen) bytes → bytes ≡ state.seen
+pub left_synced : (state : AreaState) (bytes : List ℕ) → MayLeave (synced_area state.seen) bytes → bytes ≡ state.seen
 left_synced state bytes left =
     ext_get_or 0 bytes state.seen (omega (arith, left.no_shorter, left.no_longer)) (λ place within.
     left.stays place (omega (arith, left.no_longer)) (All-nil _))

@@ -16,7 +16,7 @@ use Rattle.outer_world.specs.Follows.{Follows}
 use Rattle.outer_world.specs.Stays.{Stays, StaysBeside}
 use Rattle.outer_world.specs.IsSynced.{IsSynced}
 use Rattle.outer_world.specs.Elapses.{Elapses}
-use Rattle.outer_world.specs.AreaState.{AreaState, settled_area}
+use Rattle.outer_world.specs.AreaState.{AreaState, synced_area}
 use Rattle.outer_world.specs.MayLeave.{MayLeave}
 use Rattle.outer_world.specs.AfterCall.{changed_area, after_change, after_call, after_calls}
 use Rattle.outer_world.specs.FaultPlan.{Plan}
@@ -84,7 +84,7 @@ now_one_more : (old new : DiskState) (area : Area) (change : Change) → HasOneM
     → (of : Area) → area_now new of ≡ after_change of (area_now old of) area change
 now_one_more old new area change more of =
     after_same old new area new.calls more.start of ∙ ap (λ calls. after_calls of (start_of old of) calls) more.calls
-    ∙ fold_push (after_call of) (settled_area (start_of old of)) old.calls (record { area = area; change = change })
+    ∙ fold_push (after_call of) (synced_area (start_of old of)) old.calls (record { area = area; change = change })
 
 after_itself : (area : Area) (state : AreaState) (change : Change) → after_change area state area change ≡ changed_area state change
 after_itself A state change = refl
@@ -96,7 +96,7 @@ after_other A B state change other = refl
 after_other B A state change other = refl
 after_other B B state change other = absurd (other refl)
 
-after_sync : (of area : Area) (state : AreaState) → (after_change of state area Sync ≡ state) ⊎ (after_change of state area Sync ≡ settled_area state.seen)
+after_sync : (of area : Area) (state : AreaState) → (after_change of state area Sync ≡ state) ⊎ (after_change of state area Sync ≡ synced_area state.seen)
 after_sync A A state = inr refl
 after_sync A B state = inl refl
 after_sync B A state = inl refl
@@ -220,7 +220,7 @@ follows_cut old new area len within more = record {
 -- a sync
 pub synced_now : (old new : DiskState) (area : Area) → HasOneMore area Sync old new → IsSynced holds leaves area new
 synced_now old new area more =
-    let same : area_now new area ≡ settled_area (holds old area) = changed_now old new area Sync more in
+    let same : area_now new area ≡ synced_area (holds old area) = changed_now old new area Sync more in
     record {
       only = λ bytes left.
           left_synced (area_now old area) bytes (subst (λ state. MayLeave state bytes) same left) ∙ sym (ap (λ (state : AreaState). state.seen) same);
@@ -234,8 +234,8 @@ stays_synced old new area more of = elim (after_sync of area (area_now old of)) 
         same = ap (λ (state : AreaState). state.seen) same;
         no_more = λ bytes left. subst (λ state. MayLeave state bytes) same left;
       }
-  | inr settled ↦
-      let same : area_now new of ≡ settled_area (holds old of) = now_one_more old new area Sync more of ∙ settled in
+  | inr synced ↦
+      let same : area_now new of ≡ synced_area (holds old of) = now_one_more old new area Sync more of ∙ synced in
       let between = between_now old of in
       record {
         same = ap (λ (state : AreaState). state.seen) same;

@@ -6,7 +6,7 @@ use Rattle.outer_world.specs.declared.change.Change.{Change}
 use Rattle.outer_world.specs.declared.change.Change.TheVariants.{Write, Cut, Sync}
 use Rattle.outer_world.specs.declared.change.DiskCall.{DiskCall}
 use Rattle.outer_world.specs.Overwritten.{overwritten}
-use Rattle.outer_world.specs.AreaState.{AreaState, settled_area}
+use Rattle.outer_world.specs.AreaState.{AreaState, synced_area}
 
 -- it reads so from now on, and has been as long
 abbrev pub with_bytes : AreaState → List ℕ → AreaState
@@ -17,7 +17,7 @@ abbrev pub changed_area : AreaState → Change → AreaState
 changed_area state (Write place bytes) =
     record (with_bytes state (overwritten state.seen place bytes)) { written = record { start = place; end = place + length bytes } ∷ state.written }
 changed_area state (Cut len) = with_bytes state (take len state.seen)
-changed_area state Sync = settled_area state.seen
+changed_area state Sync = synced_area state.seen
 
 -- after a change of one of the areas, of which the other takes no part
 abbrev pub after_change : Area → AreaState → Area → Change → AreaState
@@ -30,6 +30,6 @@ after_change B state B change = changed_area state change
 abbrev pub after_call : Area → AreaState → DiskCall → AreaState
 after_call area state call = after_change area state call.area call.change
 
--- after these calls of a disk that held these bytes in the area
+-- after these calls of a disk with these bytes in the area
 abbrev pub after_calls : Area → List ℕ → List DiskCall → AreaState
-after_calls area bytes calls = fold (after_call area) (settled_area bytes) calls
+after_calls area bytes calls = fold (after_call area) (synced_area bytes) calls

@@ -12,5 +12,5 @@ pub record AreaState : Type 0 where
   pub greatest : ℕ
 
 -- these bytes, and nothing unsynced
-abbrev pub settled_area : List ℕ → AreaState
-settled_area bytes = record { seen = bytes; synced = bytes; written = []; least = length bytes; greatest = length bytes }
+abbrev pub synced_area : List ℕ → AreaState
+synced_area bytes = record { seen = bytes; synced = bytes; written = []; least = length bytes; greatest = length bytes }

@@ -4,15 +4,15 @@ use Rattle.std.specs.declared.alloc.Global.{Global}
 use Rattle.own_base.specs.declared.number.Area.{Area}
 use Rattle.own_base.specs.declared.number.Area.TheVariants.{A, B}
 
--- what it held at the start, what it holds, and what the last sync made durable
-pub record Held : Type 0 where
+-- its bytes at the start, its bytes now, and what the last sync made durable
+pub record AreaContents : Type 0 where
   pub start : List ℕ
   pub seen : List ℕ
   pub synced : List ℕ
 
 -- these bytes from the start on, all of them durable
-abbrev pub held_alone : List ℕ → Held
-held_alone bytes = record { start = bytes; seen = bytes; synced = bytes }
+abbrev pub fresh_contents : List ℕ → AreaContents
+fresh_contents bytes = record { start = bytes; seen = bytes; synced = bytes }
 
 -- what was set apart as the start, or else what there is
 abbrev pub apart_or : Option (Vec ℕ Global) → List ℕ → List ℕ
@@ -20,6 +20,6 @@ apart_or (Some apart) bytes = apart.items
 apart_or None bytes = bytes
 
 -- the one of the two that is this area
-abbrev pub of_area : Area → Held → Held → Held
+abbrev pub of_area : Area → AreaContents → AreaContents → AreaContents
 of_area A a b = a
 of_area B a b = b

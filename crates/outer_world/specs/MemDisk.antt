@@ -8,14 +8,14 @@ use Rattle.outer_world.specs.AreaState.{AreaState}
 use Rattle.outer_world.specs.MayLeave.{MayLeave}
 use Rattle.outer_world.specs.AfterCall.{after_calls}
 
--- what each area held at the start, the calls that changed one or made it durable, and the plan of its faults
+-- the bytes of each area at the start, the calls that changed one or made it durable, and the plan of its faults
 pub record DiskState : Type 0 where
   pub start_a : List ℕ
   pub start_b : List ℕ
   pub calls : List DiskCall
   pub plan : Plan
 
--- what an area held at the start
+-- the bytes of an area at the start
 abbrev pub start_of : DiskState → Area → List ℕ
 start_of disk A = disk.start_a
 start_of disk B = disk.start_b
@@ -36,6 +36,6 @@ pub record MightHaveLeft (disk : DiskState) (since : ℕ) (a b : List ℕ) : Typ
   pub in_a : MayLeave (area_after disk count A) a
   pub in_b : MayLeave (area_after disk count B) b
 
--- a disk that holds these bytes, with nothing unsynced, no fault and no call that is to fail
-abbrev pub settled_disk : List ℕ → List ℕ → DiskState
-settled_disk a b = record { start_a = a; start_b = b; calls = []; plan = fresh_plan [] }
+-- a disk with these bytes, of which no call was made: nothing is unsynced, there is no fault, and no call is to fail
+abbrev pub fresh_disk : List ℕ → List ℕ → DiskState
+fresh_disk a b = record { start_a = a; start_b = b; calls = []; plan = fresh_plan [] }

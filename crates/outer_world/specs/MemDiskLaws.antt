@@ -7,7 +7,7 @@ use Rattle.own_base.specs.declared.number.Area.TheVariants.{A, B}
 use Rattle.outer_world.specs.declared.change.Change.{Change}
 use Rattle.outer_world.specs.declared.change.Change.TheVariants.{Write, Cut, Sync}
 use Rattle.outer_world.specs.declared.change.DiskCall.{DiskCall}
-use Rattle.outer_world.specs.AreaState.{AreaState, settled_area}
+use Rattle.outer_world.specs.AreaState.{AreaState, synced_area}
 use Rattle.outer_world.specs.MayLeave.{MayLeave}
 use Rattle.outer_world.specs.AfterCall.{changed_area, after_change, after_call, after_calls}
 use Rattle.outer_world.specs.MemDisk.{DiskState, start_of, area_after, area_now, MightHaveLeft}
@@ -34,7 +34,7 @@ between_calls area state (call ∷ calls) between =
     between_calls area (after_call area state call) calls (between_change area state call.area call.change between)
 
 pub between_now : (disk : DiskState) (area : Area) → IsBetween (area_now disk area)
-between_now disk area = between_calls area (settled_area (start_of disk area)) disk.calls (record { least = omega arith; greatest = omega arith })
+between_now disk area = between_calls area (synced_area (start_of disk area)) disk.calls (record { least = omega arith; greatest = omega arith })
 
 pub mem_reads_may_stay : (disk : DiskState) (area : Area) → MayLeave (area_now disk area) (area_now disk area).seen
 mem_reads_may_stay disk area = record {

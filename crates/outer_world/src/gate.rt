@@ -7,11 +7,11 @@ use own_base::SessionNo;
 pub enum Gone {
     /// The gate let the call pass.
     Passed,
-    /// The gate held the call for as long as it may, and gave up.
+    /// The gate delayed the call for as long as it may, and gave up.
     Late,
 }
 
-/// What a worker passes before each call and tells after it, so that a test can hold calls back.
+/// What a worker passes before each call and tells after it, so that a test can delay calls.
 pub trait Gate {
     /// Asked before a session's call of that number.
     fn before(&self, session: SessionNo, call: u32) -> Gone;
@@ -20,7 +20,7 @@ pub trait Gate {
     fn after(&self, session: SessionNo, call: u32);
 }
 
-/// The gate that holds nobody.
+/// The gate that delays nobody.
 #[derive(Clone, Copy, Debug, PartialEq, Eq, Hash)]
 pub struct NowGate;
 

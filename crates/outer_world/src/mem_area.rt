@@ -1,17 +1,17 @@
 ghost use Rattle.std.specs.Prelude.{◌≡◌, ◌≢◌, None, [], ◌+◌, ◌≤◌, ◌++◌, length, take, drop, vec_len, vec_capacity, if◌then◌else◌, OnOk, OnErr};
-ghost use Rattle.outer_world.specs.KeepsArea.{BeginsWithin, changed_held};
-ghost use Rattle.outer_world.specs.MemArea.{apart_or, held_alone};
+ghost use Rattle.outer_world.specs.KeepsArea.{BeginsWithin, changed_contents};
+ghost use Rattle.outer_world.specs.MemArea.{apart_or, fresh_contents};
 ghost use Rattle.outer_world.specs.Overwritten.{overwritten};
 
 use crate::change::Change;
 use std::alloc::{AllocError, Global};
 use std::marker::Model;
 
-/// An area in memory: what it holds, what it held at the start, and what the last sync made durable.
+/// An area in memory: its bytes, those that it had at the start, and what the last sync made durable.
 #[derive(Debug, Drop)]
 pub(crate) struct MemArea {
     bytes: Vec<u8>,
-    // What it held at the start, where that was set apart; else it is what the area holds.
+    // The bytes at the start, where they were set apart; else they are those of now.
     start: Option<Vec<u8>>,
     // So many bytes in front are durable, and then come those behind them that the last sync made durable.
     durable: usize,
@@ -20,9 +20,9 @@ pub(crate) struct MemArea {
 
 impl Model for MemArea {
     ghost use Rattle.std.specs.Prelude.{◌+◌, ◌≤◌, ◌++◌, take, length, vec_capacity};
-    ghost use Rattle.outer_world.specs.MemArea.{Held, apart_or};
+    ghost use Rattle.outer_world.specs.MemArea.{AreaContents, apart_or};
 
-    ghost Value = { Held };
+    ghost Value = { AreaContents };
 
     ghost view = { λ area. record {
       start = apart_or area.start area.bytes.items;
@@ -37,7 +37,7 @@ impl Model for MemArea {
 impl MemArea {
     /// An area without bytes. Takes no memory.
     pub(crate) fn new(alloc: Global) -> MemArea
-        ensures { result ≡ held_alone [] }
+        ensures { result ≡ fresh_contents [] }
     {
         MemArea {
             bytes: Vec::new(alloc),
@@ -57,7 +57,7 @@ impl MemArea {
     /// Makes a change.
     pub(crate) fn change(&mut self, alloc: Global, change: &Change) -> Result<(), AllocError>
         requires { BeginsWithin change.now self.old.seen }
-        ensures changed { OnOk result (self.new ≡ changed_held self.old change.now) }
+        ensures changed { OnOk result (self.new ≡ changed_contents self.old change.now) }
         ensures unchanged { OnErr result (self.new ≡ self.old) }
     {
         match change {
@@ -109,7 +109,7 @@ impl MemArea {
 
     /// The area after a crash that kept all that wasn't durable, or lost it. Takes no memory.
     pub(crate) fn crash(self, kept: bool) -> MemArea
-        ensures { result ≡ held_alone (if kept then self.seen else self.synced) }
+        ensures { result ≡ fresh_contents (if kept then self.seen else self.synced) }
     {
         let MemArea {
             mut bytes,

@@ -3,7 +3,7 @@ ghost use Rattle.outer_world.specs.FaultCount.{one_higher};
 ghost use Rattle.outer_world.specs.FaultPlan.{fresh_plan, IsNextToFail, plan_after_success, plan_after_fault};
 ghost use Rattle.outer_world.specs.KeepsArea.{KeepsArea, BeginsWithin};
 ghost use Rattle.outer_world.specs.MemArea.{of_area};
-ghost use Rattle.outer_world.specs.MemDisk.{area_now, settled_disk};
+ghost use Rattle.outer_world.specs.MemDisk.{area_now, fresh_disk};
 ghost use Rattle.own_base.specs.declared.number.Area.TheVariants.{A, B};
 ghost use Rattle.outer_world.specs.declared.change.Change.TheVariants.{Write, Cut, Sync};
 
@@ -16,8 +16,8 @@ use own_base::{Area, List};
 use std::alloc::{AllocError, Global};
 use std::marker::Model;
 
-/// A disk in memory, whose calls of given numbers fail. It keeps what each area held at the start and each call that
-/// changed one.
+/// A disk in memory, whose calls of given numbers fail. It keeps the bytes that each area had at the start and each
+/// call that changed one.
 #[derive(Debug, Drop)]
 pub struct MemDisk {
     alloc: Global,
@@ -47,7 +47,7 @@ impl Model for MemDisk {
 impl MemDisk {
     /// A disk of two empty areas. The calls of the numbers in `fails`, counted from 0, are to fail.
     pub fn new(alloc: Global, fails: &[u32]) -> Result<MemDisk, AllocError>
-        ensures { IfOk result (λ disk. disk ≡ record (settled_disk [] []) { plan = fresh_plan fails.now }) }
+        ensures { IfOk result (λ disk. disk ≡ record (fresh_disk [] []) { plan = fresh_plan fails.now }) }
     {
         let plan = FaultPlan::new(alloc, fails)?;
         Ok(MemDisk {
@@ -71,7 +71,7 @@ impl MemDisk {
 
     /// The disk after a crash that kept all that wasn't durable, or lost it. Takes no memory.
     pub fn crash(self, kept: bool) -> MemDisk
-        ensures { result ≡ settled_disk
+        ensures { result ≡ fresh_disk
             (if kept then (area_now self A).seen else (area_now self A).synced)
             (if kept then (area_now self B).seen else (area_now self B).synced) }
     {
