@@ -4,6 +4,8 @@
 #[cfg(test)]
 mod disks;
 #[cfg(test)]
+mod files;
+#[cfg(test)]
 mod memory;
 #[cfg(test)]
 mod runs_of_calls;
