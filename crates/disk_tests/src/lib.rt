@@ -4,6 +4,8 @@
 #[cfg(test)]
 mod images;
 #[cfg(test)]
+mod journals;
+#[cfg(test)]
 mod parts;
 #[cfg(test)]
 mod payloads;

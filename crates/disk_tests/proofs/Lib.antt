@@ -1,0 +1,2 @@
+mod FreshDisks
+mod RestingJournals

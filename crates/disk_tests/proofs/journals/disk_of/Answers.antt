@@ -1,0 +1,7 @@
+use Rattle.std.proofs.Common.{ap}
+use Rattle.outer_world.specs.MemDisk.{DiskState}
+use Rattle.disk_tests.proofs.FreshDisks.{fresh_synced}
+use Rattle.disk_tests.proofs.journals.disk_of.Goals as goal
+
+pub returns-in-Ok : goal.returns-in-Ok
+returns-in-Ok c = fresh_synced c.crash.result (ap (λ (disk : DiskState). disk.calls) c.crash.ensures)
