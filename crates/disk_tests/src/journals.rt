@@ -1,4 +1,4 @@
-ghost use Rattle.std.specs.Prelude.{◌≡◌, ◌≤◌, [], ◌∷◌, ◌++◌, IfOk, OnOk};
+ghost use Rattle.std.specs.Prelude.{IfOk, OnOk};
 ghost use Rattle.commit_journal.specs.AreaCalls.{AreSynced};
 ghost use Rattle.commit_journal.specs.JournalState.{IsAtRest};
 ghost use Rattle.disk_model.specs.Area.{IsGated};

@@ -2,6 +2,8 @@
 #![tactic(auto)]
 
 #[cfg(test)]
+mod damaged;
+#[cfg(test)]
 mod images;
 #[cfg(test)]
 mod journals;
@@ -9,3 +11,5 @@ mod journals;
 mod parts;
 #[cfg(test)]
 mod payloads;
+#[cfg(test)]
+mod words;

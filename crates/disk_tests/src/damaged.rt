@@ -1,0 +1,167 @@
+//! Every front of an area and every change of one of its bytes, judged by the words of docs/disk.md and by the codecs.
+use crate::words;
+use crate::words::Judgement;
+use disk_fields::{read_u32, read_u64};
+use std::alloc::{AllocError, Global};
+use std::process::Abort;
+use std::test::Fail;
+
+/// An opened area: a gate, the epoch 7, the length 64 of the image, the image; two records; a closed gate and a byte that
+/// doesn't count.
+const AREA: [u8; 174] = [
+    1, 0, 0, 0, 0, 0, 0, 0, 7, 0, 0, 0, 0, 0, 0, 0, 64,
+    // the version, two commits, two creates: a table and a view
+    1, 0, 0, 0, 0, 0, 0, 0, 2, 0, 0, 0, 2, 1, 0, 0, 0, 1, 84, 2, 0, 0, 0, 1, 86,
+    // two rows: (5, 'Ann') and (6, NULL)
+    0, 0, 0, 2, 0, 0, 0, 2, 1, 0, 0, 0, 0, 0, 0, 0, 5, 2, 0, 0, 0, 3, 65, 110, 110, 0, 0, 0, 2, 1,
+    0, 0, 0, 0, 0, 0, 0, 6, 0,
+    // a gate, and a payload of 68 bytes: three changes of table 0
+    1, 0, 0, 0, 68, 3, 0, 0, 0, 3,
+    // (-1, NULL) is put
+    0, 0, 0, 0, 1, 255, 255, 255, 255, 255, 255, 255, 255, 1, 0, 0, 0, 2, 1, 255, 255, 255, 255,
+    255, 255, 255, 255, 0,
+    // the row 1 is taken away
+    0, 0, 0, 0, 1, 0, 0, 0, 0, 0, 0, 0, 1, 0,
+    // ('b') is put
+    0, 0, 0, 0, 2, 0, 0, 0, 1, 98, 1, 0, 0, 0, 1, 2, 0, 0, 0, 1, 98,
+    // a gate, and a payload of 13 bytes: a table by a text that ends with a character of two bytes
+    1, 0, 0, 0, 13, 1, 0, 0, 0, 8, 67, 82, 69, 65, 84, 69, 195, 169,
+    // a closed gate, and what doesn't count
+    0, 1,
+];
+
+/// Whether the codec reads an image.
+fn is_image(alloc: Global, bytes: &[u8]) -> Result<bool, AllocError> {
+    Ok(check_image::decode(alloc, bytes)?.is_some())
+}
+
+/// Whether the codec reads a payload.
+fn is_payload(alloc: Global, bytes: &[u8]) -> Result<bool, AllocError> {
+    Ok(rec_codec::decode(alloc, bytes)?.is_some())
+}
+
+/// So many bytes in front, and those behind them.
+fn split(bytes: &[u8], length: u64) -> Option<(&[u8], &[u8])> {
+    bytes.split_at_checked(length as usize)
+}
+
+/// The image of an area, and what is behind it.
+fn image_in(area: &[u8]) -> Option<(&[u8], &[u8])> {
+    let (_, rest) = area.split_first()?;
+    let (_, rest) = read_u64(rest).ok()?;
+    let (length, rest) = read_u64(rest).ok()?;
+    split(rest, length)
+}
+
+/// The payload of a record, and what is behind it.
+fn payload_of(record: &[u8]) -> Option<(&[u8], &[u8])> {
+    let (length, rest) = read_u32(record).ok()?;
+    split(rest, length.into())
+}
+
+/// The records of an area, judged by the codecs.
+fn judged_records(alloc: Global, area: &[u8], records: &[u8]) -> Result<Judgement, AllocError> {
+    let mut rest = records;
+    for count in 0..area.len() {
+        let gate = area.len().saturating_sub(rest.len());
+        let record = match rest.split_first() {
+            None => return Ok(Judgement::Damaged(gate)),
+            Some((1, record)) => record,
+            Some(_) => return Ok(Judgement::Whole(count)),
+        };
+        let Some((payload, behind)) = payload_of(record) else {
+            return Ok(Judgement::Damaged(gate));
+        };
+        if !is_payload(alloc, payload)? {
+            return Ok(Judgement::Damaged(gate));
+        }
+        rest = behind;
+    }
+    Ok(Judgement::Shut)
+}
+
+/// What the area is judged to be by the codecs.
+fn judged(alloc: Global, area: &[u8]) -> Result<Judgement, AllocError> {
+    if area.len() < 18 || area.first() != Some(&1) {
+        return Ok(Judgement::Shut);
+    }
+    let Some((image, records)) = image_in(area) else {
+        return Ok(Judgement::Damaged(17));
+    };
+    if !is_image(alloc, image)? {
+        return Ok(Judgement::Damaged(17));
+    }
+    judged_records(alloc, area, records)
+}
+
+#[test]
+fn each_front_of_an_area(rt: HostRuntime) -> Result<(), Fail> {
+    for length in 0..=AREA.len() {
+        let front = AREA.get(..length).unwrap_or(&AREA);
+        let wanted = words::judged(front);
+        assert_eq!(rt; judged(rt.alloc(), front)?, wanted, "of {length}");
+    }
+    // What a few of them are, by hand.
+    for (length, wanted) in [
+        (17, Judgement::Shut),
+        (80, Judgement::Damaged(17)),
+        (81, Judgement::Damaged(81)),
+        (82, Judgement::Damaged(81)),
+        (154, Judgement::Damaged(154)),
+        (172, Judgement::Damaged(172)),
+        (173, Judgement::Whole(2)),
+        (174, Judgement::Whole(2)),
+    ] {
+        let front = AREA.get(..length).unwrap_or(&AREA);
+        assert_eq!(rt; words::judged(front), wanted, "of {length}");
+    }
+    Ok(())
+}
+
+/// Compares the two judgements of the area with each other byte at a place. Answers for how many it is whole.
+fn compare_at<R: AllocGlobal + Abort>(rt: &R, place: usize) -> Result<u32, Fail> {
+    let mut area = Vec::from_slice(rt.alloc(), &AREA)?;
+    let mut whole: u32 = 0;
+    for byte in 0..=255 {
+        if let Some(changed) = area.get_mut(place) {
+            *changed = byte;
+        }
+        let wanted = words::judged(&area);
+        assert_eq!(rt; judged(rt.alloc(), &area)?, wanted, "{byte} at {place}");
+        if matches!(wanted, Judgement::Whole(_)) {
+            whole = whole.saturating_add(1);
+        }
+    }
+    Ok(whole)
+}
+
+#[test]
+fn each_change_of_a_byte(rt: HostRuntime) -> Result<(), Fail> {
+    for place in 0..AREA.len() {
+        let whole = compare_at(&rt, place)?;
+        assert!(rt; whole >= 1, "at {place}");
+    }
+    // The gate opens at one byte alone; any epoch will do; a length has to be right.
+    for (place, wanted) in [(0, 1), (1, 256), (16, 1), (173, 256)] {
+        assert_eq!(rt; compare_at(&rt, place)?, wanted, "at {place}");
+    }
+    Ok(())
+}
+
+#[test]
+fn each_front_of_an_image_and_of_payloads(rt: HostRuntime) -> Result<(), Fail> {
+    let alloc = rt.alloc();
+    for length in 0..=64 {
+        let front = AREA.get(17..17 + length).unwrap_or(&[]);
+        assert_eq!(rt; is_image(alloc, front)?, length == 64, "of {length}");
+        assert_eq!(rt; words::is_image(front), length == 64);
+    }
+    for (first, bytes) in [(86, 68), (159, 13)] {
+        for length in 0..=bytes {
+            let front = AREA.get(first..first + length).unwrap_or(&[]);
+            assert_eq!(rt; is_payload(alloc, front)?, length == bytes, "of {length}");
+            assert_eq!(rt; words::is_payload(front), length == bytes);
+        }
+    }
+    Ok(())
+}
