@@ -12,6 +12,7 @@ use Rattle.own_model.specs.declared.statement.Statement.TheVariants as of
 use Rattle.own_model.specs.Db.{Db, empty}
 use Rattle.state_model.specs.Net.{net}
 use Rattle.state_model.specs.CommitRefusal.{commit_refusal}
+use Rattle.state_model.specs.Put.{put}
 use Rattle.state_model.specs.Sound.{IsWellFormed}
 use Rattle.state_model.specs.Weight.{weight}
 use Rattle.state_model.proofs.WellFormedLemmas.{sound-empty}
@@ -26,15 +27,12 @@ use Rattle.row_locks.specs.Kept.{kept_by as held_by}
 use Rattle.row_locks.specs.RepresentsItems.{RepresentsItems}
 use Rattle.row_locks.proofs.Holders.{stand-same}
 use Rattle.txn_space.specs.Changed.{changed_db}
-use Rattle.txn_space.specs.Put.{put_rows}
 use Rattle.txn_core.specs.declared.kept.Kept.{Kept}
 use Rattle.txn_core.specs.declared.kept.Kept.TheVariants as kept
 use Rattle.txn_core.specs.Kept.{RepresentsSession, is_open, kept_by}
-use Rattle.txn_core.specs.Single.{IsNetTo}
 use Rattle.txn_core.specs.Transactions.{AreOthersSame, AreSame, space_of}
 use Rattle.txn_core.proofs.OpenBlocks.{net_block}
 use Rattle.engine_core.specs.Answered.{Tells, left}
-use Rattle.engine_core.specs.Changed.{IsNet, changed}
 use Rattle.engine_core.specs.HasDoomed.{HasDoomed}
 use Rattle.engine_core.specs.RepresentsWorld.{IsEvent, Serves}
 use Rattle.engine_core.specs.declared.answer.Answer.{Answer}
@@ -46,7 +44,7 @@ use Rattle.engine_core.proofs.InstalledEvents.{same_undoomed}
 
 module _ (history : History) (entry : Entry) (before : State) (event : IsEvent before history entry) (opened : is_open (kept_by before.txns.kept entry.session.0) ≡ true)
     (asks : entry.request ≡ Run of.Commit) (made : List Change)
-    (nets : IsNetTo before.version (changed_db before.version (space_of (kept_by before.txns.kept entry.session.0))) made) where
+    (nets : made ≡ net before.version (changed_db before.version (space_of (kept_by before.txns.kept entry.session.0)))) where
   abbrev now : World
   now = world empty history
 
@@ -69,40 +67,36 @@ module _ (history : History) (entry : Entry) (before : State) (event : IsEvent b
   abbrev behind : Db
   behind = after_block now.flat is.block
 
-  nets_flat : IsNetTo now.flat (changed_db now.flat is.txn.space) made
+  nets_flat : made ≡ net now.flat (changed_db now.flat is.txn.space)
   nets_flat =
-      subst (λ space. IsNetTo now.flat (changed_db now.flat space) made) (ap space_of is.is_kept)
-      (subst (λ (db : Db). IsNetTo db (changed_db db (space_of own)) made) event.stands.flat nets)
+      subst (λ space. made ≡ net now.flat (changed_db now.flat space)) (ap space_of is.is_kept)
+      (subst (λ (db : Db). made ≡ net db (changed_db db (space_of own))) event.stands.flat nets)
 
-  block_is : (made ≡ net now.flat behind) × (put_rows now.flat.schema.tables made now.flat.rows ≡ behind.rows)
+  block_is : (made ≡ net now.flat behind) × ((put now.flat made).rows ≡ behind.rows)
   unfolding flat standing
   block_is = net_block empty history sound-empty event.entries session is.begun is.block is.stands is.txn.space is.kept_as.0 made nets_flat
 
-  changed_flat : changed now.flat made ≡ behind
+  changed_flat : put now.flat made ≡ behind
   changed_flat =
       let creates = creates-block (length history) now.flat is.block opens.stated in
       let schema = schema-block (length history) now.flat is.block opens.stated in
       λ i. record { creates = sym creates i; schema = sym schema i; rows = block_is.1 i }
 
   -- its changes lead to that
-  changed_is : changed before.version made ≡ behind
-  changed_is = ap (λ db. changed db made) event.stands.flat ∙ changed_flat
+  changed_is : put before.version made ≡ behind
+  changed_is = ap (λ db. put db made) event.stands.flat ∙ changed_flat
 
-  pub net-committed : IsNet before.version made
-  net-committed = record {
-    net = block_is.0 ∙ ((λ i. net (sym event.stands.flat i) behind) ∙ ap (net before.version) (sym changed_is));
-    theirs = nets.theirs;
-    once = nets.once;
-  }
+  pub net-committed : made ≡ net before.version (put before.version made)
+  net-committed = block_is.0 ∙ ((λ i. net (sym event.stands.flat i) behind) ∙ ap (net before.version) (sym changed_is))
 
-  pub kept-committed : IsWellFormed (changed before.version made)
+  pub kept-committed : IsWellFormed (put before.version made)
   kept-committed =
       subst IsWellFormed (sym changed_is)
       (kept-block (length history) now.flat is.block (sound-now history entry event.entries event.is_entry event.took before event.stands).kept opens.stated)
 
   module _ (given : Answer)
-      (tells : Tells before.version (committing Took (changes before.version (changed before.version made)) (commit_refusal before.version (changed before.version made)) Done)
-      (changed before.version made) given)
+      (tells : Tells before.version (committing Took (changes before.version (put before.version made)) (commit_refusal before.version (put before.version made)) Done)
+      (put before.version made) given)
       (place : Place) (at : place.0 ≡ length history) (middle after : State) (version : middle.version ≡ left before.version given.next) (weighs : weight middle.version ≡ middle.weighs)
       (none : given.erased ≡ []) (doomed : HasDoomed given.erased place before.txns middle.txns)
       (version_after : after.version ≡ middle.version) (weighs_after : after.weighs ≡ middle.weighs)

@@ -20,17 +20,17 @@ use Rattle.own_model.specs.Db.{Db, Row}
 use Rattle.query_model.proofs.NoFaults.{none-first, none-if}
 use Rattle.state_model.specs.Fault.{fault}
 use Rattle.state_model.specs.CommitRefusal.{first_refusal}
+use Rattle.state_model.specs.Put.{put}
 use Rattle.state_model.specs.Sound.{Sound}
 use Rattle.state_model.specs.Weight.{row_count}
-use Rattle.state_model.proofs.ForgetSound.{sound-forget}
 use Rattle.state_model.proofs.Faultless.{faultless-from}
+use Rattle.state_model.proofs.ForgetSound.{sound-forget}
 use Rattle.subject_model.specs.Forget.{changed, forget, is_changed, removed}
 use Rattle.subject_model.specs.Named.{NamedRow, is_there, name_of, named_rows, rows_from, rows_in}
 use Rattle.subject_model.specs.Stays.{stays}
 use Rattle.subject_erase.specs.Plan.{IsPlan, leaves_row, plan_of}
 use Rattle.own_base.specs.declared.row_name.Subject.{Subject}
 use Rattle.owner_model.specs.Joins.{row_of}
-use Rattle.txn_space.specs.Put.{put_rows}
 use Rattle.own_model.specs.declared.bound.Bound.TheVariants.{Get}
 use Rattle.subject_model.specs.Get.{get}
 use Rattle.run_model.specs.Run.{answered, forget_subject, run_bound, show_subject}
@@ -127,11 +127,7 @@ unfolding run_bound
 tells-shown world db session subject answer told stays =
     record { told = told; leaves = rw stays (either (is_refusal (show_subject db subject.0).reply) db (show_subject db subject.0).db (shown-left db subject.0)) }
 
--- what an erasure leaves is the next database, with which nothing is wrong
-pub erased-next : (db next : Db) (subject : RowName) → next ≡ record db { rows = (forget db subject).rows } → next ≡ forget db subject
-unfolding forget
-erased-next db next subject is = is
-
+-- with what an erasure leaves nothing is wrong
 pub erased-sound : (db next : Db) (subject : RowName) → IsTrue (is_subject db.schema subject.table.0) → Sound db → next ≡ forget db subject → Sound next
 erased-sound db next subject of sound is = subst Sound (sym is) (sound-forget db subject of sound)
 
@@ -154,8 +150,6 @@ pub lent-there : (db : Db) (name : RowName) (row : Option (Bor Row)) → option_
 lent-there db name None lent some = let never : false ≡ true = some in absurd (cc)
 lent-there db name (Some row) lent some = sym (ap is_some lent)
 
--- the rows that the changes of an erasure make are those that it leaves
-pub planned-next : (db next : Db) (subject : RowName) (given changes : List Change) → next ≡ record db { rows = put_rows db.schema.tables given db.rows } → given ≡ changes
-    → put_rows db.schema.tables changes db.rows ≡ (forget db subject).rows → next ≡ forget db subject
-planned-next db next subject given changes is lent applied =
-    erased-next db next subject (is ∙ ap (λ rows. record db { rows = rows }) (ap (λ changes. put_rows db.schema.tables changes db.rows) lent ∙ applied))
+-- the next database, into which the changes of an erasure are put, is what it leaves
+pub planned-next : (db next : Db) (subject : RowName) (given changes : List Change) → next ≡ put db given → given ≡ changes → put db changes ≡ forget db subject → next ≡ forget db subject
+planned-next db next subject given changes is lent gives = is ∙ (ap (put db) lent ∙ gives)

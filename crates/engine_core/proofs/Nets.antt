@@ -1,21 +1,22 @@
 -- A commit without changes.
-use Rattle.std.proofs.Common.{◌≡◌, ℕ, ◌+◌, List, [], ◌∷◌, length, Bool, true, false, refl, ap, sym, ◌∙◌, arith}
+use Rattle.std.proofs.Common.{◌≡◌, ℕ, ◌+◌, List, [], ◌∷◌, length, Bool, true, false, refl, ap, sym, ◌∙◌, subst, arith}
 use Rattle.std.specs.Prelude.{◌==◌, None, if◌then◌else◌}
 use Rattle.std.proofs.lemmas.Bool.{eqb-true}
 use Rattle.own_base.specs.declared.change.Change.{Change}
 use Rattle.own_model.specs.declared.history.Verdict.TheVariants.{Took}
 use Rattle.own_model.specs.declared.reply.Reply.{Reply}
 use Rattle.own_model.specs.declared.schema.TableDef.{TableDef}
-use Rattle.own_model.specs.Db.{AreRising, Db, Row}
+use Rattle.own_model.specs.Db.{AreRising, Db, IsOrdered, Row}
 use Rattle.page_model.specs.Changed.{with_changes}
+use Rattle.state_model.specs.MayBePut.{MayBePut}
 use Rattle.state_model.specs.Net.{net}
 use Rattle.state_model.specs.Payload.{payload_bytes}
 use Rattle.state_model.specs.CommitRefusal.{commit_refusal}
+use Rattle.state_model.proofs.NetLeads.{net_may}
+use Rattle.state_model.specs.Put.{put, put_from}
 use Rattle.state_model.specs.Sound.{Sound}
-use Rattle.txn_space.specs.Put.{put_from}
 use Rattle.history_model.specs.Reply.{changes, committing, is_refusal}
 use Rattle.engine_core.specs.Answered.{Tells, left}
-use Rattle.engine_core.specs.Changed.{IsNet, changed}
 use Rattle.engine_core.specs.declared.answer.Answer.{Answer}
 
 -- no change leaves the rows
@@ -30,17 +31,21 @@ pub none-of : (list : List Change) → (length list == 0) ≡ true → list ≡ 
 none-of [] is = refl
 none-of (change ∷ list) is = let never = eqb-true (length (change ∷ list)) 0 is in absurd (omega arith)
 
+-- a net may be put
+pub may-net : (db : Db) (list : List Change) → IsOrdered db → IsOrdered (put db list) → list ≡ net db (put db list) → MayBePut db.schema.tables list
+may-net db list before after is = subst (MayBePut db.schema.tables) (sym is) (net_may db (put db list) before after refl)
+
 module _ (db : Db) (sound : Sound db) where
-  pub changed-none : changed db [] ≡ db
+  pub changed-none : put db [] ≡ db
   changed-none = ap (λ rows. record db { rows = rows }) (put-none 0 db.schema.tables db.rows sound.kept.ordered.rising)
 
   -- and its net is empty
-  module _ (list : List Change) (is : IsNet db list) (none : list ≡ []) where
-    same : changed db list ≡ db
-    same = ap (changed db) none ∙ changed-none
+  module _ (list : List Change) (is : list ≡ net db (put db list)) (none : list ≡ []) where
+    same : put db list ≡ db
+    same = ap (put db) none ∙ changed-none
 
     empty_net : net db db ≡ []
-    empty_net = ap (net db) (sym same) ∙ (sym is.net ∙ none)
+    empty_net = ap (net db) (sym same) ∙ (sym is ∙ none)
 
     accepts : commit_refusal db db ≡ None
     unfolding commit_refusal payload_bytes
@@ -59,6 +64,6 @@ module _ (db : Db) (sound : Sound db) where
 
     -- so it is told as it ran, and leaves the database
     pub tells-none : (reply : Reply) (answer : Answer) → answer.reply ≡ reply → answer.next ≡ None
-        → Tells db (committing Took (changes db (changed db list)) (commit_refusal db (changed db list)) reply) (changed db list) answer
+        → Tells db (committing Took (changes db (put db list)) (commit_refusal db (put db list)) reply) (put db list) answer
     tells-none reply answer told stays =
         rw same (rw (unchanged, accepts, step (is_refusal reply) reply refl) (record { told = told; leaves = rw stays (leaves-step (is_refusal reply)) }))

@@ -8,36 +8,37 @@ use Rattle.own_model.specs.declared.history.Verdict.TheVariants.{Took}
 use Rattle.own_model.specs.declared.refusal.Refusal.{Refusal}
 use Rattle.own_model.specs.declared.reply.Reply.{Reply}
 use Rattle.own_model.specs.declared.reply.Reply.TheVariants.{Refused}
-use Rattle.own_model.specs.Db.{Db}
+use Rattle.own_model.specs.Db.{Db, IsOrdered}
 use Rattle.query_model.specs.Footprints.{footprint_of}
+use Rattle.state_model.specs.Net.{net}
+use Rattle.state_model.specs.Put.{put, put_rows}
+use Rattle.state_model.proofs.NetLeads.{net_put}
 use Rattle.run_model.specs.Run.{run_bound}
 use Rattle.run_model.proofs.SameSchema.{same_schema-bound}
-use Rattle.state_model.specs.Net.{net}
 use Rattle.history_model.specs.Held.{Holding, held, holder}
 use Rattle.history_model.specs.Reply.{unless_held, write_reply}
 use Rattle.history_model.specs.World.{World}
 use Rattle.row_locks.specs.Kept.{kept_by as held_by}
 use Rattle.row_locks.specs.RepresentsItems.{holder_among}
 use Rattle.row_locks.proofs.Holders.{holder-alike, holder-of_world}
+use Rattle.write_eval.specs.Write.{IsWrite}
 use Rattle.txn_core.specs.Single.{NetTo}
 use Rattle.txn_core.specs.Transactions.{IsSingleRefusal, conflict_of}
-use Rattle.engine_core.specs.Changed.{IsNet, changed}
+use Rattle.txn_core.proofs.OrderedWrites.{ordered-write}
 use Rattle.engine_core.specs.RepresentsWorld.{RepresentsWorld}
 use Rattle.engine_core.specs.declared.state.State.{State}
 
-module _ (db : Db) (bound : Bound) (reply : Reply) (changes : List Change) (is : NetTo db (run_bound db bound) reply changes) where
+module _ (db : Db) (ordered : IsOrdered db) (bound : Bound) (write : IsWrite db.schema bound) (reply : Reply) (changes : List Change) (is : NetTo db (run_bound db bound) reply changes) where
   -- the database behind it is that with the changes
-  pub left-changed : (run_bound db bound).db ≡ changed db changes
+  pub left-changed : (run_bound db bound).db ≡ put db changes
   left-changed =
       let same = same_schema-bound db bound in
-      λ i. record { creates = same.creates i; schema = same.schema i; rows = sym is.leads.made i }
+      let rows : put_rows db.schema.tables changes db.rows ≡ (run_bound db bound).db.rows =
+      ap (λ changes. put_rows db.schema.tables changes db.rows) is.is_net ∙ net_put db (run_bound db bound).db ordered (ordered-write db bound ordered write) is.schema in
+      λ i. record { creates = same.creates i; schema = same.schema i; rows = sym rows i }
 
-  pub net-changed : IsNet db changes
-  net-changed = record {
-    net = is.leads.is_net ∙ ap (net db) left-changed;
-    theirs = is.leads.theirs;
-    once = is.leads.once;
-  }
+  pub net-changed : changes ≡ net db (put db changes)
+  net-changed = is.is_net ∙ ap (net db) left-changed
 
 -- Who stands in its way
 module _ (state : State) (world : World) (stands : RepresentsWorld state world) (session : ℕ) (bound : Bound) where

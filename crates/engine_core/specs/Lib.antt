@@ -1,6 +1,5 @@
 pub mod Answered
 pub mod Asked
-pub mod Changed
 pub mod Made
 pub mod Seen
 pub mod HasDoomed

@@ -4,6 +4,7 @@ ghost use Rattle.own_model.specs.Db.{Db};
 ghost use Rattle.state_model.specs.Fault.{fault};
 ghost use Rattle.state_model.specs.Net.{net};
 ghost use Rattle.state_model.specs.Payload.{payload_bytes};
+ghost use Rattle.state_model.specs.Put.{put};
 ghost use Rattle.state_model.specs.CommitRefusal as spec;
 ghost use Rattle.state_model.specs.Sound.{IsWellFormed, Sound};
 ghost use Rattle.state_model.specs.Weight.{weight};
@@ -12,7 +13,6 @@ ghost use Rattle.payload_size.specs.SoundNet.{IsSoundNet};
 ghost use Rattle.history_model.specs.Reply as spec_of;
 ghost use Rattle.history_model.specs.Reply.{committing};
 ghost use Rattle.engine_core.specs.Answered.{Tells};
-ghost use Rattle.engine_core.specs.Changed.{IsNet, changed};
 
 use crate::answer::Answer;
 use crate::prepared::Prepared;
@@ -56,9 +56,9 @@ fn judged_by(
 ) -> Result<Judged, AllocError>
     requires sound { Sound version.now }
     requires weighs { weight version.now ≡ weighs }
-    requires net { IsNet version.now changes.now }
+    requires net { changes.now ≡ net version.now (put version.now changes.now) }
     requires kept { IsWellFormed next.now }
-    requires next { next.now ≡ changed version.now changes.now }
+    requires next { next.now ≡ put version.now changes.now }
     ensures { IfOk result (IsJudged next.now) }
 {
     if are_unlinked(version.schema(), changes) {
@@ -156,10 +156,10 @@ pub(crate) fn commit(
 ) -> Result<Answer, AllocError>
     requires sound { Sound version.now }
     requires weighs { weight version.now ≡ weighs }
-    requires net { IsNet version.now changes.now }
-    requires kept { IsWellFormed (changed version.now changes.now) }
-    ensures tells { IfOk result (Tells version.now (committing Took (spec_of.changes version.now (changed version.now changes.now))
-        (spec.commit_refusal version.now (changed version.now changes.now)) reply) (changed version.now changes.now)) }
+    requires net { changes.now ≡ net version.now (put version.now changes.now) }
+    requires kept { IsWellFormed (put version.now changes.now) }
+    ensures tells { IfOk result (Tells version.now (committing Took (spec_of.changes version.now (put version.now changes.now))
+        (spec.commit_refusal version.now (put version.now changes.now)) reply) (put version.now changes.now)) }
     ensures nothing { IfOk result (λ answer. answer.erased ≡ []) }
     ensures spared { OnErr result (changes.now ≢ []) }
 {

@@ -4,6 +4,8 @@ ghost use Rattle.own_model.specs.declared.refusal.Refusal.TheVariants.{Memory};
 ghost use Rattle.own_model.specs.declared.reply.Reply.TheVariants.{Refused};
 ghost use Rattle.own_model.specs.Db.{empty};
 ghost use Rattle.query_model.specs.Footprints.{footprint_of};
+ghost use Rattle.state_model.specs.Net.{net};
+ghost use Rattle.state_model.specs.Put.{put};
 ghost use Rattle.state_model.specs.Sound.{IsWellFormed, Sound};
 ghost use Rattle.run_model.specs.Run.{run_bound};
 ghost use Rattle.history_model.specs.Held.{holder};
@@ -11,7 +13,6 @@ ghost use Rattle.history_model.specs.History.{world};
 ghost use Rattle.history_model.specs.Reply.{unless_held, write_reply};
 ghost use Rattle.write_eval.specs.Write.{IsWrite};
 ghost use Rattle.engine_core.specs.Answered.{Tells};
-ghost use Rattle.engine_core.specs.Changed.{IsNet, changed};
 ghost use Rattle.engine_core.specs.RepresentsWorld.{RepresentsWorld};
 
 use crate::answer::Answer;
@@ -37,8 +38,8 @@ fn written(
     requires stands { RepresentsWorld state.now (world empty history.now) }
     ensures free { IfOk result (λ pair. holder (world empty history.now) session.0 (footprint_of state.now.version.schema bound.now) ≡ None) }
     ensures reply { IfOk result (λ pair. (run_bound state.now.version bound.now).reply ≡ pair.0) }
-    ensures net { IfOk result (λ pair. IsNet state.now.version pair.1) }
-    ensures left { IfOk result (λ pair. (run_bound state.now.version bound.now).db ≡ changed state.now.version pair.1) }
+    ensures net { IfOk result (λ pair. pair.1 ≡ net state.now.version (put state.now.version pair.1)) }
+    ensures left { IfOk result (λ pair. (run_bound state.now.version bound.now).db ≡ put state.now.version pair.1) }
     ensures refused { IfErr result (λ why. why ≢ Memory → unless_held (world empty history.now) (holder (world empty history.now) session.0 (footprint_of state.now.version.schema bound.now))
         (write_reply Took state.now.version (run_bound state.now.version bound.now)) ≡ Refused why) }
 {

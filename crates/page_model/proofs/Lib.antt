@@ -5,3 +5,6 @@ pub mod FoundLemmas
 pub mod ChangedLemmas
 pub mod KeptLemmas
 pub mod SplitLemmas
+pub mod InOrder
+pub mod FoundChanged
+pub mod SameFound

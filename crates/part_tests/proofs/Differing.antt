@@ -6,7 +6,8 @@ use Rattle.std.specs.Ordering.{is_eq}
 use Rattle.own_base.specs.Key.{key_cmp}
 use Rattle.own_base.specs.declared.change.Change.{Change}
 use Rattle.page_model.proofs.RisingLemmas.{each_mapped}
-use Rattle.table_part.specs.Changes.{KeysDiffer, changed_key}
+use Rattle.state_model.specs.MayBePut.{KeysDiffer}
+use Rattle.state_model.specs.Put.{changed_key}
 
 pub none_differ : (changes : List Change) → length changes ≡ 0 → KeysDiffer changes
 unfolding IsDistinct

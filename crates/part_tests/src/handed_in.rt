@@ -5,7 +5,8 @@ ghost use Rattle.std.specs.List.{AllByRecursion};
 ghost use Rattle.std.specs.Ordering.{is_eq};
 ghost use Rattle.own_base.specs.Key.{key_cmp};
 ghost use Rattle.page_model.specs.Changed.{AreKeyed};
-ghost use Rattle.table_part.specs.Changes.{changed_key, row_after, KeysDiffer};
+ghost use Rattle.state_model.specs.MayBePut.{KeysDiffer};
+ghost use Rattle.state_model.specs.Put.{changed_key, row_after};
 ghost use Rattle.table_part.specs.KeyIn.{key_in};
 
 use crate::made::KEY;

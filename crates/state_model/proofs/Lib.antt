@@ -28,3 +28,8 @@ pub mod TableRows
 pub mod TableSound
 pub mod TableWeight
 pub mod ViewSound
+pub mod Made
+pub mod KeysLemmas
+pub mod PutRows
+pub mod PutLeads
+pub mod NetLeads

@@ -131,7 +131,7 @@ pub record IsChangeAt (number : ℕ) (table : TableDef) (before after : List Row
   pub differ : change.before ≢ change.after
 
 module _ (number : ℕ) (table : TableDef) (before after : List Row) where
-  change_told : (change : Change) → Contains (net_in number table before after) change → IsChangeAt number table before after change
+  pub change_told : (change : Change) → Contains (net_in number table before after) change → IsChangeAt number table before after change
   change_told change among =
       let (key, listed, gives) = contains_of_filter_map (change_at number table before after) (keys_in table (before ++ after)) change among in
       let told = told_step (record { table = record { 0 = number }; key = key }) (find (has_key table key) before) (find (has_key table key) after) change _ refl gives in
@@ -153,7 +153,7 @@ pub record IsChangeFrom (number : ℕ) (tables : List TableDef) (befores afters 
   pub table_is : slice_get tables place ≡ Some table
   pub at : IsChangeAt (number + place) table (rows_at befores place) (rows_at afters place) change
 
-from_told : (number : ℕ) (tables : List TableDef) (befores afters : List (List Row)) (change : Change) → Contains (net_from number tables befores afters) change
+pub from_told : (number : ℕ) (tables : List TableDef) (befores afters : List (List Row)) (change : Change) → Contains (net_from number tables befores afters) change
     → IsChangeFrom number tables befores afters change
 unfolding net_from
 from_told number [] befores afters change among = absurd (contains_none change among)
@@ -210,8 +210,10 @@ module _ (before after : Db) (ordered_before : IsOrdered before) (ordered_after 
       let at_after : slice_get after.schema.tables change.name.table.0 ≡ Some from.table = subst (λ n. slice_get after.schema.tables n ≡ Some from.table) place from.table_is in
       let at_before : slice_get before.schema.tables change.name.table.0 ≡ Some from.table = subst (λ s. slice_get s.tables change.name.table.0 ≡ Some from.table) schema at_after in
       record {
-        was = named_at before change.name from.table at_before ∙ (ap (λ n. find (has_key from.table change.name.key) (rows_at before.rows n)) (sym place) ∙ from.at.was);
-        is = named_at after change.name from.table at_after ∙ (ap (λ n. find (has_key from.table change.name.key) (rows_at after.rows n)) (sym place) ∙ from.at.is);
+        tells = record {
+          was = sym (named_at before change.name from.table at_before ∙ (ap (λ n. find (has_key from.table change.name.key) (rows_at before.rows n)) (sym place) ∙ from.at.was));
+          is = sym (named_at after change.name from.table at_after ∙ (ap (λ n. find (has_key from.table change.name.key) (rows_at after.rows n)) (sym place) ∙ from.at.is));
+        };
         differ = from.at.differ;
       }
 
@@ -219,14 +221,14 @@ module _ (before after : Db) (ordered_before : IsOrdered before) (ordered_after 
   unfolding net
   change_case change is None none =
       let at_before : slice_get before.schema.tables change.name.table.0 ≡ None = subst (λ s. slice_get s.tables change.name.table.0 ≡ None) schema none in
-      absurd (is.differ (sym is.was ∙ none_at before change.name at_before ∙ (sym (none_at after change.name none) ∙ is.is)))
+      absurd (is.differ (is.tells.was ∙ (none_at before change.name at_before ∙ (sym (none_at after change.name none) ∙ sym is.tells.is))))
   change_case change is (Some table) some =
       let at_before : slice_get before.schema.tables change.name.table.0 ≡ Some table = subst (λ s. slice_get s.tables change.name.table.0 ≡ Some table) schema some in
       told_from 0 after.schema.tables before.rows after.rows (subst (λ s. AreRising s.tables before.rows) (sym schema) ordered_before.rising) ordered_after.rising change change.name.table.0 table some
       (record {
         number_is = omega arith;
-        was = sym (named_at before change.name table at_before) ∙ is.was;
-        is = sym (named_at after change.name table some) ∙ is.is;
+        was = sym (named_at before change.name table at_before) ∙ sym is.tells.was;
+        is = sym (named_at after change.name table some) ∙ sym is.tells.is;
         differ = is.differ;
       })
 

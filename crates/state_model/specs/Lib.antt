@@ -3,8 +3,11 @@ pub mod Consistent
 pub mod Create
 pub mod Created
 pub mod Fault
+pub mod LeadTo
+pub mod MayBePut
 pub mod Net
 pub mod Payload
+pub mod Put
 pub mod Rows
 pub mod Same
 pub mod CommitRefusal

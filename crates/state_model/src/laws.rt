@@ -1,5 +1,5 @@
 //! Laws of the definitions in `specs/`: each function does nothing, and what it ensures holds of every database.
-ghost use Rattle.std.specs.Prelude.{◌≡◌, ◌↔◌, ◌≤◌, ◌+◌, Contains, IsTrue, None, Some, map, nat_lt, if◌then◌else◌};
+ghost use Rattle.std.specs.Prelude.{◌≡◌, ◌↔◌, ◌≤◌, ◌+◌, Contains, IsTrue, List, None, Some, map, nat_lt, if◌then◌else◌};
 ghost use Rattle.std.specs.List.Sorted.{IsStrictlySortedBy};
 ghost use Rattle.own_base.specs.declared.change.Change.{Change};
 ghost use Rattle.own_base.specs.declared.row_name.RowName.{RowName};
@@ -26,7 +26,10 @@ ghost use Rattle.state_model.specs.Consistent.{IsConsistent};
 ghost use Rattle.state_model.specs.Create.{create, create_view};
 ghost use Rattle.state_model.specs.Created.{IsCreated};
 ghost use Rattle.state_model.specs.Fault.{fault};
+ghost use Rattle.state_model.specs.LeadTo.{LeadTo};
+ghost use Rattle.state_model.specs.MayBePut.{MayBePut};
 ghost use Rattle.state_model.specs.Net.{net};
+ghost use Rattle.state_model.specs.Put.{put};
 ghost use Rattle.state_model.specs.Sound.{IsWellFormed, Sound};
 ghost use Rattle.state_model.specs.Weight.{row_count, view_weight, weight};
 
@@ -64,6 +67,19 @@ pub fn consistent_database_is_sound()
 pub fn net_tells_the_rows_that_differ()
     ensures { (before after : Db) (change : Change) → IsOrdered before → IsOrdered after → after.schema ≡ before.schema
         → (Contains (net before after) change) ↔ (IsChangeOf before after change) }
+{}
+
+/// Changes that lead from one database to another of its schema give the other's rows where they are put into the one.
+pub fn changes_give_the_rows_to_which_they_lead()
+    ensures { (before after : Db) (changes : List Change) → IsOrdered before → IsOrdered after → after.schema ≡ before.schema → LeadTo before after changes
+        → (put before changes).rows ≡ after.rows }
+{}
+
+/// The net of two databases of one schema leads from the one to the other. It may be put into the one, and gives the other's rows.
+pub fn net_leads_from_the_one_to_the_other()
+    ensures leads { (before after : Db) → IsOrdered before → IsOrdered after → after.schema ≡ before.schema → LeadTo before after (net before after) }
+    ensures may { (before after : Db) → IsOrdered before → IsOrdered after → after.schema ≡ before.schema → MayBePut before.schema.tables (net before after) }
+    ensures gives { (before after : Db) → IsOrdered before → IsOrdered after → after.schema ≡ before.schema → (put before (net before after)).rows ≡ after.rows }
 {}
 
 /// A GDPR FORGET of a row of a table of data subjects raises neither the number of rows nor the weight.

@@ -1,2 +1,3 @@
 mod KeptStores
+mod KeptNext
 mod Readiness

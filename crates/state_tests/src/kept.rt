@@ -6,12 +6,13 @@ ghost use Rattle.own_model.specs.declared.statement.Statement.TheVariants as sta
 ghost use Rattle.grammar_model.specs.Readable.{IsWritten};
 ghost use Rattle.own_model.specs.Db.{Db};
 ghost use Rattle.schema_model.specs.Tables.{is_subject};
+ghost use Rattle.state_model.specs.Net.{net};
+ghost use Rattle.state_model.specs.Put.{put};
 ghost use Rattle.state_model.specs.Sound.{IsWellFormed, Sound};
 ghost use Rattle.run_model.specs.Run.{run_bound};
 ghost use Rattle.write_eval.specs.Write.{IsWrite};
 ghost use Rattle.txn_core.specs.Runs.{IsRowStatement};
 ghost use Rattle.engine_core.specs.Asked.{IsBound, IsMeant};
-ghost use Rattle.engine_core.specs.Changed.{IsNet, changed};
 
 use crate::texts::read;
 use own_base::{Change, List, SessionNo, Subject};
@@ -133,8 +134,8 @@ pub fn row_bound(alloc: Global, version: &Version, statement: &Statement) -> Res
 pub fn written(alloc: Global, version: &Version, bound: &Bound) -> Result<List<Change>, Fail>
     requires sound { Sound version.now }
     requires write { IsWrite version.now.schema bound.now }
-    ensures net { IfOk result (IsNet version.now) }
-    ensures left { IfOk result (λ changes. (run_bound version.now bound.now).db ≡ changed version.now changes) }
+    ensures net { IfOk result (λ changes. changes ≡ net version.now (put version.now changes)) }
+    ensures left { IfOk result (λ changes. (run_bound version.now bound.now).db ≡ put version.now changes) }
 {
     let txns = Txns::new(alloc)?;
     let shown = Shown { version };

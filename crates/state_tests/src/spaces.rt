@@ -2,7 +2,7 @@
 ghost use Rattle.std.specs.Prelude.{◌≡◌, MatchBool, ⊤};
 ghost use Rattle.std.specs.List.{AllByRecursion};
 ghost use Rattle.own_model.specs.Db.{key_of};
-ghost use Rattle.txn_space.specs.Put.{IsChangeOf};
+ghost use Rattle.state_model.specs.MayBePut.{IsPutIn};
 ghost use Rattle.txn_space.specs.Sound.{IsBase, IsSpaceOf};
 
 use crate::store::{Store, store_of};
@@ -122,7 +122,7 @@ fn has_key(table: &TableDef, row: &Row, key: &Key) -> bool
 }
 
 fn is_change_of(schema: &Schema, change: &Change) -> bool
-    ensures { MatchBool result (IsChangeOf schema.now.tables change.now) ⊤ }
+    ensures { MatchBool result (IsPutIn schema.now.tables change.now) ⊤ }
 {
     match (
         schema.tables.items().get(change.name.table.0 as usize),
@@ -135,7 +135,7 @@ fn is_change_of(schema: &Schema, change: &Change) -> bool
 }
 
 fn are_changes_of(schema: &Schema, changes: &[Change]) -> bool
-    ensures { MatchBool result (AllByRecursion (IsChangeOf schema.now.tables) changes.now) ⊤ }
+    ensures { MatchBool result (AllByRecursion (IsPutIn schema.now.tables) changes.now) ⊤ }
 {
     match changes.split_first() {
         Some((first, rest)) => is_change_of(schema, first) && are_changes_of(schema, rest),

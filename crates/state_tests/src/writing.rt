@@ -2,11 +2,12 @@
 ghost use Rattle.std.specs.Prelude.{◌≡◌, IfOk};
 ghost use Rattle.commit_check.specs.declared.judged.Judged.TheVariants.{Weighs};
 ghost use Rattle.run_model.specs.Run.{run_bound};
+ghost use Rattle.state_model.specs.Net.{net};
+ghost use Rattle.state_model.specs.Put.{put};
 ghost use Rattle.state_model.specs.Sound.{IsWellFormed, Sound};
 ghost use Rattle.state_model.specs.Weight.{weight};
 ghost use Rattle.write_eval.specs.Write.{IsWrite};
 ghost use Rattle.engine_core.specs.Asked.{IsMeant};
-ghost use Rattle.engine_core.specs.Changed.{IsNet, changed};
 
 use crate::changes::{check_names, rows_left};
 use crate::kept::{bound, written};
@@ -143,9 +144,9 @@ fn weight_by_changes(
     changes: &[Change],
 ) -> Result<u64, Fail>
     requires sound { Sound version.now }
-    requires net { IsNet version.now changes.now }
+    requires net { changes.now ≡ net version.now (put version.now changes.now) }
     requires kept { IsWellFormed next.now }
-    requires next { next.now ≡ changed version.now changes.now }
+    requires next { next.now ≡ put version.now changes.now }
 {
     let before = weight(rt, version)?;
     assert!(rt; are_unlinked(version.schema(), changes));
@@ -165,9 +166,9 @@ fn check_next(
     case: &Case,
 ) -> Result<(), Fail>
     requires sound { Sound version.now }
-    requires net { IsNet version.now changes.now }
+    requires net { changes.now ≡ net version.now (put version.now changes.now) }
     requires kept { IsWellFormed next.now }
-    requires next { next.now ≡ changed version.now changes.now }
+    requires next { next.now ≡ put version.now changes.now }
 {
     let whole = weight_in(judged(rt.alloc(), next)?)?;
     assert_eq!(rt; whole, case.weighs);

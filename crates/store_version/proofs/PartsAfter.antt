@@ -13,11 +13,11 @@ use Rattle.own_base.specs.declared.value.Key.{Key}
 use Rattle.own_model.specs.declared.schema.TableDef.{TableDef}
 use Rattle.own_model.specs.Db.{Row, key_of}
 use Rattle.page_model.specs.Changed.{AreKeyed, with_changes}
-use Rattle.table_part.specs.Changes.{changed_key, row_after}
+use Rattle.state_model.specs.MayBePut.{IsPutIn}
+use Rattle.state_model.specs.Put.{changed_key, is_of_table, put_from, row_after, rows_put}
 use Rattle.table_part.specs.KeyIn.{key_in}
 use Rattle.table_part.specs.Part.{Part, rows_of}
 use Rattle.table_part.proofs.KeyLemmas.{key_in-table}
-use Rattle.txn_space.specs.Put.{IsChangeOf, is_of_table, put_from, rows_put}
 
 -- where all pass a test, none is filtered out; where none does, all are
 pub filter_all : {X : Type 0} (test : X → Bool) (xs : List X) → list_all test xs ≡ true → filter test xs ≡ xs
@@ -52,7 +52,7 @@ with_changes_in table key changes rows is =
     ap (λ (key_of : Row → Key). with_changes key_of key_cmp changed_key row_after changes rows) (keys_same table key is)
 
 -- the changes of a table put rows of their keys
-pub changes_keyed : (tables : List TableDef) (number : ℕ) (table : TableDef) (changes : List Change) → slice_get tables number ≡ Some table → AllByRecursion (IsChangeOf tables) changes
+pub changes_keyed : (tables : List TableDef) (number : ℕ) (table : TableDef) (changes : List Change) → slice_get tables number ≡ Some table → AllByRecursion (IsPutIn tables) changes
     → AreKeyed (key_of table) changed_key row_after (filter (is_of_table number) changes)
 changes_keyed tables number table [] at all = tt
 changes_keyed tables number table (change ∷ changes) at all = by (changes_keyed tables number table changes at all.1) (is_of_table number change) refl

@@ -1,11 +1,11 @@
 //! The parts of the tables of a next version.
-ghost use Rattle.std.specs.Prelude.{◌≡◌, ℕ, filter, map, IfOk};
-ghost use Rattle.std.specs.List.{AllByRecursion, list_all, list_any};
+ghost use Rattle.std.specs.Prelude.{◌≡◌, filter, map, IfOk};
+ghost use Rattle.std.specs.List.{list_all, list_any};
 ghost use Rattle.own_model.specs.Db.{key_of};
 ghost use Rattle.page_model.specs.Changed.{AreKeyed};
-ghost use Rattle.table_part.specs.Changes.{changed_key, row_after, KeysDiffer};
+ghost use Rattle.state_model.specs.MayBePut.{KeysDiffer, MayBePut};
+ghost use Rattle.state_model.specs.Put.{changed_key, is_of_table, put_rows, row_after, rows_put};
 ghost use Rattle.table_part.specs.Part.{rows_of};
-ghost use Rattle.txn_space.specs.Put.{IsChangeOf, is_of_table, put_rows, rows_put};
 ghost use Rattle.store_version.specs.Parts.{AreTheirParts};
 
 use annot_schema::Catalog;
@@ -73,8 +73,7 @@ pub(crate) fn parts_after(
     changes: &[Change],
 ) -> Result<Vec<TablePart>, AllocError>
     requires parts { AreTheirParts catalog.now.schema.tables parts.now }
-    requires theirs { AllByRecursion (IsChangeOf catalog.now.schema.tables) changes.now }
-    requires once { (number : ℕ) → KeysDiffer (filter (is_of_table number) changes.now) }
+    requires may { MayBePut catalog.now.schema.tables changes.now }
     ensures parts { IfOk result (λ after. AreTheirParts catalog.now.schema.tables after.items) }
     ensures rows { IfOk result (λ after. map rows_of after.items ≡ put_rows catalog.now.schema.tables changes.now (map rows_of parts.now)) }
 {

@@ -1,9 +1,8 @@
-ghost use Rattle.std.specs.Prelude.{◌≡◌, ◌<◌, ℕ, filter, length, IfOk};
-ghost use Rattle.std.specs.List.{AllByRecursion};
+ghost use Rattle.std.specs.Prelude.{◌≡◌, ◌<◌, length, IfOk};
 ghost use Rattle.own_model.specs.declared.limit.TheConstants.{VIEWS};
+ghost use Rattle.state_model.specs.MayBePut.{MayBePut};
+ghost use Rattle.state_model.specs.Put.{put};
 ghost use Rattle.annot_schema.specs.Created.{IsAdmissible};
-ghost use Rattle.table_part.specs.Changes.{KeysDiffer};
-ghost use Rattle.txn_space.specs.Put.{IsChangeOf, is_of_table, put_rows};
 ghost use Rattle.store_version.specs.Added.{db_viewed, db_with};
 
 use crate::after::{parts_after, parts_copied};
@@ -17,9 +16,8 @@ use table_part::TablePart;
 
 /// The version with changes of rows, which may come in any order. What each says was there before isn't looked at.
 pub fn prepare(alloc: Global, version: &Version, changes: &[Change]) -> Result<Next, AllocError>
-    requires theirs { AllByRecursion (IsChangeOf version.now.schema.tables) changes.now }
-    requires once { (number : ℕ) → KeysDiffer (filter (is_of_table number) changes.now) }
-    ensures { IfOk result (λ next. next ≡ record version.now { rows = put_rows version.now.schema.tables changes.now version.now.rows }) }
+    requires { MayBePut version.now.schema.tables changes.now }
+    ensures { IfOk result (λ next. next ≡ put version.now changes.now) }
 {
     let parts = parts_after(alloc, &version.catalog, &version.parts, changes)?;
     let catalog = Arc::try_clone(&version.catalog)?;

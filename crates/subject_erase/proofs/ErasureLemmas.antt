@@ -15,7 +15,7 @@ use Rattle.subject_model.specs.Forget.{left_of}
 use Rattle.subject_model.specs.Named.{NamedRow}
 use Rattle.subject_model.specs.Stays.{stays}
 use Rattle.subject_model.proofs.ForgetRows.{named_in}
-use Rattle.txn_space.specs.Put.{is_of_table}
+use Rattle.state_model.specs.Put.{is_of_table}
 use Rattle.subject_erase.specs.Erasures.{blanking, erased, erased_from, erased_in, erasures, loses_some, removal}
 
 -- what is made of each item has what it is made with

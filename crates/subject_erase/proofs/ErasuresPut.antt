@@ -16,20 +16,20 @@ use Rattle.page_model.specs.Changed.{AreKeyed, with_changes}
 use Rattle.page_model.specs.Found.{found}
 use Rattle.page_model.specs.Rising.{IsRising}
 use Rattle.page_model.proofs.ChangedLemmas.{filter_none, rising_with_changes}
+use Rattle.page_model.proofs.FoundChanged.{found_with_changes}
+use Rattle.page_model.proofs.InOrder.{rising_differ}
+use Rattle.page_model.proofs.SameFound.{same_found}
+use Rattle.state_model.specs.MayBePut.{IsPutIn, KeysDiffer, MayBePut}
+use Rattle.state_model.specs.Put.{changed_key, is_of_table, put, put_from, row_after, rows_put}
+use Rattle.state_model.proofs.Made.{found_made, rising_made}
 use Rattle.owner_sets.proofs.Searched.{rising_at}
 use Rattle.schema_model.specs.OwnerSchema.{IsOwnerSchema}
 use Rattle.subject_model.specs.Forget.{forget, left_from, left_in}
 use Rattle.subject_model.specs.Stays.{stays}
 use Rattle.subject_model.proofs.ForgetKeys.{key_left}
 use Rattle.subject_model.proofs.ForgetRows.{left_in-images, named_in, row_left, stays_in}
-use Rattle.table_part.specs.Changes.{KeysDiffer, changed_key, row_after}
-use Rattle.table_part.proofs.FoundChanged.{found_with_changes}
-use Rattle.table_part.proofs.InOrder.{rising_differ}
-use Rattle.table_part.proofs.SameFound.{same_found}
-use Rattle.txn_space.specs.Put.{IsChangeOf, is_of_table, put_from, rows_put}
 use Rattle.subject_erase.specs.Erasures.{blanking, erased, erased_in, erasures, loses_some, removal}
 use Rattle.subject_erase.proofs.ErasureLemmas.{each_erasure, each_made, erased-has, erasures_of, made_images}
-use Rattle.subject_erase.proofs.Made.{found_made, rising_made}
 use Rattle.subject_erase.proofs.RowsLeft.{left_of-kept}
 
 -- images of those that pass are made of those that pass
@@ -128,21 +128,24 @@ module _ (db : Db) (subject : RowName) (owner : IsOwnerSchema db.schema) where
       rw (here, others) refl
 
   -- what becomes of the rows, put into them, gives what is left
-  pub erasures-put : IsOrdered db → put_from 0 db.schema.tables (erasures db subject) db.rows ≡ (forget db subject).rows
-  unfolding forget
-  erasures-put ordered =
+  rows_left : IsOrdered db → put_from 0 db.schema.tables (erasures db subject) db.rows ≡ left_from db subject 0 db.schema.tables db.rows
+  rows_left ordered =
       put_tables 0 db.schema.tables db.rows ordered.rising
       (λ n table there. let m : n ≡ 0 + n = omega arith in ap (slice_get db.schema.tables) (sym m) ∙ there)
       (λ n. let m : n ≡ 0 + n = omega arith in ap (rows_at db.rows) m)
 
+  pub erasures-put : IsOrdered db → put db (erasures db subject) ≡ forget db subject
+  unfolding forget
+  erasures-put ordered = ap (λ rows. record db { rows = rows }) (rows_left ordered)
+
   -- each is a change of a table that is there, of its key
-  change_of : (number : ℕ) (table : TableDef) (row : Row) → slice_get db.schema.tables number ≡ Some table → IfSome (erased db subject table (named_in number table row)) (IsChangeOf db.schema.tables)
+  change_of : (number : ℕ) (table : TableDef) (row : Row) → slice_get db.schema.tables number ≡ Some table → IfSome (erased db subject table (named_in number table row)) (IsPutIn db.schema.tables)
   change_of number table row is =
-      erased-has db subject (IsChangeOf db.schema.tables) table (named_in number table row) (λ goes. rw is tt)
+      erased-has db subject (IsPutIn db.schema.tables) table (named_in number table row) (λ goes. rw is tt)
       (λ stay lose. rw is (key_left db subject table (named_in number table row) owner is))
 
-  pub erasures-theirs : AllByRecursion (IsChangeOf db.schema.tables) (erasures db subject)
-  erasures-theirs = each_erasure db subject (IsChangeOf db.schema.tables) (λ number table place row table_is row_is. change_of number table row table_is)
+  erasures-theirs : AllByRecursion (IsPutIn db.schema.tables) (erasures db subject)
+  erasures-theirs = each_erasure db subject (IsPutIn db.schema.tables) (λ number table place row table_is row_is. change_of number table row table_is)
 
   -- of a table that isn't there there is none
   none_of : (number : ℕ) → slice_get db.schema.tables number ≡ None → filter (is_of_table number) (erasures db subject) ≡ []
@@ -162,5 +165,5 @@ module _ (db : Db) (subject : RowName) (owner : IsOwnerSchema db.schema) where
       (table_once db subject owner number table is (rows_at db.rows number) (rising_at db.schema.tables db.rows number table ordered.rising is))
 
   -- and in no table a key stands twice
-  pub erasures-once : IsOrdered db → (number : ℕ) → KeysDiffer (filter (is_of_table number) (erasures db subject))
-  erasures-once ordered number = once_of ordered number (slice_get db.schema.tables number) refl
+  pub erasures-may : IsOrdered db → MayBePut db.schema.tables (erasures db subject)
+  erasures-may ordered = record { theirs = erasures-theirs; once = λ number. once_of ordered number (slice_get db.schema.tables number) refl }

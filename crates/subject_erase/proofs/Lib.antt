@@ -10,7 +10,6 @@ pub mod ClaimedOrder
 pub mod StayMarks
 pub mod NumberedSteps
 pub mod LoseLemmas
-pub mod Made
 pub mod ErasureLemmas
 pub mod RowsLeft
 pub mod ErasuresPut

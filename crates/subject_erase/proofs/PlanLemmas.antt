@@ -18,8 +18,9 @@ use Rattle.subject_model.specs.Forget.{changed, forget, is_changed, left_of, rem
 use Rattle.subject_model.specs.Named.{NamedRow, rows_from, rows_in}
 use Rattle.subject_model.specs.Stays.{stays}
 use Rattle.subject_model.proofs.ForgetRows.{left_named, named_in, row_of-forget}
+use Rattle.state_model.specs.ChangeOf.{IsChangeOf}
 use Rattle.subject_erase.specs.Erasures.{blanking, erased, erased_from, erased_in, erasures, loses_some, removal}
-use Rattle.subject_erase.specs.Plan.{IsLoss, IsPlan, leaves_row, plan_of}
+use Rattle.subject_erase.specs.Plan.{IsPlan, leaves_row, plan_of}
 use Rattle.subject_erase.proofs.ErasureLemmas.{each_erasure, erased-has}
 use Rattle.subject_erase.proofs.RowsLeft.{left_of-lost}
 
@@ -126,26 +127,25 @@ module _ (db : Db) (subject : RowName) where
 
   module _ (ordered : IsOrdered db) (owner : IsOwnerSchema db.schema) where
     loss_of : (number : ℕ) (table : TableDef) (place : ℕ) (row : Row) → slice_get db.schema.tables number ≡ Some table → slice_get (rows_at db.rows number) place ≡ Some row
-        → IfSome (erased db subject table (named_in number table row)) (λ change. leaves_row change ≡ true → IsLoss db subject change)
+        → IfSome (erased db subject table (named_in number table row)) (λ change. leaves_row change ≡ true → IsChangeOf db (forget db subject) change)
     loss_of number table place row table_is row_is =
         let named : NamedRow = named_in number table row in
         let of : TableNo = record { 0 = number } in
         let was : row_of db named.name ≡ Some row = row_of-standing db named.name place ordered (standing_at db of place table row table_is row_is) in
-        erased-has db subject (λ change. leaves_row change ≡ true → IsLoss db subject change) table named (λ goes left. let never : false ≡ true = left in cc)
+        erased-has db subject (λ change. leaves_row change ≡ true → IsChangeOf db (forget db subject) change) table named (λ goes left. let never : false ≡ true = left in cc)
         (λ stay lose left.
         let left_is : row_of (forget db subject) named.name ≡ Some (left_of db subject table named) =
         row_of-forget db subject named.name table owner table_is ∙ (ap (option_and_then (left_named db subject table named.name)) was ∙ rw stay refl) in
         record {
-          was = sym was;
-          is = sym left_is;
+          tells = record { was = sym was; is = sym left_is };
           differ = λ same. left_of-lost db subject table named lose (same_row row (left_of db subject table named) same);
         })
       where
         same_row : (one other : Row) → ◌≡◌ {A = Option Row} (Some one) (Some other) → one ≡ other
         same_row one other same = cc
 
-    losses : AllByRecursion (IsLoss db subject) (filter leaves_row (erasures db subject))
-    losses = each_passing (IsLoss db subject) leaves_row (erasures db subject) (each_erasure db subject (λ change. leaves_row change ≡ true → IsLoss db subject change) loss_of)
+    losses : AllByRecursion (IsChangeOf db (forget db subject)) (filter leaves_row (erasures db subject))
+    losses = each_passing (IsChangeOf db (forget db subject)) leaves_row (erasures db subject) (each_erasure db subject (λ change. leaves_row change ≡ true → IsChangeOf db (forget db subject) change) loss_of)
 
     -- so what becomes of the rows is the plan
     pub erasures-plan : IsPlan db subject (plan_of (erasures db subject))

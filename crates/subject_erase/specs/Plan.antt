@@ -1,11 +1,11 @@
 -- What a subject's erasure removes and changes.
-use Rattle.std.specs.Prelude.{◌≡◌, ◌≢◌, List, [], ◌∷◌, ◌++◌, Bool, not, filter, is_some, map, if◌then◌else◌}
+use Rattle.std.specs.Prelude.{◌≡◌, List, [], ◌∷◌, ◌++◌, Bool, not, filter, is_some, map, if◌then◌else◌}
 use Rattle.std.specs.List.{AllByRecursion}
 use Rattle.own_base.specs.declared.change.Change.{Change}
 use Rattle.own_base.specs.declared.row_name.RowName.{RowName}
 use Rattle.own_model.specs.Db.{Db}
-use Rattle.owner_model.specs.Joins.{row_of}
 use Rattle.subject_model.specs.Forget.{changed, forget, removed}
+use Rattle.state_model.specs.ChangeOf.{IsChangeOf}
 use Rattle.subject_erase.specs.declared.plan.ErasePlan.{ErasePlan}
 
 -- a change that leaves a row
@@ -22,14 +22,9 @@ plan_with plan change =
     if leaves_row change then record plan { changed = plan.changed ++ change ∷ [] }
     else record plan { removed = plan.removed ++ change.name ∷ [] }
 
--- a row as it is and as the erasure leaves it, which differ
-pub record IsLoss (db : Db) (subject : RowName) (change : Change) : Type 0 where
-  pub was : change.before ≡ row_of db change.name
-  pub is : change.after ≡ row_of (forget db subject) change.name
-  pub differ : change.before ≢ change.after
-
--- the rows that don't stay, and those that stay with a changed value, both by table, then key
+-- the rows that don't stay, and those that stay with a changed value, both by table, then key; of these each change tells the row
+-- as it is and as the erasure leaves it
 pub record IsPlan (db : Db) (subject : RowName) (plan : ErasePlan) : Type 0 where
   pub removed : plan.removed ≡ removed db subject
   pub changed : map (λ change. change.name) plan.changed ≡ changed db subject
-  pub each : AllByRecursion (IsLoss db subject) plan.changed
+  pub each : AllByRecursion (IsChangeOf db (forget db subject)) plan.changed

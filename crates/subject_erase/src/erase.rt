@@ -1,7 +1,8 @@
-ghost use Rattle.std.specs.Prelude.{ℕ, ◌≡◌, ◌∷◌, ◌++◌, IfOk, IsTrue, OnOk, Some, filter, length, slice_get};
-ghost use Rattle.std.specs.List.{AllByRecursion};
+ghost use Rattle.std.specs.Prelude.{◌≡◌, ◌++◌, IfOk, IsTrue, OnOk, Some, length, slice_get};
 ghost use Rattle.std.specs.Option.{option_and_then, option_to_list};
 ghost use Rattle.own_model.specs.Stored.{rows_at};
+ghost use Rattle.state_model.specs.MayBePut.{MayBePut};
+ghost use Rattle.state_model.specs.Put.{put};
 ghost use Rattle.owner_graph.specs.Graph.{IsGraphOf};
 ghost use Rattle.schema_model.specs.OwnerSchema.{ColumnsRefer, IsOwnerSchema};
 ghost use Rattle.schema_model.specs.Tables.{is_subject};
@@ -11,8 +12,6 @@ ghost use Rattle.subject_erase.specs.Erasures as spec;
 ghost use Rattle.subject_erase.specs.Losing.{erased_at, erased_by, erased_rows, erased_table, left_by, named_at};
 ghost use Rattle.subject_erase.specs.Plan.{IsPlan, plan_of};
 ghost use Rattle.subject_model.specs.Forget.{forget};
-ghost use Rattle.table_part.specs.Changes.{KeysDiffer};
-ghost use Rattle.txn_space.specs.Put.{IsChangeOf, is_of_table, put_rows};
 
 use crate::flags::flag_at;
 use crate::losing::{loses_some, row_left};
@@ -168,8 +167,7 @@ fn erased_rows<V: StoreView>(
 }
 
 /// The changes by which a subject is erased, by table, then key: each row that doesn't stay goes, and of each that stays and
-/// loses a value the rest is left. Made in the view's rows, they give the rows that are left. The graph is that of the view's
-/// edges.
+/// loses a value the rest is left. The graph is that of the view's edges.
 pub fn erase_changes<V: StoreView>(
     alloc: Global,
     view: &V,
@@ -181,9 +179,8 @@ pub fn erase_changes<V: StoreView>(
     requires rows { AreRowsOf (V.db view.now).schema.tables (V.db view.now).rows }
     requires subject { IsTrue (is_subject (V.db view.now).schema subject.now.0.table.0) }
     requires graph { IsGraphOf (length (V.db view.now).schema.tables) (V.db view.now).schema.edges graph.now }
-    ensures applied { IfOk result (λ changes. put_rows (V.db view.now).schema.tables changes (V.db view.now).rows ≡ (forget (V.db view.now) subject.now.0).rows) }
-    ensures theirs { IfOk result (λ changes. AllByRecursion (IsChangeOf (V.db view.now).schema.tables) changes) }
-    ensures once { IfOk result (λ changes. (number : ℕ) → KeysDiffer (filter (is_of_table number) changes)) }
+    ensures may { IfOk result (MayBePut (V.db view.now).schema.tables) }
+    ensures put { IfOk result (λ changes. put (V.db view.now) changes ≡ forget (V.db view.now) subject.now.0) }
     ensures plan { IfOk result (λ changes. IsPlan (V.db view.now) subject.now.0 (plan_of changes)) }
 {
     let sets = OwnerSets::of(alloc, view, graph)?;

@@ -16,9 +16,9 @@ use Rattle.page_model.specs.PageOf.{page_of}
 use Rattle.page_model.specs.Rising.{IsRising}
 use Rattle.page_model.proofs.ChangedLemmas.{rising_with_changes}
 use Rattle.page_model.proofs.RisingLemmas.{each_map}
-use Rattle.table_part.proofs.FoundChanged.{found_with_changes}
-use Rattle.table_part.proofs.InOrder.{found_permuted, rising_differ}
-use Rattle.table_part.proofs.SameFound.{same_found}
+use Rattle.page_model.proofs.FoundChanged.{found_with_changes}
+use Rattle.page_model.proofs.InOrder.{found_permuted, rising_differ}
+use Rattle.page_model.proofs.SameFound.{same_found}
 
 -- what holds of each holds of each in another order
 pub each_permuted : {X : Type 0} (P : X → Type 0) (xs ys : List X) → IsPermutation xs ys → Each P xs → Each P ys

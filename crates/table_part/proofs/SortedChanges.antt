@@ -9,11 +9,12 @@ use Rattle.std.proofs.lemmas.List.Sorted.{ranks_by}
 use Rattle.own_base.specs.Key.{key_cmp}
 use Rattle.own_model.proofs.KeyOrder.{key_order}
 use Rattle.page_model.specs.Rising.{IsRising}
-use Rattle.table_part.specs.Changes.{KeysDiffer, changed_key}
+use Rattle.page_model.proofs.InOrder.{rising_sorted}
+use Rattle.state_model.specs.MayBePut.{KeysDiffer}
+use Rattle.state_model.specs.Put.{changed_key}
 use Rattle.table_part.specs.Lent.{lent}
 use Rattle.table_part.specs.declared.keyed_change.KeyedChange.{KeyedChange}
 use Rattle.table_part.proofs.AnyOrder.{map_twice}
-use Rattle.table_part.proofs.InOrder.{rising_sorted}
 
 -- they rise where their keys differ
 pub rising_by_key : {F : Type 0} {g : Mut F (Bor KeyedChange × (Bor KeyedChange × Unit {0})) Ordering} {f : F} (given sorted : List KeyedChange)

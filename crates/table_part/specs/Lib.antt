@@ -1,4 +1,3 @@
-pub mod Changes
 pub mod KeyIn
 pub mod Lent
 pub mod Part

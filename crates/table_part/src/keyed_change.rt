@@ -2,7 +2,8 @@ ghost use Rattle.std.specs.Prelude.{map, IfOk};
 ghost use Rattle.std.specs.List.Sorted.{IsPermutation};
 ghost use Rattle.own_base.specs.Key.{key_cmp};
 ghost use Rattle.page_model.specs.Rising.{IsRising};
-ghost use Rattle.table_part.specs.Changes.{KeysDiffer, changed_key};
+ghost use Rattle.state_model.specs.MayBePut.{KeysDiffer};
+ghost use Rattle.state_model.specs.Put.{changed_key};
 ghost use Rattle.table_part.specs.Lent.{lent};
 
 use own_base::{Change, Key, Row};

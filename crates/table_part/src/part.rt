@@ -7,7 +7,8 @@ ghost use Rattle.page_model.specs.Found.{found};
 ghost use Rattle.page_model.specs.Kept.{KeepsPages};
 ghost use Rattle.page_model.specs.Page.{ArePages, IsPage};
 ghost use Rattle.page_model.specs.Rising.{IsRising};
-ghost use Rattle.table_part.specs.Changes.{changed_key, row_after, KeysDiffer};
+ghost use Rattle.state_model.specs.MayBePut.{KeysDiffer};
+ghost use Rattle.state_model.specs.Put.{changed_key, row_after};
 ghost use Rattle.table_part.specs.KeyIn.{key_in};
 ghost use Rattle.table_part.specs.Lent.{lent};
 ghost use Rattle.table_part.specs.Part.{rows_of};
@@ -106,7 +107,7 @@ impl TablePart {
     /// The rows with changes, which may come in any order. Only the key of a change and the row `after` it are looked
     /// at: not the table of its name, nor the row `before`. This part stays as it is. `AllocError` comes where memory is
     /// refused, or there are more rows than can be counted.
-    #[tactic(auto, using(crate::proofs::InOrder::few_rise))]
+    #[tactic(auto, using(page_model::proofs::InOrder::few_rise))]
     pub fn with_changes(&self, alloc: Global, changes: &[Change]) -> Result<TablePart, AllocError>
         requires differ { KeysDiffer changes.now }
         requires keyed { AreKeyed (key_in self.now.key) changed_key row_after changes.now }

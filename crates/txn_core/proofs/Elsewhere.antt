@@ -17,12 +17,12 @@ use Rattle.own_model.specs.Stored.{has_key, row_named, rows_at}
 use Rattle.own_model.proofs.KeyOrder.{key_order}
 use Rattle.owner_model.specs.Joins.{row_of}
 use Rattle.page_model.specs.Found.{found}
+use Rattle.page_model.proofs.SameFound.{same_found}
 use Rattle.query_model.specs.Footprints.{item}
+use Rattle.state_model.specs.Sound.{IsWellFormed}
 use Rattle.run_model.specs.Agree.{Agree, AgreeOn, overlaps}
 use Rattle.run_model.specs.Items.{items_of_all}
-use Rattle.state_model.specs.Sound.{IsWellFormed}
 use Rattle.subject_model.proofs.NamedLemmas.{one_key}
-use Rattle.table_part.proofs.SameFound.{same_found}
 use Rattle.txn_space.specs.declared.entry.Entry.{Entry}
 use Rattle.txn_space.specs.Changed.{changed_rows}
 use Rattle.txn_space.specs.Entries.{entries_at, entry_key, entry_row}

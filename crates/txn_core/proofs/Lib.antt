@@ -9,7 +9,6 @@ mod NetTo
 mod NoMemory
 pub mod OpenBlocks
 pub mod OrderedWrites
-pub mod PutLeads
 mod Quiet
 pub mod Runs
 pub mod SoundBases

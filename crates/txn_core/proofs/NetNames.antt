@@ -17,10 +17,8 @@ use Rattle.state_model.specs.Net.{change_at, keys_in, net, net_from, net_in}
 use Rattle.state_model.specs.Same.{is_same_row, is_same_state, is_same_value}
 use Rattle.txn_space.specs.declared.entry.Entry.{Entry}
 use Rattle.txn_space.specs.Changed.{changed_db, changed_rows}
-use Rattle.txn_space.specs.Put.{put_from}
 use Rattle.txn_space.specs.Sound.{IsBase}
 use Rattle.txn_space.proofs.OverLemmas.{next, same}
-use Rattle.txn_core.specs.Single.{IsNetTo}
 use Rattle.txn_core.proofs.NetTo.{changed_none}
 
 -- a row that is there or not is the same as itself
@@ -110,7 +108,7 @@ net_others before after schema =
     let own : IsOfOther before after (changed place key was is) = rw (first, second) others in
     subst (λ n. IsOfOther before after (changed n key was is)) (sym here) own)
 
--- Nothing is made of rows by no change, and their net is none.
+-- The net of rows that are the same is none.
 none_given : {X Y : Type 0} (give : X → Option Y) → ((x : X) → give x ≡ None) → (xs : List X) → filter_map give xs ≡ []
 none_given give none [] = refl
 none_given give none (x ∷ xs) = rw (none x) (none_given give none xs)
@@ -124,25 +122,12 @@ net_from-same number [] rows = refl
 net_from-same number (table ∷ tables) [] = refl
 net_from-same number (table ∷ tables) (one ∷ rows) = rw (net_in-same number table one) (net_from-same (number + 1) tables rows)
 
-put_none : (number : ℕ) (tables : List TableDef) (rows : List (List Row)) → AreRising tables rows → put_from number tables [] rows ≡ rows
-unfolding put_from with_changes
-put_none number [] [] rising = refl
-put_none number [] (one ∷ rows) rising = absurd rising
-put_none number (table ∷ tables) [] rising = absurd rising
-put_none number (table ∷ tables) (one ∷ rows) rising = ap (λ rest. one ∷ rest) (put_none (number + 1) tables rows rising.1)
-
-pub no_net : (db : Db) → AreRising db.schema.tables db.rows → IsNetTo db db []
-unfolding net IsDistinct
-no_net db rising = record {
-  is_net = sym (net_from-same 0 db.schema.tables db.rows);
-  made = put_none 0 db.schema.tables db.rows rising;
-  theirs = tt;
-  once = λ number. tt;
-}
+no_net : (db : Db) → [] ≡ net db db
+unfolding net
+no_net db = sym (net_from-same 0 db.schema.tables db.rows)
 
 -- so it is where nothing was changed
-pub net_unchanged : (db : Db) (space : List (List Entry)) (changes : List Change) → IsBase db.schema.tables db.rows → space ≡ [] → changes ≡ [] → IsNetTo db (changed_db db space) changes
+pub net_unchanged : (db : Db) (space : List (List Entry)) (changes : List Change) → IsBase db.schema.tables db.rows → space ≡ [] → changes ≡ [] → changes ≡ net db (changed_db db space)
 net_unchanged db space changes base none empty =
     let same : changed_rows db.schema.tables db.rows space ≡ db.rows = ap (changed_rows db.schema.tables db.rows) none ∙ changed_none 0 db.schema.tables db.rows base.rising in
-    subst (λ changes. IsNetTo db (changed_db db space) changes) (sym empty)
-    (subst (λ rows. IsNetTo db (record db { rows = rows }) []) (sym same) (no_net db base.rising))
+    empty ∙ (no_net db ∙ ap (λ rows. net db (record db { rows = rows })) (sym same))

@@ -1,6 +1,6 @@
 -- From what a write comes to, to the net of it.
-use Rattle.std.proofs.Common.{◌≡◌, ◌∙◌, ℕ, ◌+◌, List, [], ◌∷◌, Result, Ok, Err, ap, refl, subst}
-use Rattle.std.specs.Prelude.{IfOk, filter}
+use Rattle.std.proofs.Common.{◌≡◌, ◌∙◌, ℕ, ◌+◌, List, [], ◌∷◌, ap, refl}
+use Rattle.std.specs.Prelude.{Some, slice_get}
 use Rattle.std.specs.List.{AllByRecursion as Each}
 use Rattle.own_base.specs.declared.change.Change.{Change}
 use Rattle.own_model.specs.declared.bound.Bound.{Bound}
@@ -8,21 +8,25 @@ use Rattle.own_model.specs.declared.bound.Bound.TheVariants.{Delete, Explain, Fo
 use Rattle.own_model.specs.declared.reply.Reply.TheVariants.{Counted}
 use Rattle.own_model.specs.declared.schema.Schema.{Schema}
 use Rattle.own_model.specs.declared.schema.TableDef.{TableDef}
+use Rattle.own_base.specs.declared.number.TableNo.{TableNo}
 use Rattle.own_model.specs.Db.{AreRising, Db, IsOrdered, Row}
+use Rattle.own_model.specs.Stored.{row_named}
 use Rattle.page_model.specs.Changed.{with_changes}
+use Rattle.state_model.specs.ChangeOf.{TellsRows}
+use Rattle.state_model.specs.MayBePut.{IsPutIn}
+use Rattle.state_model.specs.Net.{net}
+use Rattle.state_model.specs.Put.{put, put_rows}
+use Rattle.state_model.proofs.PutLeads.{put_leads}
+use Rattle.state_model.proofs.PutRows.{put_in}
 use Rattle.run_model.specs.Run.{run_bound}
 use Rattle.run_model.proofs.SameSchema.{same_schema-bound}
-use Rattle.state_model.specs.Net.{net}
-use Rattle.table_part.specs.Changes.{KeysDiffer}
 use Rattle.txn_space.specs.Changed.{changed_from}
-use Rattle.txn_space.specs.Put.{IsChangeOf, is_of_table, put_rows}
 use Rattle.txn_space.proofs.OverLemmas.{table_there}
 use Rattle.write_eval.specs.declared.written.Written.{Written}
 use Rattle.write_eval.specs.Write.{IsThere, IsWrite, table_of}
 use Rattle.write_eval.specs.Writes.{Writes}
-use Rattle.txn_core.specs.Single.{IsNetTo, NetTo}
+use Rattle.txn_core.specs.Single.{NetTo}
 use Rattle.txn_core.proofs.OrderedWrites.{ordered-write}
-use Rattle.txn_core.proofs.PutLeads.{leads_theirs, put_leads}
 
 -- no entry changes nothing
 pub changed_none : (number : ℕ) (tables : List TableDef) (rows : List (List Row)) → AreRising tables rows → changed_from number tables rows [] ≡ rows
@@ -31,21 +35,6 @@ changed_none number [] [] rising = refl
 changed_none number [] (one ∷ rows) rising = absurd rising
 changed_none number (table ∷ tables) [] rising = absurd rising
 changed_none number (table ∷ tables) (one ∷ rows) rising = ap (λ rest. one ∷ rest) (changed_none (number + 1) tables rows rising.1)
-
--- what is said of the changes of a space, said of what it was put
-pub net_to : {E : Type 0} (db : Db) (after put : List (List Row)) (result : Result (List Change) E) → after ≡ put
-    → IfOk result (λ changes. changes ≡ net db (record db { rows = after }))
-    → IfOk result (λ changes. put_rows db.schema.tables changes db.rows ≡ after)
-    → IfOk result (λ changes. Each (IsChangeOf db.schema.tables) changes)
-    → IfOk result (λ changes. (number : ℕ) → KeysDiffer (filter (is_of_table number) changes))
-    → IfOk result (IsNetTo db (record db { rows = put }))
-net_to db after put (Err e) same is_net made theirs once = tt
-net_to db after put (Ok changes) same is_net made theirs once = record {
-  is_net = is_net ∙ ap (λ rows. net db (record db { rows = rows })) same;
-  made = made ∙ same;
-  theirs = theirs;
-  once = once;
-}
 
 -- the table of a write is there
 write_there : (schema : Schema) (bound : Bound) → IsWrite schema bound → IsThere schema (table_of bound)
@@ -65,32 +54,29 @@ module _ (db : Db) (bound : Bound) (rising : AreRising db.schema.tables db.rows)
   same : left.schema ≡ db.schema
   same = (same_schema-bound db bound).schema
 
-  left_rising : AreRising db.schema.tables left.rows
-  left_rising =
-      let ordered : IsOrdered db = record { rising = rising } in
-      let after : IsOrdered left = ordered-write db bound ordered write in
-      subst (λ (schema : Schema). AreRising schema.tables left.rows) same after.rising
+  ordered : IsOrdered db
+  ordered = record { rising = rising }
 
-  -- its changes, made in the rows, give those that it leaves
-  pub writes_made : put_rows db.schema.tables written.changes db.rows ≡ left.rows
-  writes_made = put_leads db.schema db.rows left.rows (table_of bound) written.changes rising left_rising writes.changes
+  -- its changes, put into the rows, give those that it leaves
+  writes_made : put_rows db.schema.tables written.changes db.rows ≡ left.rows
+  writes_made = put_leads db left same written.changes ordered (ordered-write db bound ordered write) writes.leads
 
-  pub writes_theirs : Each (IsChangeOf db.schema.tables) written.changes
+  -- each is of the table that is there
+  theirs : (table : TableDef) → slice_get db.schema.tables (table_of bound).0 ≡ Some table → (changes : List Change) → Each (λ change. change.name.table ≡ table_of bound) changes
+      → Each (TellsRows db left) changes → Each (IsPutIn db.schema.tables) changes
+  theirs table at [] of tells = tt
+  theirs table at (change ∷ changes) of tells =
+      let here : slice_get db.schema.tables change.name.table.0 ≡ Some table = ap (λ (number : TableNo). slice_get db.schema.tables number.0) of.0 ∙ at in (
+        put_in db.schema left.rows table change here (tells.0.is ∙ ap (λ (schema : Schema). row_named schema left.rows change.name) same),
+        theirs table at changes of.1 tells.1,
+      )
+
+  pub writes_theirs : Each (IsPutIn db.schema.tables) written.changes
   writes_theirs =
       let there = table_there db.schema.tables (table_of bound).0 (write_there db.schema bound write) in
-      leads_theirs db.schema db.rows left.rows (table_of bound) written.changes there.0 there.1 written.changes writes.changes.each
+      theirs there.0 there.1 written.changes writes.of writes.leads.each
 
   -- so their net is that of the write
-  pub writes_net : (changes : List Change) → IsNetTo db (record db { rows = put_rows db.schema.tables written.changes db.rows }) changes
-      → NetTo db (run_bound db bound) (Counted written.count) changes
+  pub writes_net : (changes : List Change) → changes ≡ net db (put db written.changes) → NetTo db (run_bound db bound) (Counted written.count) changes
   unfolding net
-  writes_net changes leads = record {
-    told = writes.reply;
-    schema = same;
-    leads = record {
-      is_net = leads.is_net ∙ rw (writes_made, same) refl;
-      made = leads.made ∙ writes_made;
-      theirs = leads.theirs;
-      once = leads.once;
-    };
-  }
+  writes_net changes is = record { told = writes.reply; schema = same; is_net = is ∙ rw (writes_made, same) refl }

@@ -7,11 +7,13 @@ use Rattle.own_model.specs.declared.bound.Bound.{Bound}
 use Rattle.own_model.specs.declared.history.Entry.{Entry as Event}
 use Rattle.own_model.specs.declared.reply.Reply.{Reply}
 use Rattle.own_model.specs.declared.schema.Schema.{Schema}
-use Rattle.own_model.specs.Db.{Db}
+use Rattle.own_model.specs.Db.{Db, IsOrdered}
 use Rattle.query_model.specs.BoundStatement.{bound_statement}
 use Rattle.state_model.specs.Net.{net, net_from}
+use Rattle.state_model.specs.Put.{put}
 use Rattle.state_model.specs.Rows.{AreRowsOf}
 use Rattle.state_model.specs.Sound.{Sound}
+use Rattle.state_model.proofs.NetLeads.{net_put}
 use Rattle.run_model.specs.Agree.{Agree}
 use Rattle.run_model.specs.Items.{TakesRows, items_of_all}
 use Rattle.run_model.specs.Run.{run}
@@ -24,9 +26,7 @@ use Rattle.history_model.proofs.EveryHistory.{held-history, serial-world}
 use Rattle.history_model.proofs.Worlds.{IsOpenBlock, held-open, open-block}
 use Rattle.txn_space.specs.declared.entry.Entry.{Entry}
 use Rattle.txn_space.specs.Changed.{changed_db, changed_rows}
-use Rattle.txn_space.specs.Put.{put_rows}
 use Rattle.txn_core.specs.Runs.{HasRun}
-use Rattle.txn_core.specs.Single.{IsNetTo}
 use Rattle.txn_core.specs.RepresentsBlock.{RepresentsBlock}
 use Rattle.txn_core.proofs.Elsewhere.{represents_there}
 use Rattle.txn_core.proofs.SoundBases.{base-sound}
@@ -77,17 +77,22 @@ module _ (base : Db) (history : History) (sound : Sound base) (entered : IsHisto
         (subst (λ (schema : Schema). AreRowsOf schema.tables (after_block (flat base history) block).rows) schema_left
         (kept-block (length history) (flat base history) block sound_flat.kept own.stated).rows)
 
+    net_same : net (flat base history) (changed_db (flat base history) space) ≡ net (flat base history) (after_block (flat base history) block)
+    unfolding net
+    net_same =
+        ap (λ rows. net_from 0 (flat base history).schema.tables (flat base history).rows rows) stands.rows
+        ∙ ap (λ (schema : Schema). net_from 0 schema.tables (flat base history).rows (after_block (flat base history) block).rows) (sym schema_left)
+
+    left_ordered : IsOrdered (after_block (flat base history) block)
+    left_ordered = (kept-block (length history) (flat base history) block sound_flat.kept own.stated).ordered
+
     -- and their net is that of the block
     pub net_block : (changes : List Change)
-        → IsNetTo (flat base history) (changed_db (flat base history) space) changes
-        → (changes ≡ net (flat base history) (after_block (flat base history) block)) × (put_rows (flat base history).schema.tables changes (flat base history).rows ≡ (after_block (flat base history) block).rows)
-    unfolding net
-    net_block changes is = (
-      is.is_net
-          ∙ (ap (λ rows. net_from 0 (flat base history).schema.tables (flat base history).rows rows) stands.rows
-          ∙ ap (λ (schema : Schema). net_from 0 schema.tables (flat base history).rows (after_block (flat base history) block).rows) (sym schema_left)),
-      is.made ∙ stands.rows,
-    )
+        → changes ≡ net (flat base history) (changed_db (flat base history) space)
+        → (changes ≡ net (flat base history) (after_block (flat base history) block)) × ((put (flat base history) changes).rows ≡ (after_block (flat base history) block).rows)
+    net_block changes is =
+        let all = is ∙ net_same in
+        (all, ap (λ changes. (put (flat base history) changes).rows) all ∙ net_put (flat base history) (after_block (flat base history) block) sound_flat.kept.ordered left_ordered schema_left)
 
 -- so behind each entry that leaves the transaction open
 pub represents_behind : (base : Db) (history : History) (event : Event) (session begun : ℕ) (block : Block) (space : List (List Entry)) → Sound base → IsHistory history → IsEntry event

@@ -16,15 +16,23 @@ use Rattle.own_model.specs.declared.reply.Reply.{Reply}
 use Rattle.own_model.specs.declared.reply.Reply.TheVariants.{Refused}
 use Rattle.own_model.specs.declared.schema.Schema.{Schema}
 use Rattle.own_model.specs.declared.schema.TableDef.{TableDef}
-use Rattle.own_model.specs.Db.{AreRising, Db, Row, key_of}
+use Rattle.own_model.specs.Db.{AreRising, Db, IsOrdered, Row, key_of}
 use Rattle.own_model.specs.Stored.{is_equal, rows_at}
 use Rattle.own_model.proofs.KeyOrder.{key_order}
 use Rattle.owner_model.specs.Joins.{row_of}
 use Rattle.page_model.specs.Changed.{AreKeyed}
 use Rattle.page_model.specs.Found.{found}
 use Rattle.page_model.proofs.ChangedLemmas.{length_with_changes}
+use Rattle.page_model.proofs.FoundChanged.{found_with_changes}
+use Rattle.page_model.proofs.InOrder.{is_of}
 use Rattle.query_model.specs.Footprints.{footprint_of, item}
 use Rattle.query_model.specs.Query.{query_rows, reply_of}
+use Rattle.state_model.specs.MayBePut.{IsPutIn, KeysDiffer, MayBePut}
+use Rattle.state_model.specs.Put.{changed_key, is_of_table, put_rows}
+use Rattle.state_model.specs.Rows.{AreRowsOf}
+use Rattle.state_model.specs.Same.{is_same_state}
+use Rattle.state_model.proofs.NetLeads.{net_may, net_put}
+use Rattle.state_model.proofs.PutRows.{equal_is}
 use Rattle.query_eval.specs.Tables.{AreTables}
 use Rattle.run_model.specs.Agree.{AgreeOn, overlaps}
 use Rattle.run_model.specs.Run.{run_bound}
@@ -32,17 +40,11 @@ use Rattle.run_model.proofs.BoundFootprints.{IsFootprinted, still-run_bound}
 use Rattle.run_model.proofs.FoundRows.{found_has}
 use Rattle.run_model.proofs.Refusals.{refused-bound}
 use Rattle.run_model.proofs.TableRows.{AreInPlace, no_rows}
-use Rattle.state_model.specs.Rows.{AreRowsOf}
-use Rattle.state_model.specs.Same.{is_same_state}
 use Rattle.subject_model.proofs.NamedLemmas.{one_name}
-use Rattle.table_part.specs.Changes.{KeysDiffer, changed_key}
-use Rattle.table_part.proofs.FoundChanged.{found_with_changes}
-use Rattle.table_part.proofs.InOrder.{is_of}
 use Rattle.txn_space.specs.declared.entry.Entry.{Entry}
 use Rattle.txn_space.specs.Changed.{changed_db, changed_rows, rows_with}
 use Rattle.txn_space.specs.Entries.{entries_at, entry_key, entry_of, entry_row}
 use Rattle.txn_space.specs.HasPut.{entries_put}
-use Rattle.txn_space.specs.Put.{is_of_table, put_rows}
 use Rattle.txn_space.specs.Sound.{IsBase, IsSpaceOf}
 use Rattle.txn_space.proofs.OverLemmas.{changed_rise, rows_of_table}
 use Rattle.write_eval.specs.Write.{IsWrite}
@@ -50,8 +52,7 @@ use Rattle.write_eval.proofs.Kept.{each_passing}
 use Rattle.txn_core.specs.Runs.{HasRun, IsRowStatement, IsSelect, IsStore, is_entered, is_written}
 use Rattle.txn_core.specs.Single.{NetTo}
 use Rattle.txn_core.proofs.NetNames.{IsOfOther, net_others, same_state}
-use Rattle.txn_core.proofs.OrderedWrites.{keyless_sets}
-use Rattle.txn_core.proofs.PutLeads.{equal_is}
+use Rattle.txn_core.proofs.OrderedWrites.{keyless_sets, ordered-write}
 use Rattle.txn_core.proofs.StoredRows.{all_stored}
 
 -- rows that transactions may stand on, as one of them changed them
@@ -172,6 +173,26 @@ module _ (db : Db) (space : List (List Entry)) (store : IsStore db) (sound : IsS
   row_write (Forget subject) write = absurd write
   row_write Explain write = absurd write
 
+  -- The net of a write may be put, and gives what the write leaves.
+  module _ (bound : Bound) (reply : Reply) (changes : List Change) (write : IsWrite db.schema bound) (net : NetTo seen (run_bound seen bound) reply changes) where
+    abbrev left : Db
+    left = (run_bound seen bound).db
+
+    after : IsOrdered left
+    after = ordered-write seen bound place.ordered write
+
+    net_may_be : MayBePut db.schema.tables changes
+    net_may_be = subst (MayBePut db.schema.tables) (sym net.is_net) (net_may seen left place.ordered after net.schema)
+
+    pub net_theirs : Each (IsPutIn db.schema.tables) changes
+    net_theirs = net_may_be.theirs
+
+    net_once : (number : ℕ) → KeysDiffer (filter (is_of_table number) changes)
+    net_once = net_may_be.once
+
+    net_made : put_rows db.schema.tables changes seen.rows ≡ left.rows
+    net_made = ap (λ changes. put_rows db.schema.tables changes seen.rows) net.is_net ∙ net_put seen left place.ordered after net.schema
+
   -- that writes
   pub has_written : (bound : Bound) (reply : Reply) (changes : List Change) (after : List (List Entry)) → IsWrite db.schema bound → NetTo seen (run_bound seen bound) reply changes
       → IsSpaceOf db.schema.tables after
@@ -180,13 +201,13 @@ module _ (db : Db) (space : List (List Entry)) (store : IsStore db) (sound : IsS
       → HasRun db bound space reply after
   has_written bound reply changes after write net sound_after put puts =
       let others : Each (IsOfOther seen (run_bound seen bound).db) changes =
-      subst (Each (IsOfOther seen (run_bound seen bound).db)) (sym net.leads.is_net) (net_others seen (run_bound seen bound).db net.schema) in
+      subst (Each (IsOfOther seen (run_bound seen bound).db)) (sym net.is_net) (net_others seen (run_bound seen bound).db net.schema) in
       record {
         told = net.told;
-        rows = put db.rows (small db space store sound) ∙ net.leads.made;
+        rows = put db.rows (small db space store sound) ∙ net_made bound reply changes write net;
         sound = sound_after;
         within = λ name.
             within_put seen (run_bound seen bound).db (footprint_of db.schema bound) space after changes
-            (still-run_bound seen place bound (row_footprinted db.schema bound (row_write bound write))) others net.leads.once puts name;
+            (still-run_bound seen place bound (row_footprinted db.schema bound (row_write bound write))) others (net_once bound reply changes write net) puts name;
         reads = λ select. absurd (no_select bound write select);
       }

@@ -7,6 +7,7 @@ ghost use Rattle.own_model.specs.declared.reply.Reply.{Reply};
 ghost use Rattle.own_model.specs.Db.{Db};
 ghost use Rattle.query_model.specs.BoundStatement.{bound_statement};
 ghost use Rattle.state_model.specs.Net.{net};
+ghost use Rattle.state_model.specs.Put.{put};
 ghost use Rattle.state_model.specs.Rows.{AreRowsOf};
 ghost use Rattle.state_model.specs.Sound.{Sound};
 ghost use Rattle.run_model.specs.Agree.{Agree};
@@ -18,9 +19,7 @@ ghost use Rattle.history_model.specs.Serial.{IsEntry, IsHistory};
 ghost use Rattle.history_model.specs.World.{Block, Open, Stated, after_block};
 ghost use Rattle.txn_space.specs.declared.entry.Entry.{Entry};
 ghost use Rattle.txn_space.specs.Changed.{changed_db, changed_rows};
-ghost use Rattle.txn_space.specs.Put.{put_rows};
 ghost use Rattle.txn_core.specs.Runs.{HasRun};
-ghost use Rattle.txn_core.specs.Single.{IsNetTo};
 ghost use Rattle.txn_core.specs.RepresentsBlock.{RepresentsBlock};
 
 /// Where changes represent an open transaction's statements, they represent them on each sound database that is the same on
@@ -55,11 +54,11 @@ pub fn changes_show_rows_that_may_stand_there()
         → AreRowsOf (flat base history).schema.tables (changed_rows (flat base history).schema.tables (flat base history).rows space) }
 {}
 
-/// The net of such changes is that of the transaction's statements, and leads to the rows that these leave.
+/// The net of such changes is that of the transaction's statements, and gives the rows that these leave.
 pub fn net_of_changes_is_that_of_the_block()
     ensures { (base : Db) (history : History) (session begun : ℕ) (block : Block) (space : List (List Entry)) (changes : List Change) → Sound base → IsHistory history
         → standing base history session ≡ Open begun block → RepresentsBlock (flat base history) block space
-        → IsNetTo (flat base history) (changed_db (flat base history) space) changes
+        → changes ≡ net (flat base history) (changed_db (flat base history) space)
         → (changes ≡ net (flat base history) (after_block (flat base history) block))
-        × (put_rows (flat base history).schema.tables changes (flat base history).rows ≡ (after_block (flat base history) block).rows) }
+        × ((put (flat base history) changes).rows ≡ (after_block (flat base history) block).rows) }
 {}

@@ -2,13 +2,15 @@ ghost use Rattle.std.specs.Prelude.{◌≡◌, ◌≢◌, IfErr, IfOk, false};
 ghost use Rattle.std.specs.List.{AllByRecursion};
 ghost use Rattle.own_model.specs.declared.refusal.Refusal.TheVariants.{Memory};
 ghost use Rattle.own_model.specs.declared.reply.Reply.TheVariants.{Refused};
+ghost use Rattle.state_model.specs.MayBePut.{IsPutIn};
+ghost use Rattle.state_model.specs.Net.{net};
+ghost use Rattle.state_model.specs.Put.{put};
 ghost use Rattle.history_model.specs.Reply.{is_refusal};
 ghost use Rattle.query_eval.specs.Tables.{AreTables};
 ghost use Rattle.run_model.specs.Run.{run_bound};
-ghost use Rattle.txn_space.specs.Put.{IsChangeOf, put_rows};
 ghost use Rattle.txn_space.specs.Sound.{IsBase};
 ghost use Rattle.write_eval.specs.Write.{IsWrite};
-ghost use Rattle.txn_core.specs.Single.{IsNetTo, NetTo};
+ghost use Rattle.txn_core.specs.Single.{NetTo};
 
 use own_base::{Change, List};
 use own_model::{Bound, Refusal, Reply, StoreView};
@@ -23,9 +25,8 @@ fn net_of<V: StoreView>(
     changes: &[Change],
 ) -> Result<List<Change>, AllocError>
     requires base { IsBase (V.db view.now).schema.tables (V.db view.now).rows }
-    requires changes { AllByRecursion (IsChangeOf (V.db view.now).schema.tables) changes.now }
-    ensures { IfOk result (IsNetTo (V.db view.now)
-        (record (V.db view.now) { rows = put_rows (V.db view.now).schema.tables changes.now (V.db view.now).rows })) }
+    requires changes { AllByRecursion (IsPutIn (V.db view.now).schema.tables) changes.now }
+    ensures { IfOk result (λ left. left ≡ net (V.db view.now) (put (V.db view.now) changes.now)) }
 {
     let mut space = Space::new(alloc);
     space.put(alloc, view, changes)?;

@@ -1,13 +1,12 @@
 ghost use Rattle.std.specs.Prelude.{◌≡◌, ◌≢◌, ◌||◌, [], false, true, not, IfOk, OnErr};
 ghost use Rattle.own_model.specs.declared.refusal.Refusal.TheVariants.{Memory};
 ghost use Rattle.own_model.specs.declared.reply.Reply.TheVariants.{Refused};
+ghost use Rattle.state_model.specs.Net.{net};
 ghost use Rattle.state_model.specs.Rows.{AreRowsOf};
 ghost use Rattle.txn_space.specs.Changed.{changed_db};
 ghost use Rattle.txn_space.specs.Sound.{IsBase, IsSpaceOf};
-ghost use Rattle.state_model.specs.Net.{net};
 ghost use Rattle.txn_core.specs.Kept.{IsQuiet, is_select};
 ghost use Rattle.txn_core.specs.Runs.{HasRun, IsRowStatement, IsStore};
-ghost use Rattle.txn_core.specs.Single.{IsNetTo};
 
 use crate::running::run_in;
 use own_base::{Change, List, MakeCopy};
@@ -103,7 +102,7 @@ impl Txn {
         requires base { IsBase (V.db version.now).schema.tables (V.db version.now).rows }
         requires space { IsSpaceOf (V.db version.now).schema.tables self.now.space }
         requires quiet { IsQuiet self.now }
-        ensures net { IfOk result (IsNetTo (V.db version.now) (changed_db (V.db version.now) self.now.space)) }
+        ensures net { IfOk result (λ changes. changes ≡ net (V.db version.now) (changed_db (V.db version.now) self.now.space)) }
         ensures spared { self.now.wrote ≡ false → IfOk result (λ changes. changes ≡ []) }
         ensures given { OnErr result (self.now.wrote ≡ true) }
     {

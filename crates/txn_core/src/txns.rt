@@ -5,8 +5,9 @@ ghost use Rattle.own_model.specs.declared.limit.TheConstants.{SESSIONS as COUNT}
 ghost use Rattle.own_model.specs.declared.refusal.Refusal.TheVariants.{Memory};
 ghost use Rattle.own_model.specs.declared.reply.Reply.TheVariants.{Refused};
 ghost use Rattle.query_model.specs.Footprints.{footprint_of};
-ghost use Rattle.query_eval.specs.Tables.{AreTables};
+ghost use Rattle.state_model.specs.Net.{net};
 ghost use Rattle.state_model.specs.Rows.{AreRowsOf};
+ghost use Rattle.query_eval.specs.Tables.{AreTables};
 ghost use Rattle.run_model.specs.Run.{run_bound};
 ghost use Rattle.history_model.specs.Held.{others};
 ghost use Rattle.history_model.specs.History.{lie_on};
@@ -19,7 +20,7 @@ ghost use Rattle.write_eval.specs.Write.{IsWrite};
 ghost use Rattle.txn_core.specs.declared.kept.Kept.TheVariants.{Nothing, Open};
 ghost use Rattle.txn_core.specs.Kept.{doom_of, is_open, kept_by, told};
 ghost use Rattle.txn_core.specs.Runs.{IsRowStatement, IsStore};
-ghost use Rattle.txn_core.specs.Single.{IsNetTo, NetTo};
+ghost use Rattle.txn_core.specs.Single.{NetTo};
 ghost use Rattle.txn_core.specs.Transactions.{AreItemsOf, AreOthersSame, AreSame, IsQuietKept, IsSameOf, IsSingleRefusal, IsDoomedIf, Stated, conflict_of, space_of, wrote_of};
 
 use crate::conflict::conflict;
@@ -219,7 +220,7 @@ impl Txns {
         requires base { IsBase (V.db version.now).schema.tables (V.db version.now).rows }
         requires space { IsSpaceOf (V.db version.now).schema.tables (space_of (kept_by self.now.kept session.0)) }
         requires quiet { IsQuietKept (kept_by self.now.kept session.0) }
-        ensures net { IfOk result (IsNetTo (V.db version.now) (changed_db (V.db version.now) (space_of (kept_by self.now.kept session.0)))) }
+        ensures net { IfOk result (λ changes. changes ≡ net (V.db version.now) (changed_db (V.db version.now) (space_of (kept_by self.now.kept session.0)))) }
         ensures spared { wrote_of (kept_by self.now.kept session.0) ≡ false → IfOk result (λ changes. changes ≡ []) }
         ensures given { OnErr result (wrote_of (kept_by self.now.kept session.0) ≡ true) }
     {

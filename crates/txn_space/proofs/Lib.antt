@@ -1,7 +1,5 @@
-mod Applied
 mod CountLemmas
 mod CutLemmas
-mod KeysLemmas
 mod MadeLemmas
 mod NetLemmas
 pub mod OverLemmas

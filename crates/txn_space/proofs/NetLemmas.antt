@@ -17,32 +17,25 @@ use Rattle.own_model.proofs.KeyOrder.{key_order}
 use Rattle.page_model.specs.Changed.{AreKeyed}
 use Rattle.page_model.specs.Found.{found}
 use Rattle.page_model.specs.Rising.{IsRising}
+use Rattle.page_model.proofs.InOrder.{few_rise}
+use Rattle.page_model.proofs.SameFound.{same_found}
 use Rattle.state_model.specs.Net.{change_at, change_unless_same, keys_in, net, net_from, net_in}
-use Rattle.state_model.specs.Same.{is_same_state}
+use Rattle.state_model.specs.Put.{changed_key}
 use Rattle.subject_model.proofs.NamedLemmas.{one_key}
-use Rattle.table_part.specs.Changes.{changed_key}
+use Rattle.state_model.specs.Same.{is_same_state}
+use Rattle.state_model.proofs.KeysLemmas.{itself, keys_missing, keys_rise}
+use Rattle.state_model.proofs.Made.{found_has, found_made, rising_made}
+use Rattle.state_model.proofs.NetLeads.{named}
 use Rattle.table_part.specs.KeyIn.{key_in}
-use Rattle.table_part.proofs.InOrder.{few_rise}
 use Rattle.table_part.proofs.KeyLemmas.{found-has_key}
-use Rattle.table_part.proofs.SameFound.{same_found}
 use Rattle.txn_space.specs.declared.entry.Entry.{Entry}
 use Rattle.txn_space.specs.Changed.{changed_db, changed_from, rows_with}
 use Rattle.txn_space.specs.Entries.{entries_at, entry_key, entry_row}
 use Rattle.txn_space.specs.EntryNet.{entry_change, entry_changes}
 use Rattle.txn_space.specs.Sound.{IsBase, IsSpaceOf}
-use Rattle.txn_space.proofs.KeysLemmas.{itself, keys_missing, keys_rise}
-use Rattle.txn_space.proofs.MadeLemmas.{found_has, found_made, rising_made}
 use Rattle.txn_space.proofs.OverLemmas.{from_none, named_in, next, same}
 use Rattle.txn_space.proofs.PutLemmas.{row_of}
 use Rattle.txn_space.proofs.SameLemmas.{equal_is, same_state}
-
--- a change is of the row that is named
-named_by : (same : Bool) (name : RowName) (before after : Option Row) → IfSome (cond same None (Some (record { name = name; before = before; after = after }))) (λ change. changed_key change ≡ name.key)
-named_by true name before after = tt
-named_by false name before after = refl
-
-pub named : (name : RowName) (before after : Option Row) → IfSome (change_unless_same name before after) (λ change. changed_key change ≡ name.key)
-named name before after = named_by (is_same_state before after) name before after
 
 -- nothing becomes of what stays
 unchanged : (name : RowName) (row : Option Row) → change_unless_same name row row ≡ None

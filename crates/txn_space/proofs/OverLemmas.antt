@@ -13,14 +13,13 @@ use Rattle.own_model.proofs.KeyOrder.{key_order}
 use Rattle.page_model.specs.Changed.{AreKeyed, with_changes}
 use Rattle.page_model.specs.Found.{found}
 use Rattle.page_model.specs.Rising.{IsRising}
-use Rattle.table_part.specs.Changes.{changed_key, row_after}
+use Rattle.state_model.specs.Put.{changed_key, is_of_table, put_from, row_after, rows_put}
 use Rattle.table_part.specs.KeyIn.{key_in}
 use Rattle.table_part.proofs.KeyLemmas.{found-has_key}
 use Rattle.txn_space.specs.declared.entry.Entry.{Entry}
 use Rattle.txn_space.specs.Changed.{changed_from, changed_rows, rows_with}
 use Rattle.txn_space.specs.Entries.{entries_at, entry_key, entry_row}
 use Rattle.txn_space.specs.HasPut.{entries_put}
-use Rattle.txn_space.specs.Put.{is_of_table, put_from, rows_put}
 use Rattle.txn_space.specs.Sound.{IsBase, IsSpaceOf}
 pub use Rattle.txn_space.specs.ChangedRise.{changed_rise, from_none, next, same}
 use Rattle.txn_space.proofs.PutLemmas.{entries_more, row_of}

@@ -16,14 +16,14 @@ use Rattle.page_model.specs.Changed.{AreKeyed, with_change, with_changes}
 use Rattle.page_model.specs.Found.{found}
 use Rattle.page_model.specs.Rising.{IsRising}
 use Rattle.page_model.proofs.ChangedLemmas.{each_with_changes, rising_with_changes}
-use Rattle.table_part.specs.Changes.{changed_key, row_after}
-use Rattle.table_part.proofs.FoundChanged.{found_changed, found_with_changes}
-use Rattle.table_part.proofs.InOrder.{rising_differ}
-use Rattle.table_part.proofs.SameFound.{same_found}
+use Rattle.page_model.proofs.FoundChanged.{found_changed, found_with_changes}
+use Rattle.page_model.proofs.InOrder.{rising_differ}
+use Rattle.page_model.proofs.SameFound.{same_found}
+use Rattle.state_model.specs.MayBePut.{IsPutIn}
+use Rattle.state_model.specs.Put.{changed_key, is_of_table, row_after}
 use Rattle.txn_space.specs.declared.entry.Entry.{Entry}
 use Rattle.txn_space.specs.Changed.{rows_with}
 use Rattle.txn_space.specs.Entries.{entry_key, entry_of, entry_row}
-use Rattle.txn_space.specs.Put.{IsChangeOf, is_of_table}
 
 -- the entries with one more
 abbrev and_entry : Entry → List Entry → List Entry
@@ -89,7 +89,7 @@ rising_more changes entries rising = rising_with_changes entry_key key_order cha
     each_refl (c ∷ cs) = (refl, each_refl cs)
 
 -- the changes of a table put rows of their keys
-pub changes_keyed : (tables : List TableDef) (number : ℕ) (table : TableDef) (changes : List Change) → slice_get tables number ≡ Some table → Each (IsChangeOf tables) changes → AreKeyed (key_of table) changed_key row_after (filter (is_of_table number) changes)
+pub changes_keyed : (tables : List TableDef) (number : ℕ) (table : TableDef) (changes : List Change) → slice_get tables number ≡ Some table → Each (IsPutIn tables) changes → AreKeyed (key_of table) changed_key row_after (filter (is_of_table number) changes)
 changes_keyed tables number table [] is all = tt
 changes_keyed tables number table (change ∷ changes) is all = by (is_of_table number change) refl (changes_keyed tables number table changes is all.1)
   where
@@ -101,7 +101,7 @@ changes_keyed tables number table (change ∷ changes) is all = by (is_of_table 
     by false other more = more
 
 -- a table of a change is there
-pub changes_there : (tables : List TableDef) (changes : List Change) → Each (IsChangeOf tables) changes → Each (λ change. change.name.table.0 < length tables) changes
+pub changes_there : (tables : List TableDef) (changes : List Change) → Each (IsPutIn tables) changes → Each (λ change. change.name.table.0 < length tables) changes
 changes_there tables [] all = tt
 changes_there tables (change ∷ changes) all = (by (slice_get tables change.name.table.0) refl all.0, changes_there tables changes all.1)
   where

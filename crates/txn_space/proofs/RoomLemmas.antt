@@ -15,12 +15,11 @@ use Rattle.page_model.specs.Changed.{with_change, with_changes}
 use Rattle.page_model.specs.Paged.{Paged, items}
 use Rattle.page_model.proofs.ChangedLemmas.{length_with_changes, with_changes-append}
 use Rattle.page_model.proofs.RisingLemmas.{each_back, each_front}
-use Rattle.table_part.specs.Changes.{changed_key}
+use Rattle.state_model.specs.Put.{changed_key, is_of_table}
 use Rattle.txn_space.specs.declared.entry.ByKey.{ByKey}
 use Rattle.txn_space.specs.declared.entry.Entry.{Entry}
 use Rattle.txn_space.specs.Entries.{entries_at, entry_key, entry_of, seen}
 use Rattle.txn_space.specs.HasPut.{AreFew, HasPut, HasRoom, HavePut, entries_with}
-use Rattle.txn_space.specs.Put.{is_of_table}
 
 -- the entries of the table of which some are set, and of another
 set_here : (tables : List (Paged ByKey Entry)) (place : ℕ) (table : Paged ByKey Entry) → place < length tables → entries_at (seen (slice_set tables place table)) place ≡ items table

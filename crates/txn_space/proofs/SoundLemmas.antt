@@ -10,12 +10,13 @@ use Rattle.own_model.specs.Db.{key_of}
 use Rattle.page_model.specs.Changed.{AreKeyed}
 use Rattle.page_model.specs.Paged.{Paged}
 use Rattle.page_model.specs.Rising.{IsRising}
-use Rattle.table_part.proofs.InOrder.{few_rise}
+use Rattle.page_model.proofs.InOrder.{few_rise}
+use Rattle.state_model.specs.MayBePut.{IsPutIn}
+use Rattle.state_model.specs.Put.{is_of_table}
 use Rattle.txn_space.specs.declared.entry.ByKey.{ByKey}
 use Rattle.txn_space.specs.declared.entry.Entry.{Entry}
 use Rattle.txn_space.specs.Entries.{entries_at, entry_key, entry_row, seen}
 use Rattle.txn_space.specs.HasPut.{HavePut}
-use Rattle.txn_space.specs.Put.{IsChangeOf, is_of_table}
 use Rattle.txn_space.specs.Sound.{IsSpaceOf}
 use Rattle.txn_space.proofs.PutLemmas.{changes_keyed, changes_there, keyed_more, rising_more}
 
@@ -43,7 +44,7 @@ none_sound tables = record {
 }
 
 -- they are afterwards where the changes are of the tables
-pub put_sound : (tables : List TableDef) (changes : List Change) (before after : List (Paged ByKey Entry)) → IsSpaceOf tables (seen before) → Each (IsChangeOf tables) changes → HavePut changes before after → IsSpaceOf tables (seen after)
+pub put_sound : (tables : List TableDef) (changes : List Change) (before after : List (Paged ByKey Entry)) → IsSpaceOf tables (seen before) → Each (IsPutIn tables) changes → HavePut changes before after → IsSpaceOf tables (seen after)
 put_sound tables changes before after sound all put =
     let length_before = length_seen before in
     let length_after = length_seen after in

@@ -5,11 +5,10 @@ use Rattle.own_base.specs.Key.{key_cmp}
 use Rattle.own_base.specs.declared.change.Change.{Change}
 use Rattle.page_model.specs.Changed.{with_change, with_changes}
 use Rattle.page_model.specs.Paged.{Paged}
-use Rattle.table_part.specs.Changes.{changed_key}
+use Rattle.state_model.specs.Put.{changed_key, is_of_table}
 use Rattle.txn_space.specs.declared.entry.ByKey.{ByKey}
 use Rattle.txn_space.specs.declared.entry.Entry.{Entry}
 use Rattle.txn_space.specs.Entries.{entries_at, entry_key, entry_of, seen}
-use Rattle.txn_space.specs.Put.{is_of_table}
 
 -- the entries of the table of a number with a change, and with changes one after another
 abbrev pub entries_with : ℕ → Change → List Entry → List Entry

@@ -5,5 +5,4 @@ pub mod EntryNet
 pub mod HasPut
 pub mod OneProof
 pub mod Passed
-pub mod Put
 pub mod Sound

@@ -1,15 +1,15 @@
-ghost use Rattle.std.specs.Prelude.{ℕ, List, filter, ◌≡◌, ◌<◌, [], IfOk, MatchOption, OnErr, OnOk, length, slice_get};
+ghost use Rattle.std.specs.Prelude.{ℕ, List, ◌≡◌, ◌<◌, [], IfOk, MatchOption, OnErr, OnOk, length, slice_get};
 ghost use Rattle.std.specs.List.{AllByRecursion};
 ghost use Rattle.std.specs.Option.{option_copied};
 ghost use Rattle.own_model.specs.Db.{Row as Values};
 ghost use Rattle.own_model.specs.Stored.{IsRunFrom, row_named, rows_at};
 ghost use Rattle.page_model.specs.Paged.{items};
+ghost use Rattle.state_model.specs.MayBePut.{IsPutIn};
 ghost use Rattle.state_model.specs.Net.{net};
-ghost use Rattle.table_part.specs.Changes.{KeysDiffer};
+ghost use Rattle.state_model.specs.Put.{put_rows};
 ghost use Rattle.txn_space.specs.Changed.{changed_db, changed_rows};
 ghost use Rattle.txn_space.specs.Entries.{entries_at};
 ghost use Rattle.txn_space.specs.HasPut.{entries_put};
-ghost use Rattle.txn_space.specs.Put.{IsChangeOf, is_of_table, put_rows};
 ghost use Rattle.txn_space.specs.Sound.{IsBase, IsSpaceOf};
 
 use crate::entry::{ByKey, Entries, Entry};
@@ -78,7 +78,7 @@ impl Space {
         changes: &[Change],
     ) -> Result<(), AllocError>
         requires space { IsSpaceOf (V.db base.now).schema.tables self.old }
-        requires changes { AllByRecursion (IsChangeOf (V.db base.now).schema.tables) changes.now }
+        requires changes { AllByRecursion (IsPutIn (V.db base.now).schema.tables) changes.now }
         ensures sound { IsSpaceOf (V.db base.now).schema.tables self.new }
         ensures put { OnOk result ((rows : List (List Values)) → IsBase (V.db base.now).schema.tables rows
             → changed_rows (V.db base.now).schema.tables rows self.new ≡ put_rows (V.db base.now).schema.tables changes.now (changed_rows (V.db base.now).schema.tables rows self.old)) }
@@ -93,14 +93,11 @@ impl Space {
     }
 
     /// The rows that differ between the base and its rows as changed: by table, then key, each with what it was and what
-    /// it is. Made in the base, they give its rows as changed.
+    /// it is.
     pub fn changes<V: StoreView>(&self, alloc: Global, base: &V) -> Result<List<Change>, AllocError>
         requires base { IsBase (V.db base.now).schema.tables (V.db base.now).rows }
         requires space { IsSpaceOf (V.db base.now).schema.tables self.now }
-        ensures net { IfOk result (λ changes. changes ≡ net (V.db base.now) (changed_db (V.db base.now) self.now)) }
-        ensures applied { IfOk result (λ changes. put_rows (V.db base.now).schema.tables changes (V.db base.now).rows ≡ changed_rows (V.db base.now).schema.tables (V.db base.now).rows self.now) }
-        ensures theirs { IfOk result (λ changes. AllByRecursion (IsChangeOf (V.db base.now).schema.tables) changes) }
-        ensures once { IfOk result (λ changes. (number : ℕ) → KeysDiffer (filter (is_of_table number) changes)) }
+        ensures { IfOk result (λ changes. changes ≡ net (V.db base.now) (changed_db (V.db base.now) self.now)) }
     {
         let mut changes = List::new(alloc);
         let tables = self.tables.items();

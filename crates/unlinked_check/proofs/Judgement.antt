@@ -1,5 +1,5 @@
 -- What is judged after changes of tables with which nothing is linked.
-use Rattle.std.proofs.Common.{◌≡◌, ℕ, ◌+◌, ◌-◌, ◌≤◌, List, [], ◌∷◌, Bool, true, false, refl, ap, subst, arith}
+use Rattle.std.proofs.Common.{◌≡◌, ◌∙◌, ℕ, ◌+◌, ◌-◌, ◌≤◌, List, [], ◌∷◌, Bool, true, false, refl, ap, subst, sym, arith}
 use Rattle.std.specs.Prelude.{None, Some, IsTrue, filter, nat_lt, if◌then◌else◌}
 use Rattle.std.proofs.lemmas.Bool.{ltb-false}
 use Rattle.own_base.specs.declared.change.Change.{Change}
@@ -13,11 +13,12 @@ use Rattle.schema_model.specs.OwnerSchema.{IsOwnerSchema}
 use Rattle.schema_model.proofs.Places.{append-none}
 use Rattle.subject_model.proofs.Members.{all_passes}
 use Rattle.state_model.specs.Fault.{fault, first_of, owner_faults, reference_faults, unique_faults}
+use Rattle.state_model.specs.MayBePut.{KeysDiffer, MayBePut}
 use Rattle.state_model.specs.Net.{net}
+use Rattle.state_model.specs.Put.{is_of_table, put_rows}
 use Rattle.state_model.specs.Weight.{row_count, weight}
 use Rattle.state_model.proofs.Faultless.{faultless-from}
-use Rattle.table_part.specs.Changes.{KeysDiffer}
-use Rattle.txn_space.specs.Put.{is_of_table, put_rows}
+use Rattle.state_model.proofs.NetLeads.{net_may, net_put}
 use Rattle.commit_check.specs.declared.judged.Judged.{Judged}
 use Rattle.commit_check.specs.declared.judged.Judged.TheVariants.{Fault}
 use Rattle.commit_check.specs.Judged.{IsJudged, IsWeighed}
@@ -33,8 +34,15 @@ use Rattle.unlinked_check.proofs.WeightLemmas.{AreLone, same-elsewhere, weight-s
 use Rattle.query_model.proofs.NoFaults.{none-if}
 
 module _ (db next : Db) (changes : List Change) (owner : IsOwnerSchema db.schema) (before : IsOrdered db) (after : IsOrdered (under db next))
-    (is : changes ≡ net db (under db next)) (put : put_rows db.schema.tables changes db.rows ≡ next.rows) (once : (number : ℕ) → KeysDiffer (filter (is_of_table number) changes))
+    (is : changes ≡ net db (under db next))
     (unlinked : IsTrue (are_unlinked db.schema changes)) (none : fault db ≡ None) where
+  -- the changes may be put, and give the rows after
+  once : (number : ℕ) → KeysDiffer (filter (is_of_table number) changes)
+  once = (subst (MayBePut db.schema.tables) (sym is) (net_may db (under db next) before after refl)).once
+
+  put : put_rows db.schema.tables changes db.rows ≡ next.rows
+  put = ap (λ changes. put_rows db.schema.tables changes db.rows) is ∙ net_put db (under db next) before after refl
+
   lone : AreLone db.schema changes
   lone = all_passes (λ change. is_unlinked db.schema change.name.table.0) changes unlinked
 

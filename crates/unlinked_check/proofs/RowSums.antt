@@ -14,7 +14,7 @@ use Rattle.page_model.specs.Rising.{IsRising}
 use Rattle.page_model.proofs.ChangedLemmas.{filter_all, filter_none, rising_with_changes}
 use Rattle.page_model.proofs.Ordered.{above_from_below}
 use Rattle.page_model.proofs.RisingLemmas.{each_weaker, rising_behind, rising_tail}
-use Rattle.table_part.proofs.FoundChanged.{found_changed}
+use Rattle.page_model.proofs.FoundChanged.{found_changed}
 
 -- what an item counts, where there is one
 abbrev pub counted : {X : Type 0} → (X → ℕ) → Option X → ℕ

@@ -15,10 +15,10 @@ use Rattle.page_model.proofs.ChangedLemmas.{filter_all, filter_none}
 use Rattle.page_model.proofs.RisingLemmas.{each_append, each_weaker}
 use Rattle.schema_model.proofs.Found.{find-some}
 use Rattle.subject_model.proofs.NamedLemmas.{one_key}
+use Rattle.state_model.specs.MayBePut.{KeysDiffer}
 use Rattle.state_model.specs.Net.{change_at, keys_in, net_from, net_in}
+use Rattle.state_model.specs.Put.{changed_key, is_of_table, put_from, row_after, rows_put}
 use Rattle.state_model.specs.Same.{is_same_state}
-use Rattle.table_part.specs.Changes.{KeysDiffer, changed_key, row_after}
-use Rattle.txn_space.specs.Put.{is_of_table, put_from, rows_put}
 
 -- what is made of each item has what it is made with
 each_made : {X Y : Type 0} (P : Y → Type 0) (make : X → Option Y) (xs : List X) → ((x : X) → IfSome (make x) P) → Each P (filter_map make xs)

@@ -13,9 +13,8 @@ use Rattle.own_model.proofs.KeyOrder.{key_order}
 use Rattle.page_model.specs.Found.{found}
 use Rattle.page_model.proofs.RisingLemmas.{each_weaker}
 use Rattle.state_model.specs.Net.{net_from, net_in}
-use Rattle.table_part.specs.Changes.{changed_key, row_after}
-use Rattle.table_part.specs.KeyIn.{key_in}
-use Rattle.table_part.proofs.KeyLemmas.{found-has_key}
+use Rattle.state_model.specs.Put.{changed_key, row_after}
+use Rattle.state_model.proofs.PutRows.{found_key}
 use Rattle.unlinked_check.proofs.RowSums.{Exchanged, counted, exchanged, exchanged_as, sum_by-none, sum_by-same}
 use Rattle.unlinked_check.proofs.TableLeads.{IsChangeIn, Leads, LeadsFrom, net-changes, net-from_on, net-keyed}
 
@@ -32,8 +31,7 @@ sum_after f changes = sum_by (λ change. counted f (row_after change)) changes
 
 -- what is found by its key, in two words
 found_row : (number : ℕ) (table : TableDef) (before after : List Row) (change : Change) → IsChangeIn number table before after change → row_before change ≡ found (key_of table) key_cmp (changed_key change) before
-unfolding key_in key_of
-found_row number table before after change in_it = in_it.was ∙ sym (found-has_key table (changed_key change) before)
+found_row number table before after change in_it = in_it.was ∙ sym (found_key table (changed_key change) before)
 
 -- a table's net takes off what was there, and adds what it puts
 pub table-sum : (f : Row → ℕ) (number : ℕ) (table : TableDef) (before after : List Row) → Leads number table before after

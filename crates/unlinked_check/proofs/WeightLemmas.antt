@@ -18,8 +18,8 @@ use Rattle.page_model.proofs.RisingLemmas.{each_back, each_front}
 use Rattle.schema_model.specs.OwnerSchema.{IsOwnerSchema}
 use Rattle.subject_model.specs.Named.{NamedRow, name_of, rows_from, rows_in}
 use Rattle.state_model.specs.Net.{net_from, net_in}
+use Rattle.state_model.specs.Put.{row_after}
 use Rattle.state_model.specs.Weight.{item_size, row_weight, view_weight, weight}
-use Rattle.table_part.specs.Changes.{row_after}
 use Rattle.unlinked_check.specs.NetWeight.{shown_size, weight_come, weight_gone}
 use Rattle.unlinked_check.specs.Unlinked.{is_unlinked}
 use Rattle.unlinked_check.proofs.LinkedRows.{AreSameElsewhere, same_weight, under}

@@ -1,11 +1,9 @@
-ghost use Rattle.std.specs.Prelude.{ℕ, ◌≡◌, IsTrue, None, filter};
+ghost use Rattle.std.specs.Prelude.{◌≡◌, IsTrue, None};
 ghost use Rattle.schema_model.specs.OwnerSchema.{IsOwnerSchema};
 ghost use Rattle.schema_model.specs.WithinLimits.{IsWithinLimits};
 ghost use Rattle.state_model.specs.Fault.{fault};
 ghost use Rattle.state_model.specs.Net.{net};
 ghost use Rattle.state_model.specs.Weight.{weight as weight_of};
-ghost use Rattle.table_part.specs.Changes.{KeysDiffer};
-ghost use Rattle.txn_space.specs.Put.{is_of_table, put_rows};
 ghost use Rattle.commit_check.specs.Judged.{IsJudged};
 ghost use Rattle.unlinked_check.specs.Unlinked.{are_unlinked};
 
@@ -29,8 +27,6 @@ pub fn judge_unlinked<B: StoreView, V: StoreView>(
     requires faultless { fault (B.db before.now) ≡ None }
     requires weight { weight_of (B.db before.now) ≡ weight }
     requires net { changes.now ≡ net (B.db before.now) (V.db after.now) }
-    requires applied { put_rows (B.db before.now).schema.tables changes.now (B.db before.now).rows ≡ (V.db after.now).rows }
-    requires once { (number : ℕ) → KeysDiffer (filter (is_of_table number) changes.now) }
     requires unlinked { IsTrue (are_unlinked (B.db before.now).schema changes.now) }
     ensures { IsJudged (V.db after.now) result }
 {

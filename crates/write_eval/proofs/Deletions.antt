@@ -13,17 +13,17 @@ use Rattle.own_model.specs.declared.schema.TableDef.{TableDef}
 use Rattle.own_model.specs.Db.{Db, IsRising, Row, key_of}
 use Rattle.own_model.specs.Stored.{has_key, rows_at}
 use Rattle.query_model.specs.Truth.{keeps}
+use Rattle.state_model.specs.Put.{changed_key}
 use Rattle.query_eval.specs.Tables.{AreTables}
 use Rattle.run_model.specs.Run.{delete}
 use Rattle.run_model.specs.Update.{rows_left}
 use Rattle.run_model.proofs.FoundRows.{find-filter}
 use Rattle.run_model.proofs.RisingKeys.{rising-at, rising-filter}
 use Rattle.write_eval.specs.Deletions.{deletion}
-use Rattle.write_eval.specs.Leads.{key_changed}
 use Rattle.write_eval.specs.Writes.{Writes}
 use Rattle.write_eval.specs.declared.written.Written.{Written}
 use Rattle.write_eval.proofs.Kept.{IsFound, each_passing, found_rows, found_spared}
-use Rattle.write_eval.proofs.OneTable.{IsWithin, LeadWithin, is_of, lead_of}
+use Rattle.write_eval.proofs.OneTable.{IsWithin, LeadWithin, is_of, lead_of, of_table}
 
 module _ (number : TableNo) (table : TableDef) (kept : Row → Bool) where
   -- whether a row is left
@@ -48,7 +48,7 @@ module _ (number : TableNo) (table : TableDef) (kept : Row → Bool) where
   all_within rows (row ∷ some) rising all = (within rows rising row all.0.0 all.0.1, all_within rows some rising all.1)
 
   -- the keys of the changes, and whether one is of a key
-  keys_changed : (some : List Row) → map key_changed (map (deletion number table) some) ≡ map (key_of table) some
+  keys_changed : (some : List Row) → map changed_key (map (deletion number table) some) ≡ map (key_of table) some
   keys_changed [] = refl
   keys_changed (row ∷ some) = ap (λ keys. key_of table row ∷ keys) (keys_changed some)
 
@@ -78,13 +78,14 @@ pub deletes : (db : Db) (number : TableNo) (table : TableDef) (condition : Optio
     → Writes db (delete db number.0 condition) number written
 unfolding delete rows_left
 deletes db number table condition written tables is count changes =
-    let rising = rising-at db.schema.tables db.rows number.0 table tables.rising is in
+    let rows = rows_at db.rows number.0 in
+    let left = filter (λ row. not (keeps condition row)) rows in
+    let made = map (deletion number table) (filter (keeps condition) rows) in
+    let lead = lead_within number table (keeps condition) rows (rising-at db.schema.tables db.rows number.0 table tables.rising is) in
     record {
       reply = ap Counted (sym count);
       counted = ap length changes ∙ (length-map (filter (keeps condition) (rows_at db.rows number.0)) (deletion number table) ∙ sym count);
-      changes =
-          rw changes
-          (lead_of db.schema db.rows number table (filter (λ row. not (keeps condition row)) (rows_at db.rows number.0)) tables.rising is
-          (map (deletion number table) (filter (keeps condition) (rows_at db.rows number.0)))
-          (lead_within number table (keeps condition) (rows_at db.rows number.0) rising));
+      of = rw changes (of_table db number table left tables.rising is made lead.each);
+      rising = rw changes lead.rising;
+      leads = rw changes (lead_of db number table left tables.rising is made lead);
     }

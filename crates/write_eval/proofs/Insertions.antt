@@ -13,15 +13,15 @@ use Rattle.own_model.specs.declared.schema.Schema.{Schema}
 use Rattle.own_model.specs.declared.schema.TableDef.{TableDef}
 use Rattle.own_model.specs.Db.{AreRising, Db, Row}
 use Rattle.own_model.specs.Stored.{has_key, is_equal, rows_at}
+use Rattle.state_model.specs.Put.{changed_key}
 use Rattle.run_model.specs.Insert.{with_tuples}
 use Rattle.run_model.specs.Run.{insert, put}
 use Rattle.write_eval.specs.Insertions.{Given, given_tuples, insertion}
-use Rattle.write_eval.specs.Leads.{key_changed}
 use Rattle.write_eval.specs.Writes.{Writes}
 use Rattle.write_eval.specs.declared.written.Written.{Written}
 use Rattle.write_eval.proofs.GivenEntries.{IsFound, found_given, lookup-none}
 use Rattle.write_eval.proofs.GivenTuples.{AreAlike, AreWith, alike-tuples, length-given}
-use Rattle.write_eval.proofs.OneTable.{IsWithin, LeadWithin, is_of, lead_of}
+use Rattle.write_eval.proofs.OneTable.{IsWithin, LeadWithin, is_of, lead_of, of_table}
 
 module _ (number : TableNo) (table : TableDef) (rows merged : List Row) (given : Given) (with : AreWith table rows merged given) where
   within : (entry : Key × Row) → IsFound given entry → find (has_key table entry.0) rows ≡ None → IsWithin number table rows merged (insertion number entry)
@@ -32,7 +32,7 @@ module _ (number : TableNo) (table : TableDef) (rows merged : List Row) (given :
   all_within [] found new = tt
   all_within (entry ∷ some) found new = (within entry found.0 new.0, all_within some found.1 new.1)
 
-  keys_changed : (some : Given) → map key_changed (map (insertion number) some) ≡ keys_of some
+  keys_changed : (some : Given) → map changed_key (map (insertion number) some) ≡ keys_of some
   keys_changed [] = refl
   keys_changed (entry ∷ some) = ap (λ keys. entry.0 ∷ keys) (keys_changed some)
 
@@ -58,11 +58,15 @@ module _ (db : Db) (number : TableNo) (table : TableDef) (tuples : List Row)
 
   write_given : (written : Written) (given : Given) → written.count ≡ length tuples → written.changes ≡ map (insertion number) given → length given ≡ length tuples
       → (merged : Result (List Row) Key) → AreAlike table (rows_at db.rows number.0) merged (Ok given) → Writes db (put db number.0 table (length tuples) merged) number written
-  write_given written given count changes long (Ok merged) with = record {
-    reply = ap Counted (sym count);
-    counted = ap length changes ∙ (length-map given (insertion number) ∙ (long ∙ sym count));
-    changes = rw changes (lead_of db.schema db.rows number table merged rising is (map (insertion number) given) (lead_within number table (rows_at db.rows number.0) merged given with));
-  }
+  write_given written given count changes long (Ok merged) with =
+      let lead = lead_within number table (rows_at db.rows number.0) merged given with in
+      record {
+        reply = ap Counted (sym count);
+        counted = ap length changes ∙ (length-map given (insertion number) ∙ (long ∙ sym count));
+        of = rw changes (of_table db number table merged rising is (map (insertion number) given) lead.each);
+        rising = rw changes lead.rising;
+        leads = rw changes (lead_of db number table merged rising is (map (insertion number) given) lead);
+      }
   write_given written given count changes long (Err key) with = absurd with
 
   -- an INSERT whose tuples have free keys writes that they come

@@ -18,17 +18,17 @@ use Rattle.own_model.specs.Stored.{has_key, rows_at}
 use Rattle.query_model.specs.Footprints.{key_column}
 use Rattle.query_model.specs.Truth.{keeps}
 use Rattle.state_model.specs.Fault.{first_of}
+use Rattle.state_model.specs.Put.{changed_key}
 use Rattle.run_model.specs.Run.{stored_unless, update}
 use Rattle.run_model.specs.Update.{Sets, update_faults, updated_rows}
 use Rattle.run_model.proofs.RisingKeys.{AreKeyless, rising-at, rising-filter}
 use Rattle.run_model.proofs.UpdateLookups.{changed, found-updated}
-use Rattle.write_eval.specs.Leads.{key_changed}
 use Rattle.write_eval.specs.Updates.{replacement}
 use Rattle.write_eval.specs.Write.{SpareKey}
 use Rattle.write_eval.specs.Writes.{Writes}
 use Rattle.write_eval.specs.declared.written.Written.{Written}
 use Rattle.write_eval.proofs.Kept.{IsFound, each_passing, found_rows, found_spared}
-use Rattle.write_eval.proofs.OneTable.{IsWithin, LeadWithin, is_of, lead_of}
+use Rattle.write_eval.proofs.OneTable.{IsWithin, LeadWithin, is_of, lead_of, of_table}
 
 module _ (number : TableNo) (table : TableDef) (sets : Sets) (keyless : AreKeyless table sets) (condition : Option BoundCond) where
   -- that a row is updated which is kept
@@ -46,7 +46,7 @@ module _ (number : TableNo) (table : TableDef) (sets : Sets) (keyless : AreKeyle
   all_within rows (row ∷ some) all = (within rows row all.0.0 all.0.1, all_within rows some all.1)
 
   -- the keys of the changes, and whether one is of a key
-  keys_changed : (some : List Row) → map key_changed (map (replacement number table sets) some) ≡ map (key_of table) some
+  keys_changed : (some : List Row) → map changed_key (map (replacement number table sets) some) ≡ map (key_of table) some
   keys_changed [] = refl
   keys_changed (row ∷ some) = ap (λ keys. key_of table row ∷ keys) (keys_changed some)
 
@@ -94,13 +94,15 @@ module _ (db : Db) (number : TableNo) (table : TableDef) (sets : Sets) (conditio
   pub updates : (written : Written) → SpareKey db.schema number sets → None ≡ first_of (update_faults table sets kept) → written.count ≡ length kept
       → written.changes ≡ map (replacement number table sets) kept → Writes db (update db number.0 sets condition) number written
   updates written spare reported count changes =
+      let after = updated_rows sets condition (rows_at db.rows number.0) in
+      let made = map (replacement number table sets) kept in
+      let lead = lead_within number table sets (keyless_sets db.schema number table sets is spare) condition (rows_at db.rows number.0)
+      (rising-at db.schema.tables db.rows number.0 table rising is) in
       let write : Writes db (stored_unless db number.0 (updated_rows sets condition (rows_at db.rows number.0)) (length kept) None) number written = record {
         reply = ap Counted (sym count);
         counted = ap length changes ∙ (length-map kept (replacement number table sets) ∙ sym count);
-        changes =
-            rw changes
-            (lead_of db.schema db.rows number table (updated_rows sets condition (rows_at db.rows number.0)) rising is (map (replacement number table sets) kept)
-            (lead_within number table sets (keyless_sets db.schema number table sets is spare) condition (rows_at db.rows number.0)
-            (rising-at db.schema.tables db.rows number.0 table rising is)));
+        of = rw changes (of_table db number table after rising is made lead.each);
+        rising = rw changes lead.rising;
+        leads = rw changes (lead_of db number table after rising is made lead);
       } in
       rw (runs None (sym reported)) write

@@ -1,7 +1,6 @@
 pub mod Deletions
 pub mod FirstFaults
 pub mod Insertions
-pub mod Leads
 pub mod Updates
 pub mod Write
 pub mod Writes

@@ -4,21 +4,26 @@ use Rattle.own_model.specs.declared.history.Verdict.TheVariants.{Took}
 use Rattle.own_model.specs.declared.refusal.Refusal.{Refusal}
 use Rattle.own_model.specs.Db.{Db}
 use Rattle.state_model.specs.CommitRefusal.{commit_refusal}
+use Rattle.state_model.specs.Put.{put}
 use Rattle.history_model.specs.Reply.{changes, committing}
 use Rattle.engine_core.specs.Answered.{Tells}
-use Rattle.engine_core.specs.Changed.{changed}
 use Rattle.engine_core.proofs.Commits.{tells-refusal}
-use Rattle.engine_core.proofs.Nets.{none-of, tells-none}
+use Rattle.engine_core.proofs.Nets.{may-net, none-of, tells-none}
 use Rattle.engine_core.proofs.commit.commit.Goals as goal
 
 pub returns-then-is_refusal-clause-tells : goal.returns-then-is_refusal-clause-tells
 returns-then-is_refusal-clause-tells c =
-    tells-refusal c.args.version.now (changed c.args.version.now c.args.changes.now) _ _ c.args.reply c.told.result (sym c.if-is_refusal.ensures) c.told.ensures.reply c.told.ensures.stays
+    tells-refusal c.args.version.now (put c.args.version.now c.args.changes.now) _ _ c.args.reply c.told.result (sym c.if-is_refusal.ensures) c.told.ensures.reply c.told.ensures.stays
 
 pub returns-then-is_empty-clause-tells : goal.returns-then-is_empty-clause-tells
 returns-then-is_empty-clause-tells c =
     tells-none c.args.version.now c.requires.sound c.args.changes.now c.requires.net (none-of c.args.changes.now (sym c.if-is_empty.ensures)) c.args.reply c.told-then-is_empty.result
     c.told-then-is_empty.ensures.reply c.told-then-is_empty.ensures.stays
+
+-- a net may be put
+pub prepare-requires : goal.prepare-requires
+prepare-requires c =
+    may-net c.args.version.now c.args.changes.now c.requires.sound.kept.ordered c.requires.kept.ordered c.requires.net
 
 -- what refuses the next version refuses the changes that lead to it
 pub returns-in-Ok-clause-tells : goal.returns-in-Ok-clause-tells

@@ -17,10 +17,4 @@ pub judge_unlinked-requires-clause-faultless : goal.judge_unlinked-requires-clau
 judge_unlinked-requires-clause-faultless c = c.requires.sound.faultless
 
 pub judge_unlinked-requires-clause-net : goal.judge_unlinked-requires-clause-net
-judge_unlinked-requires-clause-net c = c.requires.net.net ∙ ap (net c.args.version.now) (sym (c.version.ensures ∙ c.requires.next))
-
-pub judge_unlinked-requires-clause-applied : goal.judge_unlinked-requires-clause-applied
-judge_unlinked-requires-clause-applied c = sym (ap (λ (db : Db). db.rows) (c.version.ensures ∙ c.requires.next))
-
-pub judge_unlinked-requires-clause-once : goal.judge_unlinked-requires-clause-once
-judge_unlinked-requires-clause-once c = c.requires.net.once
+judge_unlinked-requires-clause-net c = c.requires.net ∙ ap (net c.args.version.now) (sym (c.version.ensures ∙ c.requires.next))

@@ -16,8 +16,8 @@ bind_view-requires-clause-views c = rw (c.schema.ensures.same, c.catalog.ensures
 pub bind_view-requires-clause-items : goal.bind_view-requires-clause-items
 bind_view-requires-clause-items c = view_within c.args.create.now (subst (IsWritten STATEMENT_BYTES) c.requires.of c.requires.written)
 
-pub prepare_view-next-requires : goal.prepare_view-next-requires
-prepare_view-next-requires c = view-room c.args.version.now.schema c.args.create.now c.in-Ok.definition (rw (c.schema.ensures.same, c.catalog.ensures.schema) at c.in-Ok.ensures.ok)
+pub prepare_view-requires : goal.prepare_view-requires
+prepare_view-requires c = view-room c.args.version.now.schema c.args.create.now c.in-Ok.definition (rw (c.schema.ensures.same, c.catalog.ensures.schema) at c.in-Ok.ensures.ok)
 
 pub returns-in-Err-clause-tells : goal.returns-in-Err-clause-tells
 returns-in-Err-clause-tells c =

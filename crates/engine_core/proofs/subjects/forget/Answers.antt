@@ -10,6 +10,9 @@ erase_changes-requires-clause-limits c = within-created c.args.version.now c.req
 pub erase_changes-requires-clause-owner : goal.erase_changes-requires-clause-owner
 erase_changes-requires-clause-owner c = owner_schema-created c.args.version.now c.requires.sound.kept.created
 
+pub prepare-requires : goal.prepare-requires
+prepare-requires c = rw c.items-2.ensures c.in_ok-changes.ensures.may
+
 pub forgotten-reply-requires : goal.forgotten-reply-requires
 forgotten-reply-requires c =
     let db = c.args.version.now in
@@ -19,7 +22,7 @@ pub weighed-requires : goal.weighed-requires
 weighed-requires c =
     let db = c.args.version.now in
     let subject = c.args.subject.now.0 in
-    let is = planned-next db c.in_ok-next.next subject c.items-2.result.now c.in_ok-changes.changes c.in_ok-next.ensures c.items-2.ensures c.in_ok-changes.ensures.applied in
+    let is = planned-next db c.in_ok-next.next subject c.items-2.result.now c.in_ok-changes.changes c.in_ok-next.ensures c.items-2.ensures c.in_ok-changes.ensures.put in
     erased-sound db c.in_ok-next.next subject c.requires.subject c.requires.sound is
 
 -- it is told with its counts
@@ -28,7 +31,7 @@ told c =
     let db = c.args.version.now in
     let subject = c.args.subject.now.0 in
     let next = c.in_ok-next.next in
-    let is = planned-next db next subject c.items-2.result.now c.in_ok-changes.changes c.in_ok-next.ensures c.items-2.ensures c.in_ok-changes.ensures.applied in
+    let is = planned-next db next subject c.items-2.result.now c.in_ok-changes.changes c.in_ok-next.ensures c.items-2.ensures c.in_ok-changes.ensures.put in
     let sound = erased-sound db next subject c.requires.subject c.requires.sound is in
     let there = lent-there db subject c.row.result c.row.ensures c.if-is_none.ensures in
     let counted = rw c.items-3.ensures at c.forgotten-reply.ensures in

@@ -22,11 +22,11 @@ returns-clause-reply c = IfOk-weaker c.single.result _ _ (λ pair is. is.1.told)
 
 pub returns-clause-net : goal.returns-clause-net
 returns-clause-net c =
-    IfOk-weaker c.single.result _ _ (λ pair is. net-changed c.args.state.now.version c.args.bound.now pair.0 pair.1 is.1) c.single.ensures.ok
+    IfOk-weaker c.single.result _ _ (λ pair is. net-changed c.args.state.now.version c.requires.sound.kept.ordered c.args.bound.now c.requires.write pair.0 pair.1 is.1) c.single.ensures.ok
 
 pub returns-clause-left : goal.returns-clause-left
 returns-clause-left c =
-    IfOk-weaker c.single.result _ _ (λ pair is. left-changed c.args.state.now.version c.args.bound.now pair.0 pair.1 is.1) c.single.ensures.ok
+    IfOk-weaker c.single.result _ _ (λ pair is. left-changed c.args.state.now.version c.requires.sound.kept.ordered c.args.bound.now c.requires.write pair.0 pair.1 is.1) c.single.ensures.ok
 
 pub returns-clause-refused : goal.returns-clause-refused
 returns-clause-refused c =

@@ -5,7 +5,8 @@ use Rattle.own_model.specs.declared.limit.TheConstants.{STATEMENT_BYTES}
 use Rattle.own_model.specs.declared.schema.Schema.{Schema}
 use Rattle.own_model.specs.Stored.{holds_rows}
 use Rattle.text_model.specs.Canonical.{canonical}
-use Rattle.engine_core.proofs.CreatedTables.{kept-table, next-table}
+use Rattle.engine_core.proofs.CreatedTables.{next-table}
+use Rattle.state_tests.proofs.KeptNext.{kept-table}
 use Rattle.engine_core.proofs.FewColumns.{columns-few}
 use Rattle.state_tests.proofs.kept.with_table.Goals as goal
 

@@ -4,7 +4,8 @@ use Rattle.own_model.specs.declared.limit.TheConstants.{STATEMENT_BYTES}
 use Rattle.readable_model.proofs.Within.{view_within}
 use Rattle.text_model.specs.Canonical.{canonical}
 use Rattle.state_model.proofs.CreatedSchema.{views_within-created}
-use Rattle.engine_core.proofs.CreatedTables.{kept-view, next-view, view-room}
+use Rattle.engine_core.proofs.CreatedTables.{next-view, view-room}
+use Rattle.state_tests.proofs.KeptNext.{kept-view}
 use Rattle.state_tests.proofs.kept.with_view.Goals as goal
 
 pub bind_view-requires-clause-views : goal.bind_view-requires-clause-views

@@ -11,8 +11,8 @@ single-requires-clause-base c = base-sound c.args.version.now c.requires.sound
 
 pub returns-in-Ok-clause-net : goal.returns-in-Ok-clause-net
 returns-in-Ok-clause-net c =
-    net-changed c.args.version.now c.args.bound.now c.in-Ok.field-0-0 c.in-Ok.changes c.in-Ok.ensures.ok.1
+    net-changed c.args.version.now c.requires.sound.kept.ordered c.args.bound.now c.requires.write c.in-Ok.field-0-0 c.in-Ok.changes c.in-Ok.ensures.ok.1
 
 pub returns-in-Ok-clause-left : goal.returns-in-Ok-clause-left
 returns-in-Ok-clause-left c =
-    left-changed c.args.version.now c.args.bound.now c.in-Ok.field-0-0 c.in-Ok.changes c.in-Ok.ensures.ok.1
+    left-changed c.args.version.now c.requires.sound.kept.ordered c.args.bound.now c.requires.write c.in-Ok.field-0-0 c.in-Ok.changes c.in-Ok.ensures.ok.1

@@ -10,4 +10,4 @@ pub payload_size-requires : goal.payload_size-requires
 payload_size-requires g c =
     let judged = subst (IsJudged c.args.next.now) c.in_ok-whole.ensures c.in_ok-judged.ensures in
     sound-net c.args.version.now c.args.next.now c.args.changes.now c.requires.sound c.requires.kept judged.0
-    (sym (ap (λ (db : Db). db.schema) c.requires.next)) (c.requires.net.net ∙ ap (net c.args.version.now) (sym c.requires.next))
+    (sym (ap (λ (db : Db). db.schema) c.requires.next)) (c.requires.net ∙ ap (net c.args.version.now) (sym c.requires.next))

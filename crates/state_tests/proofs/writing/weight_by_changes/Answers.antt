@@ -14,7 +14,4 @@ pub judge_unlinked-requires-clause-owner : goal.judge_unlinked-requires-clause-o
 judge_unlinked-requires-clause-owner g c = owner_schema c.args.version.now c.requires.sound.kept
 
 pub judge_unlinked-requires-clause-net : goal.judge_unlinked-requires-clause-net
-judge_unlinked-requires-clause-net g c = c.requires.net.net ∙ ap (net c.args.version.now) (sym (c.version.ensures ∙ c.requires.next))
-
-pub judge_unlinked-requires-clause-applied : goal.judge_unlinked-requires-clause-applied
-judge_unlinked-requires-clause-applied g c = sym (ap (λ (db : Db). db.rows) (c.version.ensures ∙ c.requires.next))
+judge_unlinked-requires-clause-net g c = c.requires.net ∙ ap (net c.args.version.now) (sym (c.version.ensures ∙ c.requires.next))

@@ -1,5 +1,5 @@
 use Rattle.std.proofs.Common.{◌≡◌, filter, take}
-use Rattle.txn_space.specs.Put.{is_of_table}
+use Rattle.state_model.specs.Put.{is_of_table}
 use Rattle.store_version.proofs.after.changes_of.Given as goal
 
 -- those of the table among the changes so far

@@ -4,10 +4,10 @@ use Rattle.own_base.specs.Key.{key_cmp}
 use Rattle.own_base.specs.declared.change.Change.{Change}
 use Rattle.own_model.specs.Db.{key_of}
 use Rattle.page_model.specs.Changed.{AreKeyed, with_changes}
-use Rattle.table_part.specs.Changes.{changed_key, row_after, KeysDiffer}
+use Rattle.state_model.specs.MayBePut.{KeysDiffer}
+use Rattle.state_model.specs.Put.{changed_key, is_of_table, row_after}
 use Rattle.table_part.specs.KeyIn.{key_in}
 use Rattle.table_part.specs.Part.{rows_of}
-use Rattle.txn_space.specs.Put.{is_of_table}
 use Rattle.store_version.proofs.PartsAfter.{filter_all, keyed_in, rows_put_none, with_changes_in}
 use Rattle.store_version.proofs.after.part_after.Goals as goal
 

@@ -3,11 +3,11 @@ use Rattle.std.specs.Prelude.{Some, slice_get}
 use Rattle.std.proofs.lemmas.Bool.Decides.{nat_tests}
 use Rattle.std.proofs.lemmas.List.{get_or-map, length-map, map-append}
 use Rattle.std.proofs.lemmas.Option.{slice_get-get_or}
+use Rattle.state_model.specs.Put.{put_from, put_rows}
 use Rattle.annot_schema.specs.Created.{Created}
 use Rattle.own_model.specs.declared.schema.Schema.{Schema}
 use Rattle.own_model.specs.declared.schema.TableDef.{TableDef}
 use Rattle.table_part.specs.Part.{Part, rows_of}
-use Rattle.txn_space.specs.Put.{put_from, put_rows}
 use Rattle.store_version.specs.Parts.{AreTheirParts}
 use Rattle.store_version.proofs.PartsAfter.{changes_keyed, keys_more, put_all, put_more}
 use Rattle.store_version.proofs.TheirParts.{part-key, parts-count}
@@ -28,7 +28,10 @@ part_after-requires-clause-keyed c =
     let same : tables ≡ c.args.catalog.now.schema.tables = c.items-tables.ensures ∙ ap (λ (schema : Schema). schema.tables) c.schema.ensures.same in
     let inside : c.loop-number.number < length tables = grind (arith, nat_tests) in
     let at = slice_get-get_or tables c.loop-number.number c.index-tables-number.result inside ∙ ap (λ (table : TableDef). Some table) (sym c.index-tables-number.is) in
-    changes_keyed tables c.loop-number.number c.index-tables-number.result c.args.changes.now at (rw same c.requires.theirs)
+    changes_keyed tables c.loop-number.number c.index-tables-number.result c.args.changes.now at (rw same c.requires.may.theirs)
+
+pub part_after-requires-clause-once : goal.part_after-requires-clause-once
+part_after-requires-clause-once c = c.requires.may.once c.loop-number.number
 
 -- one part more
 pub loop-number-preserved : goal.loop-number-preserved

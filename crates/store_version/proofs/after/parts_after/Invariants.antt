@@ -1,7 +1,7 @@
 use Rattle.std.proofs.Common.{◌≡◌, ◌++◌, drop, map}
 use Rattle.own_model.specs.declared.schema.TableDef.{TableDef}
+use Rattle.state_model.specs.Put.{put_from, put_rows}
 use Rattle.table_part.specs.Part.{Part, rows_of}
-use Rattle.txn_space.specs.Put.{put_from, put_rows}
 use Rattle.store_version.proofs.after.parts_after.Given as goal
 
 -- the parts so far have the keys and the rows, and the tables that are left have the rest of them

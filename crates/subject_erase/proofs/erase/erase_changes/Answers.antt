@@ -1,54 +1,40 @@
-use Rattle.std.proofs.Common.{◌≡◌, ℕ, List, sym, ◌∙◌, subst}
-use Rattle.std.specs.Prelude.{filter}
-use Rattle.std.specs.List.{AllByRecursion}
+use Rattle.std.proofs.Common.{◌≡◌, List, sym, ◌∙◌, subst}
 use Rattle.std.proofs.lemmas.Result.{IfOk-weaker}
 use Rattle.own_base.specs.declared.change.Change.{Change}
 use Rattle.subject_model.specs.Forget.{forget}
 use Rattle.subject_model.specs.Stays.{stays}
-use Rattle.table_part.specs.Changes.{KeysDiffer}
-use Rattle.txn_space.specs.Put.{IsChangeOf, is_of_table, put_rows}
+use Rattle.state_model.specs.MayBePut.{MayBePut}
+use Rattle.state_model.specs.Put.{put}
 use Rattle.subject_erase.specs.Flags.{AreFlagsOf}
 use Rattle.subject_erase.specs.Losing.{erased_rows}
 use Rattle.subject_erase.specs.Plan.{IsPlan, plan_of}
 use Rattle.subject_erase.proofs.ErasedRows.{erased-rows}
-use Rattle.subject_erase.proofs.ErasuresPut.{erasures-once, erasures-put, erasures-theirs}
+use Rattle.subject_erase.proofs.ErasuresPut.{erasures-may, erasures-put}
 use Rattle.subject_erase.proofs.PlanLemmas.{erasures-plan}
 use Rattle.subject_erase.proofs.erase.erase_changes.Goals as goal
 
-pub returns-clause-applied : goal.returns-clause-applied
-returns-clause-applied g c =
+pub returns-clause-may : goal.returns-clause-may
+returns-clause-may g c =
     let db = g.V.StoreView.db c.args.view.now in
     let ordered = g.met.V.StoreView.ordered c.args.view.now in
     let subject = c.args.subject.now.0 in
     let staying = c.items.result.now in
     let stay = subst (λ flags. AreFlagsOf db (stays db subject) flags) (sym c.items.ensures) c.in_ok-staying.ensures in
-    let P : List Change → Type 0 = λ changes. put_rows db.schema.tables changes db.rows ≡ (forget db subject).rows in
+    let P : List Change → Type 0 = MayBePut db.schema.tables in
+    IfOk-weaker c.erased_rows.result (λ changes. changes ≡ erased_rows db.schema db.rows staying c.in_ok-by.by) P
+    (λ changes is. subst P (sym (is ∙ erased-rows db subject ordered c.requires.owner c.requires.limits c.requires.rows staying c.in_ok-by.by stay c.in_ok-by.ensures)) (erasures-may db subject c.requires.owner ordered))
+    c.erased_rows.ensures
+
+pub returns-clause-put : goal.returns-clause-put
+returns-clause-put g c =
+    let db = g.V.StoreView.db c.args.view.now in
+    let ordered = g.met.V.StoreView.ordered c.args.view.now in
+    let subject = c.args.subject.now.0 in
+    let staying = c.items.result.now in
+    let stay = subst (λ flags. AreFlagsOf db (stays db subject) flags) (sym c.items.ensures) c.in_ok-staying.ensures in
+    let P : List Change → Type 0 = λ changes. put db changes ≡ forget db subject in
     IfOk-weaker c.erased_rows.result (λ changes. changes ≡ erased_rows db.schema db.rows staying c.in_ok-by.by) P
     (λ changes is. subst P (sym (is ∙ erased-rows db subject ordered c.requires.owner c.requires.limits c.requires.rows staying c.in_ok-by.by stay c.in_ok-by.ensures)) (erasures-put db subject c.requires.owner ordered))
-    c.erased_rows.ensures
-
-pub returns-clause-theirs : goal.returns-clause-theirs
-returns-clause-theirs g c =
-    let db = g.V.StoreView.db c.args.view.now in
-    let ordered = g.met.V.StoreView.ordered c.args.view.now in
-    let subject = c.args.subject.now.0 in
-    let staying = c.items.result.now in
-    let stay = subst (λ flags. AreFlagsOf db (stays db subject) flags) (sym c.items.ensures) c.in_ok-staying.ensures in
-    let P : List Change → Type 0 = AllByRecursion (IsChangeOf db.schema.tables) in
-    IfOk-weaker c.erased_rows.result (λ changes. changes ≡ erased_rows db.schema db.rows staying c.in_ok-by.by) P
-    (λ changes is. subst P (sym (is ∙ erased-rows db subject ordered c.requires.owner c.requires.limits c.requires.rows staying c.in_ok-by.by stay c.in_ok-by.ensures)) (erasures-theirs db subject c.requires.owner))
-    c.erased_rows.ensures
-
-pub returns-clause-once : goal.returns-clause-once
-returns-clause-once g c =
-    let db = g.V.StoreView.db c.args.view.now in
-    let ordered = g.met.V.StoreView.ordered c.args.view.now in
-    let subject = c.args.subject.now.0 in
-    let staying = c.items.result.now in
-    let stay = subst (λ flags. AreFlagsOf db (stays db subject) flags) (sym c.items.ensures) c.in_ok-staying.ensures in
-    let P : List Change → Type 0 = λ changes. (number : ℕ) → KeysDiffer (filter (is_of_table number) changes) in
-    IfOk-weaker c.erased_rows.result (λ changes. changes ≡ erased_rows db.schema db.rows staying c.in_ok-by.by) P
-    (λ changes is. subst P (sym (is ∙ erased-rows db subject ordered c.requires.owner c.requires.limits c.requires.rows staying c.in_ok-by.by stay c.in_ok-by.ensures)) (erasures-once db subject c.requires.owner ordered))
     c.erased_rows.ensures
 
 pub returns-clause-plan : goal.returns-clause-plan

@@ -2,7 +2,7 @@ use Rattle.std.proofs.Common.{◌≡◌, ◌∙◌, sym, subst, map, rules}
 use Rattle.std.specs.List.Sorted.{IsPermutation}
 use Rattle.std.proofs.lemmas.List.{take_all}
 use Rattle.std.proofs.lemmas.List.Sorted.{IsPermutation-map}
-use Rattle.table_part.specs.Changes.{KeysDiffer}
+use Rattle.state_model.specs.MayBePut.{KeysDiffer}
 use Rattle.table_part.specs.Lent.{lent}
 use Rattle.table_part.proofs.SortedChanges.{rising_by_key}
 use Rattle.table_part.proofs.keyed_change.by_key.Goals as goal

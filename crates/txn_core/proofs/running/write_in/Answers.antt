@@ -2,16 +2,19 @@ use Rattle.std.proofs.Common.{◌∙◌, [], List, ap, subst, sym}
 use Rattle.std.proofs.lemmas.Result.{IfOk-weaker}
 use Rattle.own_base.specs.declared.change.Change.{Change}
 use Rattle.own_model.specs.declared.reply.Reply.{Reply}
+use Rattle.state_model.specs.Put.{put_rows}
 use Rattle.txn_space.specs.Changed.{changed_rows}
 use Rattle.txn_space.specs.Entries.{entries_at}
 use Rattle.txn_space.specs.HasPut.{entries_put}
-use Rattle.txn_space.specs.Put.{put_rows}
 use Rattle.txn_core.specs.Runs.{HasRun}
-use Rattle.txn_core.proofs.Runs.{has_refused, has_written}
+use Rattle.txn_core.proofs.Runs.{has_refused, has_written, net_theirs}
 use Rattle.txn_core.proofs.running.write_in.Goals as goal
 
 pub put-put-requires-clause-changes : goal.put-put-requires-clause-changes
-put-put-requires-clause-changes g c = rw c.items.ensures c.in-Ok.ensures.ok.leads.theirs
+put-put-requires-clause-changes g c =
+    let db = g.V.StoreView.db c.args.version.now in
+    rw c.items.ensures
+    (net_theirs db c.args.space.now c.requires.store c.requires.space c.requires.rows c.args.bound.now c.in-Ok.reply c.in-Ok.changes c.requires.write c.in-Ok.ensures.ok)
 
 -- a write that is put
 pub returns-in_ok-put-in-Ok-clause-ran : goal.returns-in_ok-put-in-Ok-clause-ran

@@ -1,8 +1,9 @@
-use Rattle.std.proofs.Common.{List, subst, sym}
-use Rattle.own_base.specs.declared.change.Change.{Change}
+use Rattle.std.proofs.Common.{◌≡◌, List, subst, sym}
 use Rattle.std.specs.List.{AllByRecursion}
-use Rattle.txn_space.specs.Put.{IsChangeOf, put_rows}
-use Rattle.txn_core.specs.Single.{IsNetTo}
+use Rattle.own_base.specs.declared.change.Change.{Change}
+use Rattle.state_model.specs.MayBePut.{IsPutIn}
+use Rattle.state_model.specs.Net.{net}
+use Rattle.state_model.specs.Put.{put}
 use Rattle.txn_core.proofs.NetTo.{writes_net, writes_theirs}
 use Rattle.txn_core.proofs.single_write.single.Goals as goal
 
@@ -10,13 +11,13 @@ use Rattle.txn_core.proofs.single_write.single.Goals as goal
 pub net_of-requires-clause-changes : goal.net_of-requires-clause-changes
 net_of-requires-clause-changes g c =
     let db = g.V.StoreView.db c.args.view.now in
-    subst (λ (changes : List Change). AllByRecursion (IsChangeOf db.schema.tables) changes) (sym c.items.ensures)
+    subst (λ (changes : List Change). AllByRecursion (IsPutIn db.schema.tables) changes) (sym c.items.ensures)
     (writes_theirs db c.args.bound.now c.requires.tables.rising c.requires.write c.in-Ok.written c.in-Ok.ensures.ok)
 
 -- and its net is that of the write
 pub returns-in-Ok-net_of-clause-ok : goal.returns-in-Ok-net_of-clause-ok
 returns-in-Ok-net_of-clause-ok g c =
     let db = g.V.StoreView.db c.args.view.now in
-    let net : IsNetTo db (record db { rows = put_rows db.schema.tables c.in-Ok.written.changes db.rows }) c.in-Ok-net_of.changes =
-    subst (λ (changes : List Change). IsNetTo db (record db { rows = put_rows db.schema.tables changes db.rows }) c.in-Ok-net_of.changes) c.items.ensures c.in-Ok-net_of.ensures in
-    writes_net db c.args.bound.now c.requires.tables.rising c.requires.write c.in-Ok.written c.in-Ok.ensures.ok c.in-Ok-net_of.changes net
+    let is : c.in-Ok-net_of.changes ≡ net db (put db c.in-Ok.written.changes) =
+    subst (λ (changes : List Change). c.in-Ok-net_of.changes ≡ net db (put db changes)) c.items.ensures c.in-Ok-net_of.ensures in
+    writes_net db c.args.bound.now c.requires.tables.rising c.requires.write c.in-Ok.written c.in-Ok.ensures.ok c.in-Ok-net_of.changes is

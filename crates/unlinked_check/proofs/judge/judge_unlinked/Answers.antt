@@ -28,7 +28,7 @@ returns-in-Some g c =
     let after = ordered_under db next c.requires.schema (g.met.V.StoreView.ordered c.args.after.now) in
     let is = net_under db next c.args.changes.now c.requires.schema c.requires.net in
     subst (λ (s : Schema). fault (record next { schema = s }) ≡ Some c.in-Some.rows) (sym c.requires.schema)
-    (judged_rows db next c.args.changes.now c.requires.owner ordered after is c.requires.applied c.requires.once c.requires.unlinked c.requires.faultless
+    (judged_rows db next c.args.changes.now c.requires.owner ordered after is c.requires.unlinked c.requires.faultless
     c.in-Some.rows (sym c.in-Some.ensures))
 
 pub overflow_sub-kept : goal.overflow_sub-kept
@@ -38,7 +38,7 @@ overflow_sub-kept g c =
     let ordered = g.met.B.StoreView.ordered c.args.before.now in
     let after = ordered_under db next c.requires.schema (g.met.V.StoreView.ordered c.args.after.now) in
     let is = net_under db next c.args.changes.now c.requires.schema c.requires.net in
-    gone_within db next c.args.changes.now c.requires.owner ordered after is c.requires.applied c.requires.once c.requires.unlinked c.requires.faultless
+    gone_within db next c.args.changes.now c.requires.owner ordered after is c.requires.unlinked c.requires.faultless
     c.weight_gone.result c.args.weight (c.weight_gone.ensures ∙ ap (λ (s : Schema). saturated (weight_gone s c.args.changes.now)) c.schema-schema.ensures) c.requires.weight
 
 pub returns : goal.returns
@@ -49,11 +49,11 @@ returns g c =
     let after = ordered_under db next c.requires.schema (g.met.V.StoreView.ordered c.args.after.now) in
     let is = net_under db next c.args.changes.now c.requires.schema c.requires.net in
     let counts =
-    weight_counted db next c.args.changes.now c.requires.owner ordered after is c.requires.applied c.requires.once c.requires.unlinked c.requires.faultless
+    weight_counted db next c.args.changes.now c.requires.owner ordered after is c.requires.unlinked c.requires.faultless
     c.weight_gone.result c.weight_come.result c.args.weight c.saturating_add.result
     (c.weight_gone.ensures ∙ ap (λ (s : Schema). saturated (weight_gone s c.args.changes.now)) c.schema-schema.ensures)
     (c.weight_come.ensures ∙ ap (λ (s : Schema). saturated (weight_come s c.args.changes.now)) c.schema-schema.ensures)
     c.requires.weight c.saturating_add.ensures in
     subst (λ (s : Schema). IsJudged (record next { schema = s }) c.judge_weight.result) (sym c.requires.schema)
-    (judged_weight db next c.args.changes.now c.requires.owner ordered after is c.requires.applied c.requires.once c.requires.unlinked c.requires.faultless
+    (judged_weight db next c.args.changes.now c.requires.owner ordered after is c.requires.unlinked c.requires.faultless
     c.judge_weight.result (sym c.in_default.ensures) (c.judge_weight.ensures (weight (under db next)) counts))

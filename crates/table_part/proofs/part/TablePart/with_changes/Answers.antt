@@ -5,7 +5,7 @@ use Rattle.own_base.specs.declared.change.Change.{Change}
 use Rattle.own_model.proofs.KeyOrder.{key_order}
 use Rattle.page_model.specs.Changed.{AreKeyed, with_changes}
 use Rattle.page_model.specs.Kept.{KeepsPages}
-use Rattle.table_part.specs.Changes.{changed_key, row_after}
+use Rattle.state_model.specs.Put.{changed_key, row_after}
 use Rattle.table_part.specs.KeyIn.{key_in}
 use Rattle.table_part.specs.Lent.{lent}
 use Rattle.table_part.specs.Part.{Part, rows_of}

@@ -1,10 +1,5 @@
-use Rattle.std.proofs.Common.{subst, ℕ, List, filter, ◌≡◌, ◌<◌, ◌≤◌, ◌+◌, ◌++◌, length, drop, sym, ◌∙◌, ap, arith}
+use Rattle.std.proofs.Common.{◌≡◌, ◌<◌, ◌≤◌, ◌+◌, ◌++◌, length, drop, sym, ◌∙◌, ap, arith}
 use Rattle.std.proofs.lemmas.Bool.Decides.{nat_tests}
-use Rattle.std.specs.List.{AllByRecursion as Each}
-use Rattle.own_base.specs.declared.change.Change.{Change}
-use Rattle.table_part.specs.Changes.{KeysDiffer}
-use Rattle.txn_space.specs.Put.{IsChangeOf, is_of_table, put_rows}
-use Rattle.txn_space.proofs.Applied.{all_applied, all_of, all_once}
 use Rattle.page_model.specs.Paged.{items}
 use Rattle.txn_space.specs.Entries.{seen}
 use Rattle.txn_space.specs.EntryNet.{entry_changes}
@@ -25,8 +20,8 @@ loop-number-preserved g c =
     ∙ table_more schema rows c.loop-number.number (seen tables) (items c.index-tables-number.result) c.loop-number.changes (entry_changes schema rows 0 (seen tables)) within is c.loop-number.invariant
 
 -- The changes are those of the entries.
-pub returns-clause-net : goal.returns-clause-net
-returns-clause-net g c =
+pub returns : goal.returns
+returns g c =
     let schema = (g.V.StoreView.db c.args.base.now).schema in
     let rows = (g.V.StoreView.db c.args.base.now).rows in
     let tables = c.items-tables.result.now in
@@ -35,36 +30,3 @@ returns-clause-net g c =
     let space : seen tables ≡ c.args.self.now = ap seen c.items-tables.ensures ∙ c.self.view_is in
     all_tables schema rows c.loop-number.number (seen tables) c.loop-number.changes (entry_changes schema rows 0 (seen tables)) past c.loop-number.invariant
     ∙ (ap (entry_changes schema rows 0) space ∙ sym (net_is (g.V.StoreView.db c.args.base.now) c.args.self.now c.requires.space c.requires.base))
-
-pub returns-clause-applied : goal.returns-clause-applied
-returns-clause-applied g c =
-    let schema = (g.V.StoreView.db c.args.base.now).schema in
-    let rows = (g.V.StoreView.db c.args.base.now).rows in
-    let tables = c.items-tables.result.now in
-    let behind : length tables ≤ c.loop-number.number = grind (arith, nat_tests) in
-    let past : length (seen tables) ≤ c.loop-number.number = omega (arith, length_seen tables) in
-    let space : seen tables ≡ c.args.self.now = ap seen c.items-tables.ensures ∙ c.self.view_is in
-    let all = all_tables schema rows c.loop-number.number (seen tables) c.loop-number.changes (entry_changes schema rows 0 (seen tables)) past c.loop-number.invariant ∙ ap (entry_changes schema rows 0) space in
-    ap (λ changes. put_rows schema.tables changes rows) all ∙ all_applied schema rows c.args.self.now c.requires.space c.requires.base
-
-pub returns-clause-theirs : goal.returns-clause-theirs
-returns-clause-theirs g c =
-    let schema = (g.V.StoreView.db c.args.base.now).schema in
-    let rows = (g.V.StoreView.db c.args.base.now).rows in
-    let tables = c.items-tables.result.now in
-    let behind : length tables ≤ c.loop-number.number = grind (arith, nat_tests) in
-    let past : length (seen tables) ≤ c.loop-number.number = omega (arith, length_seen tables) in
-    let space : seen tables ≡ c.args.self.now = ap seen c.items-tables.ensures ∙ c.self.view_is in
-    let all = all_tables schema rows c.loop-number.number (seen tables) c.loop-number.changes (entry_changes schema rows 0 (seen tables)) past c.loop-number.invariant ∙ ap (entry_changes schema rows 0) space in
-    subst (λ (changes : List Change). Each (IsChangeOf schema.tables) changes) (sym all) (all_of schema rows c.args.self.now c.requires.space)
-
-pub returns-clause-once : goal.returns-clause-once
-returns-clause-once g c =
-    let schema = (g.V.StoreView.db c.args.base.now).schema in
-    let rows = (g.V.StoreView.db c.args.base.now).rows in
-    let tables = c.items-tables.result.now in
-    let behind : length tables ≤ c.loop-number.number = grind (arith, nat_tests) in
-    let past : length (seen tables) ≤ c.loop-number.number = omega (arith, length_seen tables) in
-    let space : seen tables ≡ c.args.self.now = ap seen c.items-tables.ensures ∙ c.self.view_is in
-    let all = all_tables schema rows c.loop-number.number (seen tables) c.loop-number.changes (entry_changes schema rows 0 (seen tables)) past c.loop-number.invariant ∙ ap (entry_changes schema rows 0) space in
-    subst (λ (changes : List Change). (number : ℕ) → KeysDiffer (filter (is_of_table number) changes)) (sym all) (all_once schema rows c.args.self.now c.requires.space c.requires.base)

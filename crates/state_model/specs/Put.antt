@@ -1,11 +1,18 @@
--- Rows with changes, table by table.
-use Rattle.std.specs.Prelude.{◌≡◌, ℕ, ◌+◌, List, [], ◌∷◌, Bool, ◌==◌, IfSome, IsSomeAnd, filter, slice_get}
+-- A database into which changes of its rows are put.
+use Rattle.std.specs.Prelude.{ℕ, ◌+◌, List, [], ◌∷◌, Bool, ◌==◌, Option, filter}
 use Rattle.own_base.specs.Key.{key_cmp}
 use Rattle.own_base.specs.declared.change.Change.{Change}
+use Rattle.own_base.specs.declared.value.Key.{Key}
 use Rattle.own_model.specs.declared.schema.TableDef.{TableDef}
-use Rattle.own_model.specs.Db.{Row, key_of}
+use Rattle.own_model.specs.Db.{Db, Row, key_of}
 use Rattle.page_model.specs.Changed.{with_changes}
-use Rattle.table_part.specs.Changes.{changed_key, row_after}
+
+-- the key of a change, and the row that it puts, None where it takes away the row of its key
+abbrev pub changed_key : Change → Key
+changed_key change = change.name.key
+
+abbrev pub row_after : Change → Option Row
+row_after change = change.after
 
 abbrev pub is_of_table : ℕ → Change → Bool
 is_of_table number change = change.name.table.0 == number
@@ -23,6 +30,6 @@ put_from number _ changes _ = []
 abbrev pub put_rows : List TableDef → List Change → List (List Row) → List (List Row)
 put_rows tables changes rows = put_from 0 tables changes rows
 
--- a change of a table that is there, which puts no row but one of its key
-abbrev pub IsChangeOf : List TableDef → Change → Type 0
-IsChangeOf tables change = IsSomeAnd (slice_get tables change.name.table.0) (λ table. IfSome change.after (λ row. key_of table row ≡ change.name.key))
+-- the database with these rows
+abbrev pub put : Db → List Change → Db
+put db changes = record db { rows = put_rows db.schema.tables changes db.rows }

@@ -13,7 +13,7 @@ use Rattle.page_model.specs.Changed.{AreKeyed, above_key, below_key, with_change
 use Rattle.page_model.specs.Found.{found}
 use Rattle.page_model.proofs.Ordered.{above_from_below, below_from_above, equal_from}
 use Rattle.page_model.proofs.RisingLemmas.{each_map}
-use Rattle.table_part.proofs.InOrder.{find_none, is_of, none_later}
+use Rattle.page_model.proofs.InOrder.{find_none, is_of, none_later}
 
 module _ {X : Type 0} (p q : X → Bool) where
   -- what is sought isn't found among what fails

@@ -58,3 +58,13 @@ module _ {T C : Type 0} (key_of : T → Key) (changed : C → Key) (make : T →
       by false other (Some made) is same more =
           let test : is_eq (key_cmp (changed made) key) ≡ false = ap (λ k. is_eq (key_cmp k key)) same ∙ other in
           rw test more
+
+-- what is found has the key
+pub found_has : {T : Type 0} (key_of : T → Key) (key : Key) (xs : List T) (x : T) → found key_of key_cmp key xs ≡ Some x → is_eq (key_cmp (key_of x) key) ≡ true
+unfolding found
+found_has key_of key [] x is = cc
+found_has key_of key (y ∷ xs) x is = by (is_eq (key_cmp (key_of y) key)) refl (found_has key_of key xs x) is
+  where
+    by : (b : Bool) → is_eq (key_cmp (key_of y) key) ≡ b → (found key_of key_cmp key xs ≡ Some x → is_eq (key_cmp (key_of x) key) ≡ true) → cond b (Some y) (found key_of key_cmp key xs) ≡ Some x → is_eq (key_cmp (key_of x) key) ≡ true
+    by true has more here = let same : y ≡ x = cc in subst (λ z. is_eq (key_cmp (key_of z) key) ≡ true) same has
+    by false other more there = more there
