@@ -6,7 +6,7 @@ use Rattle.own_model.specs.declared.schema.CreateText.{CreateText}
 use Rattle.own_model.specs.Db.{Db, Row}
 use Rattle.state_model.specs.Sound.{Sound}
 use Rattle.disk_model.specs.declared.image.Image.{Image}
-use Rattle.disk_model.specs.Bounds.{IsCountable, IsTypedImage}
+use Rattle.disk_model.specs.Bounds.{IsTypedImage}
 use Rattle.disk_model.specs.Image.{IsImage}
 use Rattle.disk_model.specs.Lawful.{IsLawfulImage}
 use Rattle.disk_model.specs.Spelling.{create_spelling, image_spelling, list_spelling, number_spelling, row_spelling}
@@ -23,12 +23,12 @@ few_commits commits tail fits other is =
     let same = some_is _ _ (sym (number8.only other.commits bytes is.2.creates is.2.commits_are) ∙ number8.only commits bytes tail (number8-of_spelling commits tail fits)) in
     subst (λ (n : ℕ). n ≤ JOURNAL_ROOM) (ap (λ (x : ℕ × List ℕ). x.0) same) is.1.commits
 
-pub gated : (db : Db) (commits : ℕ) (bytes : List ℕ) → Sound db → commits < 2 ^ 64 → AllByRecursion (λ create. IsCountable create.text) db.creates → IsTypedImage (image_from db commits)
+pub gated : (db : Db) (commits : ℕ) (bytes : List ℕ) → Sound db → commits < 2 ^ 64 → IsTypedImage (image_from db commits)
     → bytes ≡ image_spelling (image_from db commits) ++ 0 ∷ [] → IsGatedImage db commits bytes
-gated db commits bytes sound fits texts typed is = record {
+gated db commits bytes sound fits typed is = record {
   image = image_spelling (image_from db commits);
   parts = is;
-  is_image = λ few. image-of_spelling (image_from db commits) (bounded_image db commits sound few texts) typed;
+  is_image = λ few. image-of_spelling (image_from db commits) (bounded_image db commits sound few) typed;
   only = few_commits commits (list_spelling create_spelling db.creates ++ flat_map (list_spelling row_spelling) db.rows) fits;
 }
 

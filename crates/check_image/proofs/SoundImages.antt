@@ -1,5 +1,5 @@
 -- A database that a store may represent has an image.
-use Rattle.std.proofs.Common.{◌≡◌, ℕ, suc, ◌+◌, ◌≤◌, Bool, true, false, cond, List, [], ◌∷◌, length, length-append, map, fold, refl, sym, ap, ◌∙◌, arith}
+use Rattle.std.proofs.Common.{◌≡◌, ℕ, suc, ◌+◌, ◌≤◌, Bool, true, false, cond, List, [], ◌∷◌, length, length-append, map, fold, refl, sym, ap, subst, ◌∙◌, arith}
 use Rattle.std.specs.Prelude.{None, not, sum_by, if◌then◌else◌}
 use Rattle.std.specs.List.{AllByRecursion}
 use Rattle.std.proofs.lemmas.Bool.{ltb-false}
@@ -19,7 +19,7 @@ use Rattle.schema_model.specs.WithinLimits.{IsTableWithin}
 use Rattle.schema_model.proofs.Places.{append-none}
 use Rattle.query_model.specs.BoundView.{new_view}
 use Rattle.state_model.specs.Create.{kept_text, kept_view_text, with_view}
-use Rattle.state_model.specs.Created.{Create, IsCreated, OfTable, OfView, schema_after, text_of, with_create}
+use Rattle.state_model.specs.Created.{Create, IsCreated, IsReadableCreate, OfTable, OfView, schema_after, text_of, with_create}
 use Rattle.state_model.specs.Fault.{fault}
 use Rattle.state_model.specs.Rows.{AreOfKinds, AreRowsOf, IsRowOf, IsStorable}
 use Rattle.state_model.specs.Sound.{Sound}
@@ -144,8 +144,16 @@ created_texts db created =
     let same : length db.schema.tables ≡ length (schema_after created.creates).tables = ap (λ schema. length schema.tables) schema in
     (of_tables ∙ ap table_count (sym created.texts), omega arith)
 
-pub bounded_image : (db : Db) (commits : ℕ) → Sound db → commits ≤ JOURNAL_ROOM → AllByRecursion (λ create. IsCountable create.text) db.creates → IsBoundedImage (image_from db commits)
-bounded_image db commits sound few texts =
+countable : (creates : List Create) → AllByRecursion IsReadableCreate creates → AllByRecursion (λ create. IsCountable create.text) (texts_of creates)
+countable [] readable = tt
+countable (create ∷ creates) readable = let short = readable.0.short in (omega arith, countable creates readable.1)
+
+-- 32 bits tell the length of each text
+pub countable_texts : (db : Db) → IsCreated db → AllByRecursion (λ create. IsCountable create.text) db.creates
+countable_texts db created = subst (AllByRecursion (λ create. IsCountable create.text)) (sym created.texts) (countable created.creates created.readable)
+
+pub bounded_image : (db : Db) (commits : ℕ) → Sound db → commits ≤ JOURNAL_ROOM → IsBoundedImage (image_from db commits)
+bounded_image db commits sound few =
     let rows = sound_rows db sound in
     let creates = created_texts db sound.kept.created in
-    record { within = record { commits = few; creates = creates.1; tables = rows.1 ∙ creates.0 }; creates = texts; tables = rows.0 }
+    record { within = record { commits = few; creates = creates.1; tables = rows.1 ∙ creates.0 }; creates = countable_texts db sound.kept.created; tables = rows.0 }

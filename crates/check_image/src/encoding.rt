@@ -1,4 +1,4 @@
-ghost use Rattle.std.specs.Prelude.{◌≡◌, ◌++◌, IfOk, IsTrue, IsUtf8, OnOk};
+ghost use Rattle.std.specs.Prelude.{◌≡◌, ◌++◌, IfOk, IsUtf8, OnOk};
 ghost use Rattle.std.specs.List.{AllByRecursion};
 ghost use Rattle.state_model.specs.Sound.{Sound};
 ghost use Rattle.disk_model.specs.Bounds.{IsCountable};
@@ -10,18 +10,6 @@ use disk_fields::{write_items, write_u32, write_u64};
 use own_base::List;
 use own_model::{CreateText, StoreView};
 use std::alloc::{AllocError, Global};
-
-/// Whether the length of each text can be told by 32 bits.
-fn are_countable(creates: &[CreateText]) -> bool
-    ensures { IsTrue result → AllByRecursion (λ create. IsCountable create.text) creates.now }
-{
-    for create in creates {
-        if create.text.bytes().len() > u32::MAX as usize {
-            return false;
-        }
-    }
-    true
-}
 
 /// Writes the creates at the end: four bytes for their number, and then one behind another.
 fn write_creates(creates: &[CreateText], out: &mut Vec<u8>) -> Result<(), AllocError>
@@ -36,7 +24,7 @@ fn write_creates(creates: &[CreateText], out: &mut Vec<u8>) -> Result<(), AllocE
 
 /// The image of the database that the view shows, and a closed gate, as a journal area is filled with it. The database is
 /// one that a store may represent, the texts are those of its creates, and so many commits made it; the bytes are an image
-/// exactly where these are at most `JOURNAL_ROOM`. A text whose length 32 bits can't tell counts as a want of memory.
+/// exactly where these are at most `JOURNAL_ROOM`.
 pub fn encode<V: StoreView>(
     alloc: Global,
     view: &V,
@@ -47,9 +35,6 @@ pub fn encode<V: StoreView>(
     requires creates { creates.now ≡ (V.db view.now).creates }
     ensures { IfOk result (λ bytes. IsGatedImage (V.db view.now) commits bytes) }
 {
-    if !are_countable(creates) {
-        return Err(AllocError);
-    }
     let mut out = Vec::new(alloc);
     out.push(1)?;
     write_u64(commits, &mut out)?;

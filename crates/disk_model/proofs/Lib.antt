@@ -6,9 +6,3 @@ pub mod AreaLaws
 pub mod OneValue
 pub mod JudgedOnce
 pub mod JudgedStores
-pub mod TokenBytes
-pub mod ListBytes
-pub mod CreateBytes
-pub mod ConditionBytes
-pub mod ViewBytes
-pub mod CanonicalBytes

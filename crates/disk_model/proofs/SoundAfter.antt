@@ -1,5 +1,5 @@
 -- A lawful commit leaves a sound database sound.
-use Rattle.std.proofs.Common.{◌≡◌, ℕ, suc, ◌+◌, List, [], ◌∷◌, ◌++◌, Bool, true, false, cond, fold, refl, sym, ap, subst, ◌∙◌, arith}
+use Rattle.std.proofs.Common.{◌≡◌, ℕ, suc, ◌+◌, List, [], ◌∷◌, ◌++◌, Bool, true, false, cond, fold, length, refl, sym, ap, subst, ◌∙◌, arith}
 use Rattle.std.specs.Prelude.{Option, Some, None, IfSome, filter, slice_get}
 use Rattle.std.specs.List.{AllByRecursion}
 use Rattle.std.proofs.lemmas.Bool.{eqb-true}
@@ -145,7 +145,11 @@ sound-puts db puts after sound made =
 readable-text : (create : Create) (text : CreateText) → IsTextOf create text → IsReadableCreate create
 readable-text create text is =
     let few = is.few in
-    record { text = text.text; short = omega arith; terminals = is.read.terminals; cut = is.read.cut; spells = is.read.answers.0 }
+    let same = ap (λ (text : CreateText). length text.text) is.canonical in
+    record {
+      written = record { text = text.text; short = omega arith; terminals = is.read.terminals; cut = is.read.cut; spells = is.read.answers.0 };
+      short = omega arith;
+    }
 
 -- a CREATE more that is admitted after the others
 admitted-append : (schema : Schema) (creates : List Create) (last : Create) → AreAdmitted schema creates

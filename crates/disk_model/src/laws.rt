@@ -1,9 +1,7 @@
 //! Laws of the definitions in `specs/`: each function does nothing, and what it ensures holds of all bytes.
-ghost use Rattle.std.specs.Prelude.{◌≡◌, ◌↔◌, ◌≤◌, ◌*◌, ℕ, List, length};
+ghost use Rattle.std.specs.Prelude.{◌≡◌, ◌↔◌, ℕ, List, length};
 ghost use Rattle.own_base.specs.declared.change.Change.{Change};
 ghost use Rattle.own_model.specs.Db.{Db};
-ghost use Rattle.grammar_model.specs.Readable.{IsWritten};
-ghost use Rattle.state_model.specs.Created.{Create, statement_of, text_of};
 ghost use Rattle.state_model.specs.Payload.{payload_bytes};
 ghost use Rattle.state_model.specs.Sound.{Sound};
 ghost use Rattle.disk_model.specs.declared.commit.Commit.{Commit};
@@ -62,10 +60,4 @@ pub fn areas_are_judged_as_they_represent()
         → Represent a b stored → IsStoredAs stored image commits → IsStoreOf image commits db number → IsJudged a b (Store image commits) }
     ensures stored { (a b : List ℕ) (image : Image) (commits : List Commit) → IsJudged a b (Store image commits)
         → (stored : Stored) × (db : Db) × (number : ℕ) × Represent a b stored × IsStoredAs stored image commits × IsStoreOf image commits db number }
-{}
-
-/// The canonical text of a CREATE has at most twice as many bytes as any text by which the grammar gives it. So the text by
-/// which a CREATE of a call is kept has a length of 32 bits.
-pub fn canonical_text_of_a_create_is_at_most_twice_as_long()
-    ensures { (create : Create) (most : ℕ) → IsWritten most (statement_of create) → length (text_of create).text ≤ 2 * most }
 {}

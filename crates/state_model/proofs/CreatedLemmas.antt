@@ -7,6 +7,7 @@ use Rattle.std.proofs.lemmas.List.{map-append}
 use Rattle.std.proofs.lemmas.List.Sums.{fold-append}
 use Rattle.own_model.specs.declared.create.CreateTable.{CreateTable}
 use Rattle.own_model.specs.declared.create.CreateView.{CreateView}
+use Rattle.own_model.specs.declared.limit.TheConstants.{STATEMENT_BYTES}
 use Rattle.own_model.specs.declared.refusal.Refusal.{Refusal}
 use Rattle.own_model.specs.declared.request.Request.TheVariants.{Run}
 use Rattle.own_model.specs.declared.schema.Schema.{Schema}
@@ -22,6 +23,7 @@ use Rattle.query_model.specs.Refused.{lowest}
 use Rattle.grammar_model.specs.Readable.{IsReadable, IsWritten}
 use Rattle.state_model.specs.Create.{create, create_view}
 use Rattle.state_model.specs.Created.{AreAdmitted, Create, IsAdmitted, IsCreated, IsReadableCreate, OfTable, OfView, statement_of, text_of, with_create, without_rows}
+use Rattle.state_model.proofs.CanonicalBytes.{canonical-short}
 
 -- where there is no cause of five, there is none without the fourth
 without_fourth : (first second third fourth other fifth : Option Refusal)
@@ -61,7 +63,9 @@ written-longer most more found within written =
 
 -- a CREATE that can stand in a history is one that can be read
 pub readable-create : (create : Create) → IsReadable (Run (statement_of create)) → IsReadableCreate create
-readable-create create readable = written-longer _ _ (statement_of create) (omega arith) readable
+readable-create create readable =
+    let less = canonical-short create STATEMENT_BYTES readable in
+    record { written = written-longer _ _ (statement_of create) (omega arith) readable; short = omega arith }
 
 -- a CREATE more that is admitted after the others
 admitted-append : (schema : Schema) (creates : List Create) (last : Create) → AreAdmitted schema creates

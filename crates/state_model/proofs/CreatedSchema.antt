@@ -96,7 +96,7 @@ views-with_view : (schema : Schema) (view : CreateView) → AreWithin schema →
     → AreViewsWithin (with_view schema view)
 unfolding with_view
 views-with_view schema view within readable none =
-    views_within-with_view schema view (new_view schema view) within.tables within.views (written_view_within _ view readable) (given-view schema view none)
+    views_within-with_view schema view (new_view schema view) within.tables within.views (written_view_within _ view readable.written) (given-view schema view none)
 
 within-kept : (schema : Schema) (create : Create) → AreWithin schema → IsReadableCreate create → IsAdmitted schema create → AreWithin (with_create schema create)
 within-kept schema (OfTable table) within readable admitted = record {
@@ -121,7 +121,7 @@ views_within-created db is = (within-all db is).views
 -- and no column is of the kind of sums
 plain-kept : (schema : Schema) (create : Create) → ArePlainTables schema → IsReadableCreate create → IsAdmitted schema create → ArePlainTables (with_create schema create)
 unfolding with_view
-plain-kept schema (OfTable table) plain readable admitted = plain-with_table _ schema table readable plain
+plain-kept schema (OfTable table) plain readable admitted = plain-with_table _ schema table readable.written plain
 plain-kept schema (OfView view) plain readable admitted = plain
 
 pub plain-created : (db : Db) → IsCreated db → ArePlainTables db.schema

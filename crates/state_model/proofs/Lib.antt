@@ -1,5 +1,8 @@
+pub mod CanonicalBytes
+pub mod ConditionBytes
 pub mod Consistency
 pub mod Counts
+pub mod CreateBytes
 pub mod CreatedLemmas
 pub mod CreatedSchema
 pub mod FaultLemmas
@@ -18,6 +21,7 @@ pub mod ForgetWeight
 pub mod WellFormedLemmas
 pub mod KeyColumns
 pub mod NetOrder
+pub mod ListBytes
 pub mod NetRows
 pub mod OwnerCounts
 pub mod OwnersLeft
@@ -33,3 +37,5 @@ pub mod KeysLemmas
 pub mod PutRows
 pub mod PutLeads
 pub mod NetLeads
+pub mod TokenBytes
+pub mod ViewBytes

@@ -1,5 +1,5 @@
 -- Databases whose schema is the one that their creates give.
-use Rattle.std.specs.Prelude.{◌≡◌, ℕ, List, [], ◌∷◌, Bool, false, None, fold, map}
+use Rattle.std.specs.Prelude.{◌≡◌, ◌≤◌, ℕ, List, [], ◌∷◌, length, Bool, false, None, fold, map}
 use Rattle.std.specs.List.{AllByRecursion}
 use Rattle.own_model.specs.declared.create.CreateTable.{CreateTable}
 use Rattle.own_model.specs.declared.create.CreateView.{CreateView}
@@ -51,9 +51,10 @@ AreAdmitted schema (create ∷ creates) = IsAdmitted schema create × AreAdmitte
 abbrev pub schema_after : List Create → Schema
 schema_after creates = fold with_create empty.schema creates
 
--- the grammar gives the statement for some text of fewer bytes than a length of 32 bits can tell
-abbrev pub IsReadableCreate : Create → Type 0
-IsReadableCreate create = IsWritten 4294967295 (statement_of create)
+-- the grammar gives the statement for some text, and 32 bits tell the length of that text and of the canonical one
+pub record IsReadableCreate (create : Create) : Type 0 where
+  pub written : IsWritten 4294967295 (statement_of create)
+  pub short : length (text_of create).text ≤ 4294967295
 
 -- A database keeps the texts of its creates in order, each admitted after those before it, and has the schema that they give.
 pub record IsCreated (db : Db) : Type 0 where

@@ -1,5 +1,5 @@
 //! Laws of the definitions in `specs/`: each function does nothing, and what it ensures holds of every database.
-ghost use Rattle.std.specs.Prelude.{◌≡◌, ◌↔◌, ◌≤◌, ◌+◌, Contains, IsTrue, List, None, Some, map, nat_lt, if◌then◌else◌};
+ghost use Rattle.std.specs.Prelude.{◌≡◌, ◌↔◌, ◌≤◌, ◌+◌, ◌*◌, ℕ, Contains, IsTrue, List, length, None, Some, map, nat_lt, if◌then◌else◌};
 ghost use Rattle.std.specs.List.Sorted.{IsStrictlySortedBy};
 ghost use Rattle.own_base.specs.declared.change.Change.{Change};
 ghost use Rattle.own_base.specs.declared.row_name.RowName.{RowName};
@@ -18,13 +18,13 @@ ghost use Rattle.schema_model.specs.Tables.{is_subject};
 ghost use Rattle.schema_model.specs.WithinLimits.{IsWithinLimits};
 ghost use Rattle.query_model.specs.BoundView.{new_view};
 ghost use Rattle.query_model.specs.WithinLimits.{AreViewsWithin};
-ghost use Rattle.grammar_model.specs.Readable.{IsReadable};
+ghost use Rattle.grammar_model.specs.Readable.{IsReadable, IsWritten};
 ghost use Rattle.subject_model.specs.Forget.{forget};
 ghost use Rattle.subject_model.specs.NameOrder.{name_cmp};
 ghost use Rattle.state_model.specs.ChangeOf.{IsChangeOf};
 ghost use Rattle.state_model.specs.Consistent.{IsConsistent};
 ghost use Rattle.state_model.specs.Create.{create, create_view};
-ghost use Rattle.state_model.specs.Created.{IsCreated};
+ghost use Rattle.state_model.specs.Created.{Create, IsCreated, statement_of, text_of};
 ghost use Rattle.state_model.specs.Fault.{fault};
 ghost use Rattle.state_model.specs.LeadTo.{LeadTo};
 ghost use Rattle.state_model.specs.MayBePut.{MayBePut};
@@ -108,4 +108,10 @@ pub fn view_that_comes_adds_its_weight()
     ensures fault { (db : Db) (view : ViewCreate) → Sound db → fault (create_view db view) ≡
         (if nat_lt STORE_WEIGHT (weight db + view_weight db (new_view db.schema view)) then Some (Limit limit.Weight) else None) }
     ensures weight { (db : Db) (view : ViewCreate) → IsWellFormed db → weight (create_view db view) ≡ weight db + view_weight db (new_view db.schema view) }
+{}
+
+/// The canonical text of a CREATE has at most twice as many bytes as any text by which the grammar gives it. So the text by
+/// which a CREATE of a call is kept has a length of 32 bits.
+pub fn canonical_text_of_a_create_is_at_most_twice_as_long()
+    ensures { (create : Create) (most : ℕ) → IsWritten most (statement_of create) → length (text_of create).text ≤ 2 * most }
 {}

@@ -13,10 +13,10 @@ use Rattle.grammar_model.specs.Language.{Language, one, ◌>>=◌, ◌>>◌, ◌
 use Rattle.grammar_model.specs.Limits.{Limits, fits}
 use Rattle.grammar_model.specs.Terminal.{Terminal}
 use Rattle.grammar_model.specs.Values.{SlotIs}
-use Rattle.disk_model.proofs.ConditionBytes.{condition}
-use Rattle.disk_model.proofs.CreateBytes.{a_name}
-use Rattle.disk_model.proofs.ListBytes.{Spells, behind, flag, many, perhaps}
-use Rattle.disk_model.proofs.TokenBytes.{bytes-append, bytes-bracketed, bytes_of, col, keyword, mark, name, one-covers, word_bytes}
+use Rattle.state_model.proofs.ConditionBytes.{condition}
+use Rattle.state_model.proofs.CreateBytes.{a_name}
+use Rattle.state_model.proofs.ListBytes.{Spells, behind, flag, many, perhaps}
+use Rattle.state_model.proofs.TokenBytes.{bytes-append, bytes-bracketed, bytes_of, col, keyword, mark, name, one-covers, word_bytes}
 
 -- ---- items
 

@@ -7,8 +7,8 @@ use Rattle.grammar_model.specs.Grammar as rules
 use Rattle.grammar_model.specs.Language as languages
 use Rattle.grammar_model.specs.Language.{Language, ◌>>=◌, ◌>>◌, pure, optional}
 use Rattle.grammar_model.specs.Limits.{Limits}
-use Rattle.disk_model.proofs.ListBytes.{Spells, divided, flag, flagged, in_brackets, many}
-use Rattle.disk_model.proofs.TokenBytes.{Covers, bytes-append, bytes_of, keyword, mark, name}
+use Rattle.state_model.proofs.ListBytes.{Spells, divided, flag, flagged, in_brackets, many}
+use Rattle.state_model.proofs.TokenBytes.{Covers, bytes-append, bytes_of, keyword, mark, name}
 
 -- one name
 pub a_name : (limits : Limits) → Spells word (rules.name limits)

@@ -17,8 +17,8 @@ use Rattle.grammar_model.specs.Language as languages
 use Rattle.grammar_model.specs.Language.{Language, ◌>>=◌, ◌>>◌, pure}
 use Rattle.grammar_model.specs.Limits.{Limits}
 use Rattle.grammar_model.specs.Parts.{is_there, list_of}
-use Rattle.disk_model.proofs.ListBytes.{Spells, behind, divided, flag, flagged, in_brackets, perhaps}
-use Rattle.disk_model.proofs.TokenBytes.{Covers, bytes-append, bytes-bracketed, bytes_of, col, keyword, literal, mark}
+use Rattle.state_model.proofs.ListBytes.{Spells, behind, divided, flag, flagged, in_brackets, perhaps}
+use Rattle.state_model.proofs.TokenBytes.{Covers, bytes-append, bytes-bracketed, bytes_of, col, keyword, literal, mark}
 
 -- ---- a condition as it is written, by its variant
 

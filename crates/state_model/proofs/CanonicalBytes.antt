@@ -21,9 +21,9 @@ use Rattle.grammar_model.specs.Terminals.{IsCutInto}
 use Rattle.grammar_model.specs.Values.{digits_after}
 use Rattle.grammar_model.proofs.OwnRule.{written-own}
 use Rattle.state_model.specs.Created.{Create, OfTable, OfView, statement_of, text_of}
-use Rattle.disk_model.proofs.CreateBytes.{create}
-use Rattle.disk_model.proofs.TokenBytes.{bytes-spaced, bytes_in, bytes_of, numeral, word_bytes}
-use Rattle.disk_model.proofs.ViewBytes.{view}
+use Rattle.state_model.proofs.CreateBytes.{create}
+use Rattle.state_model.proofs.TokenBytes.{bytes-spaced, bytes_in, bytes_of, numeral, word_bytes}
+use Rattle.state_model.proofs.ViewBytes.{view}
 
 -- ---- numbers
 

@@ -8,7 +8,7 @@ use Rattle.grammar_model.specs.Language as languages
 use Rattle.grammar_model.specs.Language.{Language, ◌>>=◌, ◌>>◌, pure, optional, many_from}
 use Rattle.grammar_model.specs.Parts.{is_there}
 use Rattle.grammar_model.specs.Terminal.{Terminals}
-use Rattle.disk_model.proofs.TokenBytes.{Covers, bytes-append, bytes-bracketed, bytes_in, bytes_of, keyword, mark}
+use Rattle.state_model.proofs.TokenBytes.{Covers, bytes-append, bytes-bracketed, bytes_in, bytes_of, keyword, mark}
 
 -- a language whose value is written as these words
 abbrev pub Spells : {A : Type 0} → (A → Words) → Language A → Type 0
