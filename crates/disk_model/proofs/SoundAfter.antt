@@ -27,7 +27,7 @@ use Rattle.state_model.specs.Create.{create, create_view, with_view}
 use Rattle.state_model.specs.Created.{AreAdmitted, Create, IsAdmitted, IsCreated, IsReadableCreate, OfTable, OfView, text_of, with_create}
 use Rattle.state_model.specs.Rows.{AreRowsOf, IsRowOf}
 use Rattle.state_model.specs.Sound.{IsWellFormed, Sound}
-use Rattle.state_model.proofs.CreatedLemmas.{admitted-without_rows, created-rows}
+use Rattle.state_model.proofs.CreatedLemmas.{admitted-without_rows, created-append, created-rows}
 use Rattle.state_model.proofs.ForgetSound.{sound-forget}
 use Rattle.state_model.proofs.WellFormedLemmas.{rising-append, rows-append}
 use Rattle.disk_model.specs.declared.commit.Commit.{Commit}
@@ -147,26 +147,9 @@ readable-text create text is =
     let few = is.few in
     let same = ap (λ (text : CreateText). length text.text) is.canonical in
     record {
-      written = record { text = text.text; short = omega arith; terminals = is.read.terminals; cut = is.read.cut; spells = is.read.answers.0 };
+      written = record { text = text.text; short = omega arith; utf8 = is.utf8; terminals = is.read.terminals; cut = is.read.cut; spells = is.read.answers.0 };
       short = omega arith;
     }
-
--- a CREATE more that is admitted after the others
-admitted-append : (schema : Schema) (creates : List Create) (last : Create) → AreAdmitted schema creates
-    → IsAdmitted (fold with_create schema creates) last → AreAdmitted schema (creates ++ last ∷ [])
-admitted-append schema [] last all admitted = (admitted, tt)
-admitted-append schema (create ∷ creates) last all admitted = (all.0, admitted-append (with_create schema create) creates last all.1 admitted)
-
--- a database with its text and what it gives
-created-append : (db after : Db) (last : Create) → IsCreated db → IsReadableCreate last → IsAdmitted db.schema last
-    → after.creates ≡ db.creates ++ text_of last ∷ [] → after.schema ≡ with_create db.schema last → IsCreated after
-created-append db after last is readable admitted text gives = record {
-  creates = is.creates ++ last ∷ [];
-  readable = all-append IsReadableCreate is.creates (last ∷ []) is.readable (readable, tt);
-  texts = text ∙ (ap (λ texts. texts ++ text_of last ∷ []) is.texts ∙ sym (map-append text_of is.creates (last ∷ [])));
-  admitted = admitted-append empty.schema is.creates last is.admitted (rw (← is.schema) admitted);
-  schema = gives ∙ (ap (λ schema. with_create schema last) is.schema ∙ sym (fold-append with_create empty.schema is.creates (last ∷ [])));
-}
 
 kept-create : (db : Db) (table : TableCreate) → IsWellFormed db → IsReadableCreate (OfTable table) → refusal_of db.schema (holds_rows db.rows) table ≡ None → IsWellFormed (create db table)
 unfolding create with_table

@@ -1,13 +1,14 @@
 -- Creates, and the texts by which they are kept.
-use Rattle.std.specs.Prelude.{◌≡◌, List, [], ◌∷◌}
+use Rattle.std.specs.Prelude.{◌≡◌, IsUtf8, List, [], ◌∷◌}
 use Rattle.own_model.specs.declared.schema.CreateText.{CreateText}
 use Rattle.grammar_model.specs.Answer.{IsAnswer, GivesStatement}
 use Rattle.state_model.specs.Created.{Create, statement_of, text_of}
 use Rattle.disk_model.specs.Bounds.{IsCountable}
 
--- the canonical text of this CREATE, which is read as it, and whose length a number of 32 bits tells
+-- the canonical text of this CREATE in UTF-8, which is read as it, and whose length a number of 32 bits tells
 pub record IsTextOf (create : Create) (text : CreateText) : Type 0 where
   pub few : IsCountable text.text
+  pub utf8 : IsUtf8 text.text
   pub read : IsAnswer text.text (GivesStatement (statement_of create))
   pub canonical : text ≡ text_of create
 

@@ -74,7 +74,7 @@ admitted-append schema [] last all admitted = (admitted, tt)
 admitted-append schema (create ∷ creates) last all admitted = (all.0, admitted-append (with_create schema create) creates last all.1 admitted)
 
 -- a database with its text and what it gives
-created-append : (db after : Db) (last : Create) → IsCreated db → IsReadableCreate last → IsAdmitted db.schema last
+pub created-append : (db after : Db) (last : Create) → IsCreated db → IsReadableCreate last → IsAdmitted db.schema last
     → after.creates ≡ db.creates ++ text_of last ∷ [] → after.schema ≡ with_create db.schema last → IsCreated after
 created-append db after last is readable admitted text gives = record {
   creates = is.creates ++ last ∷ [];
