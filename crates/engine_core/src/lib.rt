@@ -2,6 +2,7 @@
 #![tactic(auto)]
 
 mod answer;
+mod asker;
 mod closed;
 mod commit;
 mod creating;

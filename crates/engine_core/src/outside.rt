@@ -16,12 +16,13 @@ ghost use Rattle.engine_core.specs.Asked.{IsBound, IsCreate, IsMeant, RunsByItse
 ghost use Rattle.engine_core.specs.RepresentsWorld.{IsEvent, Serves, RepresentsWorld};
 
 use crate::answer::Answer;
+use crate::asker::Asker;
 use crate::creating::create;
 use crate::installing::install;
 use crate::state::State;
 use crate::subjects::{forget, get_reply};
 use crate::writing::write;
-use own_base::{Place, SessionNo};
+use own_base::Place;
 use own_model::{Bound, Entry, Refusal, Reply, Statement};
 use plan_bind::bind;
 use std::alloc::{AllocError, Global};
@@ -31,36 +32,30 @@ use txn_core::select_reply;
 
 /// The answer to a bound statement outside a transaction.
 #[tactic(auto, unfolding(run_model::specs::Run::run_bound))]
-fn answer_meant(
-    alloc: Global,
-    state: &State,
-    history: &[Entry],
-    session: SessionNo,
-    bound: &Bound,
-) -> Result<Answer, AllocError>
-    requires sound { Sound state.now.version }
-    requires stands { RepresentsWorld state.now (world empty history.now) }
-    requires meant { IsMeant state.now.version.schema bound.now }
-    requires kept { IsWellFormed (run_bound state.now.version bound.now).db }
-    ensures tells { IfOk result (Tells state.now.version (bound_reply (world empty history.now) state.now.version session.0 bound.now) (run_bound state.now.version bound.now).db) }
-    ensures erases { IfOk result (ErasesBound state.now.version bound.now) }
+fn answer_meant(alloc: Global, asker: &Asker<'_>, bound: &Bound) -> Result<Answer, AllocError>
+    requires sound { Sound asker.now.state.now.version }
+    requires stands { RepresentsWorld asker.now.state.now (world empty asker.now.history.now) }
+    requires meant { IsMeant asker.now.state.now.version.schema bound.now }
+    requires kept { IsWellFormed (run_bound asker.now.state.now.version bound.now).db }
+    ensures tells { IfOk result (Tells asker.now.state.now.version (bound_reply (world empty asker.now.history.now) asker.now.state.now.version asker.now.session.0 bound.now) (run_bound asker.now.state.now.version bound.now).db) }
+    ensures erases { IfOk result (ErasesBound asker.now.state.now.version bound.now) }
 {
     match bound {
         Bound::Select(query) => {
             let shown = Shown {
-                version: &state.version,
+                version: &asker.state.version,
             };
             let reply = select_reply(alloc, &shown, query)?;
             Ok(Answer::told(alloc, reply))
         }
         Bound::Insert { .. } | Bound::Update { .. } | Bound::Delete { .. } => {
-            write(alloc, state, history, session, bound)
+            write(alloc, asker, bound)
         }
         Bound::Get(subject) => {
-            let reply = get_reply(alloc, &state.version, subject)?;
+            let reply = get_reply(alloc, &asker.state.version, subject)?;
             Ok(Answer::told(alloc, reply))
         }
-        Bound::Forget(subject) => forget(alloc, &state.version, subject),
+        Bound::Forget(subject) => forget(alloc, &asker.state.version, subject),
         Bound::Explain => unreachable!(),
     }
 }
@@ -68,21 +63,19 @@ fn answer_meant(
 /// The answer to a statement outside a transaction by what it means, or why binding refuses it.
 fn answer_by_meaning(
     alloc: Global,
-    state: &State,
-    history: &[Entry],
-    session: SessionNo,
+    asker: &Asker<'_>,
     statement: &Statement,
 ) -> Result<Answer, AllocError>
-    requires sound { Sound state.now.version }
-    requires stands { RepresentsWorld state.now (world empty history.now) }
+    requires sound { Sound asker.now.state.now.version }
+    requires stands { RepresentsWorld asker.now.state.now (world empty asker.now.history.now) }
     requires written { IsWritten STATEMENT_BYTES statement.now }
     requires bound { IsBound statement.now }
-    ensures tells { IfOk result (Tells state.now.version (reply_outside (world empty history.now) session.0 Took statement.now) (run state.now.version statement.now).db) }
-    ensures erases { IfOk result (Erases state.now.version (Run statement.now)) }
+    ensures tells { IfOk result (Tells asker.now.state.now.version (reply_outside (world empty asker.now.history.now) asker.now.session.0 Took statement.now) (run asker.now.state.now.version statement.now).db) }
+    ensures erases { IfOk result (Erases asker.now.state.now.version (Run statement.now)) }
 {
-    match bind(alloc, state.version.catalog().schema(), statement) {
+    match bind(alloc, asker.state.version.catalog().schema(), statement) {
         Ok(bound) => {
-            let answer = answer_meant(alloc, state, history, session, &bound);
+            let answer = answer_meant(alloc, asker, &bound);
             drop(bound);
             answer
         }
@@ -93,49 +86,41 @@ fn answer_by_meaning(
 /// The answer to a CREATE: it is refused while another session's transaction is open.
 fn answer_to_create(
     alloc: Global,
-    state: &State,
-    history: &[Entry],
-    session: SessionNo,
+    asker: &Asker<'_>,
     statement: &Statement,
 ) -> Result<Answer, AllocError>
-    requires sound { Sound state.now.version }
-    requires stands { RepresentsWorld state.now (world empty history.now) }
+    requires sound { Sound asker.now.state.now.version }
+    requires stands { RepresentsWorld asker.now.state.now (world empty asker.now.history.now) }
     requires written { IsWritten STATEMENT_BYTES statement.now }
     requires create { IsCreate statement.now }
-    ensures tells { IfOk result (Tells state.now.version (reply_outside (world empty history.now) session.0 Took statement.now) (run state.now.version statement.now).db) }
-    ensures erases { IfOk result (Erases state.now.version (Run statement.now)) }
+    ensures tells { IfOk result (Tells asker.now.state.now.version (reply_outside (world empty asker.now.history.now) asker.now.session.0 Took statement.now) (run asker.now.state.now.version statement.now).db) }
+    ensures erases { IfOk result (Erases asker.now.state.now.version (Run statement.now)) }
 {
-    let _ = history;
-    match state.txns.lowest_other(session) {
+    let state = asker.state;
+    match state.txns.lowest_other(asker.session) {
         Some(other) => Ok(Answer::told(alloc, Reply::Refused(Refusal::Busy(other)))),
         None => create(alloc, &state.version, state.weighs, statement),
     }
 }
 
 /// The answer to a statement outside a transaction that runs by itself.
-fn answer(
-    alloc: Global,
-    state: &State,
-    history: &[Entry],
-    session: SessionNo,
-    statement: &Statement,
-) -> Result<Answer, AllocError>
-    requires sound { Sound state.now.version }
-    requires stands { RepresentsWorld state.now (world empty history.now) }
+fn answer(alloc: Global, asker: &Asker<'_>, statement: &Statement) -> Result<Answer, AllocError>
+    requires sound { Sound asker.now.state.now.version }
+    requires stands { RepresentsWorld asker.now.state.now (world empty asker.now.history.now) }
     requires written { IsWritten STATEMENT_BYTES statement.now }
     requires itself { RunsByItself statement.now }
-    ensures tells { IfOk result (Tells state.now.version (reply_outside (world empty history.now) session.0 Took statement.now) (run state.now.version statement.now).db) }
-    ensures erases { IfOk result (Erases state.now.version (Run statement.now)) }
+    ensures tells { IfOk result (Tells asker.now.state.now.version (reply_outside (world empty asker.now.history.now) asker.now.session.0 Took statement.now) (run asker.now.state.now.version statement.now).db) }
+    ensures erases { IfOk result (Erases asker.now.state.now.version (Run statement.now)) }
 {
     match statement {
         Statement::CreateTable(_) | Statement::CreateView(_) => {
-            answer_to_create(alloc, state, history, session, statement)
+            answer_to_create(alloc, asker, statement)
         }
         Statement::Explain => {
-            let graph = state.version.catalog().explain(alloc)?;
+            let graph = asker.state.version.catalog().explain(alloc)?;
             Ok(Answer::told(alloc, graph))
         }
-        _ => answer_by_meaning(alloc, state, history, session, statement),
+        _ => answer_by_meaning(alloc, asker, statement),
     }
 }
 
@@ -160,7 +145,12 @@ pub(crate) fn serve_outside(
         }
         Statement::Commit | Statement::Rollback => Ok(Reply::Refused(Refusal::Outside)),
         _ => {
-            let answer = answer(alloc, state, history, entry.session, statement)?;
+            let asker = Asker {
+                state,
+                history,
+                session: entry.session,
+            };
+            let answer = answer(alloc, &asker, statement)?;
             Ok(install(state, Place(history.len() as u64), answer))
         }
     }

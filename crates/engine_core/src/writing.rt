@@ -16,10 +16,10 @@ ghost use Rattle.engine_core.specs.Answered.{Tells};
 ghost use Rattle.engine_core.specs.RepresentsWorld.{RepresentsWorld};
 
 use crate::answer::Answer;
+use crate::asker::Asker;
 use crate::commit::commit;
-use crate::state::State;
-use own_base::{Change, List, SessionNo};
-use own_model::{Bound, Entry, Refusal, Reply};
+use own_base::{Change, List};
+use own_model::{Bound, Refusal, Reply};
 use std::alloc::{AllocError, Global};
 use std::mem::drop;
 use store_version::Shown;
@@ -28,46 +28,38 @@ use store_version::Shown;
 /// its way, or as it runs.
 fn written(
     alloc: Global,
-    state: &State,
-    history: &[Entry],
-    session: SessionNo,
+    asker: &Asker<'_>,
     bound: &Bound,
 ) -> Result<(Reply, List<Change>), Refusal>
-    requires write { IsWrite state.now.version.schema bound.now }
-    requires sound { Sound state.now.version }
-    requires stands { RepresentsWorld state.now (world empty history.now) }
-    ensures free { IfOk result (λ pair. holder (world empty history.now) session.0 (footprint_of state.now.version.schema bound.now) ≡ None) }
-    ensures reply { IfOk result (λ pair. (run_bound state.now.version bound.now).reply ≡ pair.0) }
-    ensures net { IfOk result (λ pair. pair.1 ≡ net state.now.version (put state.now.version pair.1)) }
-    ensures left { IfOk result (λ pair. (run_bound state.now.version bound.now).db ≡ put state.now.version pair.1) }
-    ensures refused { IfErr result (λ why. why ≢ Memory → unless_held (world empty history.now) (holder (world empty history.now) session.0 (footprint_of state.now.version.schema bound.now))
-        (write_reply Took state.now.version (run_bound state.now.version bound.now)) ≡ Refused why) }
+    requires write { IsWrite asker.now.state.now.version.schema bound.now }
+    requires sound { Sound asker.now.state.now.version }
+    requires stands { RepresentsWorld asker.now.state.now (world empty asker.now.history.now) }
+    ensures free { IfOk result (λ pair. holder (world empty asker.now.history.now) asker.now.session.0 (footprint_of asker.now.state.now.version.schema bound.now) ≡ None) }
+    ensures reply { IfOk result (λ pair. (run_bound asker.now.state.now.version bound.now).reply ≡ pair.0) }
+    ensures net { IfOk result (λ pair. pair.1 ≡ net asker.now.state.now.version (put asker.now.state.now.version pair.1)) }
+    ensures left { IfOk result (λ pair. (run_bound asker.now.state.now.version bound.now).db ≡ put asker.now.state.now.version pair.1) }
+    ensures refused { IfErr result (λ why. why ≢ Memory → unless_held (world empty asker.now.history.now) (holder (world empty asker.now.history.now) asker.now.session.0 (footprint_of asker.now.state.now.version.schema bound.now))
+        (write_reply Took asker.now.state.now.version (run_bound asker.now.state.now.version bound.now)) ≡ Refused why) }
 {
-    let _ = history;
     let shown = Shown {
-        version: &state.version,
+        version: &asker.state.version,
     };
-    state.txns.single(alloc, &shown, session, bound)
+    asker.state.txns.single(alloc, &shown, asker.session, bound)
 }
 
 /// The answer to a bound INSERT, UPDATE or DELETE outside a transaction, which commits by itself.
-pub(crate) fn write(
-    alloc: Global,
-    state: &State,
-    history: &[Entry],
-    session: SessionNo,
-    bound: &Bound,
-) -> Result<Answer, AllocError>
-    requires write { IsWrite state.now.version.schema bound.now }
-    requires sound { Sound state.now.version }
-    requires stands { RepresentsWorld state.now (world empty history.now) }
-    requires kept { IsWellFormed (run_bound state.now.version bound.now).db }
-    ensures tells { IfOk result (Tells state.now.version (unless_held (world empty history.now) (holder (world empty history.now) session.0 (footprint_of state.now.version.schema bound.now))
-        (write_reply Took state.now.version (run_bound state.now.version bound.now))) (run_bound state.now.version bound.now).db) }
+pub(crate) fn write(alloc: Global, asker: &Asker<'_>, bound: &Bound) -> Result<Answer, AllocError>
+    requires write { IsWrite asker.now.state.now.version.schema bound.now }
+    requires sound { Sound asker.now.state.now.version }
+    requires stands { RepresentsWorld asker.now.state.now (world empty asker.now.history.now) }
+    requires kept { IsWellFormed (run_bound asker.now.state.now.version bound.now).db }
+    ensures tells { IfOk result (Tells asker.now.state.now.version (unless_held (world empty asker.now.history.now) (holder (world empty asker.now.history.now) asker.now.session.0 (footprint_of asker.now.state.now.version.schema bound.now))
+        (write_reply Took asker.now.state.now.version (run_bound asker.now.state.now.version bound.now))) (run_bound asker.now.state.now.version bound.now).db) }
     ensures nothing { IfOk result (λ answer. answer.erased ≡ []) }
 {
-    match written(alloc, state, history, session, bound) {
+    match written(alloc, asker, bound) {
         Ok((reply, changes)) => {
+            let state = asker.state;
             let answer = commit(alloc, &state.version, state.weighs, changes.items(), reply);
             drop(changes);
             answer

@@ -13,18 +13,18 @@ use Rattle.engine_core.proofs.OutsideReplies.{reply-meant_in, reply-refused_in}
 use Rattle.engine_core.proofs.outside.answer_by_meaning.Goals as goal
 
 pub bind-requires-clause-views : goal.bind-requires-clause-views
-bind-requires-clause-views c = rw (c.schema.ensures.same, c.catalog.ensures.schema) (views_within-created c.args.state.now.version c.requires.sound.kept.created)
+bind-requires-clause-views c = rw (c.schema.ensures.same, c.catalog.ensures.schema) (views_within-created c.args.asker.now.state.now.version c.requires.sound.kept.created)
 
 pub bind-requires-clause-statement : goal.bind-requires-clause-statement
 bind-requires-clause-statement c = statement_within c.args.statement.now c.requires.written
 
 pub answer_meant-answer-requires-clause-meant : goal.answer_meant-answer-requires-clause-meant
 answer_meant-answer-requires-clause-meant c =
-    meant-bound c.args.state.now.version.schema c.args.statement.now c.in-Ok.bound c.requires.bound (rw (c.schema.ensures.same, c.catalog.ensures.schema) at c.in-Ok.ensures.ok)
+    meant-bound c.args.asker.now.state.now.version.schema c.args.statement.now c.in-Ok.bound c.requires.bound (rw (c.schema.ensures.same, c.catalog.ensures.schema) at c.in-Ok.ensures.ok)
 
 pub answer_meant-answer-requires-clause-kept : goal.answer_meant-answer-requires-clause-kept
 answer_meant-answer-requires-clause-kept c =
-    let db = c.args.state.now.version in
+    let db = c.args.asker.now.state.now.version in
     let is = rw (c.schema.ensures.same, c.catalog.ensures.schema) at c.in-Ok.ensures.ok in
     subst (λ (outcome : Outcome). IsWellFormed outcome.db) (run-bound db c.args.statement.now c.in-Ok.bound c.requires.bound is)
     (kept-run db c.requires.sound.kept c.args.statement.now c.requires.written)
@@ -32,17 +32,17 @@ answer_meant-answer-requires-clause-kept c =
 -- it is answered and runs as what it means
 pub returns-in-Ok-clause-tells : goal.returns-in-Ok-clause-tells
 returns-in-Ok-clause-tells c =
-    let state = c.args.state.now in
+    let state = c.args.asker.now.state.now in
     let asked = c.args.statement.now in
     let is = rw (c.schema.ensures.same, c.catalog.ensures.schema) at c.in-Ok.ensures.ok in
     rw (
-      reply-meant_in state (world empty c.args.history.now) c.requires.stands c.args.session.0 asked c.in-Ok.bound c.requires.bound is,
+      reply-meant_in state (world empty c.args.asker.now.history.now) c.requires.stands c.args.asker.now.session.0 asked c.in-Ok.bound c.requires.bound is,
       run-bound state.version asked c.in-Ok.bound c.requires.bound is,
     ) c.answer_meant-answer.ensures.tells
 
 pub returns-in-Ok-clause-erases : goal.returns-in-Ok-clause-erases
 returns-in-Ok-clause-erases c =
-    let db = c.args.state.now.version in
+    let db = c.args.asker.now.state.now.version in
     let is = rw (c.schema.ensures.same, c.catalog.ensures.schema) at c.in-Ok.ensures.ok in
     IfOk-weaker c.answer_meant-answer.result _ _ (λ answer erased. erases-as_bound db c.args.statement.now c.in-Ok.bound answer c.requires.bound is erased)
     c.answer_meant-answer.ensures.erases
@@ -50,14 +50,14 @@ returns-in-Ok-clause-erases c =
 -- or why binding refuses it is told
 pub returns-in-Err-clause-tells : goal.returns-in-Err-clause-tells
 returns-in-Err-clause-tells c =
-    let state = c.args.state.now in
+    let state = c.args.asker.now.state.now in
     let asked = c.args.statement.now in
     IfOk-weaker c.refused.result _ _ (λ answer told.
     let is = rw (c.schema.ensures.same, c.catalog.ensures.schema) at (c.in-Err.ensures.err told.3) in
-    rw (reply-refused_in state (world empty c.args.history.now) c.requires.stands c.args.session.0 asked c.in-Err.why c.requires.bound is)
+    rw (reply-refused_in state (world empty c.args.asker.now.history.now) c.requires.stands c.args.asker.now.session.0 asked c.in-Err.why c.requires.bound is)
     (tells-refused state.version _ c.in-Err.why answer told.0 told.1))
     c.refused.ensures
 
 pub returns-in-Err-clause-erases : goal.returns-in-Err-clause-erases
 returns-in-Err-clause-erases c =
-    IfOk-weaker c.refused.result _ _ (λ answer told. erases-refused c.args.state.now.version (Run c.args.statement.now) c.in-Err.why answer told.0 told.2) c.refused.ensures
+    IfOk-weaker c.refused.result _ _ (λ answer told. erases-refused c.args.asker.now.state.now.version (Run c.args.statement.now) c.in-Err.why answer told.0 told.2) c.refused.ensures

@@ -6,13 +6,13 @@ use Rattle.engine_core.proofs.KeptViews.{views_there-created}
 use Rattle.engine_core.proofs.outside.answer_meant.Goals as goal
 
 pub select_reply-requires-clause-tables : goal.select_reply-requires-clause-tables
-select_reply-requires-clause-tables c = tables_kept c.args.state.now.version c.requires.sound.kept
+select_reply-requires-clause-tables c = tables_kept c.args.asker.now.state.now.version c.requires.sound.kept
 
 pub select_reply-requires-clause-views : goal.select_reply-requires-clause-views
-select_reply-requires-clause-views c = views_there-created c.args.state.now.version c.requires.sound.kept.created
+select_reply-requires-clause-views c = views_there-created c.args.asker.now.state.now.version c.requires.sound.kept.created
 
 -- a GDPR GET shows, and leaves the state
 pub returns-in_ok-reply-in-Get-clause-tells : goal.returns-in_ok-reply-in-Get-clause-tells
 returns-in_ok-reply-in-Get-clause-tells c =
-    let db = c.args.state.now.version in
-    rw c.in-Get.is (tells-shown (world empty c.args.history.now) db c.args.session.0 c.in-Get.subject c.told-in-Get.result (rw c.told-in-Get.ensures.reply c.in_ok-reply-in-Get.ensures) c.told-in-Get.ensures.stays)
+    let db = c.args.asker.now.state.now.version in
+    rw c.in-Get.is (tells-shown (world empty c.args.asker.now.history.now) db c.args.asker.now.session.0 c.in-Get.subject c.told-in-Get.result (rw c.told-in-Get.ensures.reply c.in_ok-reply-in-Get.ensures) c.told-in-Get.ensures.stays)

@@ -7,28 +7,28 @@ use Rattle.engine_core.proofs.Writes.{free-kept, left-changed, net-changed, refu
 use Rattle.engine_core.proofs.writing.written.Goals as goal
 
 pub single-requires-clause-tables : goal.single-requires-clause-tables
-single-requires-clause-tables c = tables_kept c.args.state.now.version c.requires.sound.kept
+single-requires-clause-tables c = tables_kept c.args.asker.now.state.now.version c.requires.sound.kept
 
 pub single-requires-clause-base : goal.single-requires-clause-base
-single-requires-clause-base c = base-sound c.args.state.now.version c.requires.sound
+single-requires-clause-base c = base-sound c.args.asker.now.state.now.version c.requires.sound
 
 pub returns-clause-free : goal.returns-clause-free
 returns-clause-free c =
     IfOk-weaker c.single.result _ _
-    (λ pair is. free-kept c.args.state.now (world empty c.args.history.now) c.requires.stands c.args.session.0 c.args.bound.now is.0) c.single.ensures.ok
+    (λ pair is. free-kept c.args.asker.now.state.now (world empty c.args.asker.now.history.now) c.requires.stands c.args.asker.now.session.0 c.args.bound.now is.0) c.single.ensures.ok
 
 pub returns-clause-reply : goal.returns-clause-reply
 returns-clause-reply c = IfOk-weaker c.single.result _ _ (λ pair is. is.1.told) c.single.ensures.ok
 
 pub returns-clause-net : goal.returns-clause-net
 returns-clause-net c =
-    IfOk-weaker c.single.result _ _ (λ pair is. net-changed c.args.state.now.version c.requires.sound.kept.ordered c.args.bound.now c.requires.write pair.0 pair.1 is.1) c.single.ensures.ok
+    IfOk-weaker c.single.result _ _ (λ pair is. net-changed c.args.asker.now.state.now.version c.requires.sound.kept.ordered c.args.bound.now c.requires.write pair.0 pair.1 is.1) c.single.ensures.ok
 
 pub returns-clause-left : goal.returns-clause-left
 returns-clause-left c =
-    IfOk-weaker c.single.result _ _ (λ pair is. left-changed c.args.state.now.version c.requires.sound.kept.ordered c.args.bound.now c.requires.write pair.0 pair.1 is.1) c.single.ensures.ok
+    IfOk-weaker c.single.result _ _ (λ pair is. left-changed c.args.asker.now.state.now.version c.requires.sound.kept.ordered c.args.bound.now c.requires.write pair.0 pair.1 is.1) c.single.ensures.ok
 
 pub returns-clause-refused : goal.returns-clause-refused
 returns-clause-refused c =
     IfErr-weaker c.single.result _ _
-    (λ why is other. refused-kept c.args.state.now (world empty c.args.history.now) c.requires.stands c.args.session.0 c.args.bound.now why (is other)) c.single.ensures.err
+    (λ why is other. refused-kept c.args.asker.now.state.now (world empty c.args.asker.now.history.now) c.requires.stands c.args.asker.now.session.0 c.args.bound.now why (is other)) c.single.ensures.err
