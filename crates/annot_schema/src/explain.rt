@@ -4,12 +4,11 @@ ghost use Rattle.schema_model.specs.Explained.{class_word, column_at, column_nam
 ghost use Rattle.schema_model.specs.OwnerSchema.{named_table};
 ghost use Rattle.text_model.specs.Canonical.{ref_kind_word};
 
-use crate::column_set::has_column;
 use crate::line::Line;
 use crate::look_up::{column_at, columns_at, table_name};
 use own_base::{ColumnSet, List, Name, TableNo, Text};
 use own_model::{Column, Edge, RefKind, Schema, TableDef};
-use schema_rules::{is_private, is_subject};
+use row_reading::{has_column, is_private, is_subject};
 use std::alloc::{AllocError, Global};
 
 /// What a table is to data subjects.

@@ -5,7 +5,6 @@
 mod admit;
 mod admitted;
 mod catalog;
-mod column_set;
 mod explain;
 mod fault;
 mod limits;

@@ -15,10 +15,10 @@ pub struct Least<'a> {
 
 impl<'a> Model for Least<'a> {
     ghost use Rattle.std.specs.Prelude.{Option, option_map};
-    ghost use Rattle.own_model.specs.declared.refusal.Refusal.{Refusal as Why};
+    ghost use Rattle.own_model.specs.declared.refusal.Refusal.{Refusal as Seen};
     ghost use Rattle.bind_scope.specs.Reported.{reported};
 
-    ghost Value = { Option Why };
+    ghost Value = { Option Seen };
 
     ghost view = { λ least. option_map reported least.fault };
 }

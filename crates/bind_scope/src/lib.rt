@@ -8,7 +8,6 @@ mod item;
 mod kinds;
 mod least;
 mod meant;
-mod name;
 mod reference;
 mod scope;
 mod tables;
@@ -20,7 +19,6 @@ pub use item::item_at;
 pub use kinds::{are_compared, is_text, kind_of};
 pub use least::Least;
 pub use meant::Meant;
-pub use name::{is_among, is_same_name};
 pub use reference::{bind_column, note_unlike};
 pub use scope::{Named, Scope, Source};
 pub use tables::{

@@ -4,10 +4,10 @@ ghost use Rattle.query_model.specs.Scope as spec;
 ghost use Rattle.query_model.specs.SelectFaults.{is_of_one_table, is_one_column};
 ghost use Rattle.bind_scope.specs.Lent.{named_of};
 
-use crate::name::is_same_name;
 use crate::scope::{Named, Scope};
 use own_base::ColNo;
 use own_model::{ColRef, Kind};
+use row_reading::is_same_name;
 use std::marker::Model;
 
 /// The column that a reference means, where it means one. Contracts see it as a column of the scope.
@@ -18,10 +18,10 @@ pub struct Meant<'a> {
 
 impl<'a> Model for Meant<'a> {
     ghost use Rattle.std.specs.Prelude.{Option, option_map};
-    ghost use Rattle.query_model.specs.Scope.{Named as Column};
+    ghost use Rattle.query_model.specs.Scope.{Named as Seen};
     ghost use Rattle.bind_scope.specs.Lent.{named_of};
 
-    ghost Value = { Option Column };
+    ghost Value = { Option Seen };
 
     ghost view = { λ meant. option_map named_of meant.named };
 }

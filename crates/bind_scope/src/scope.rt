@@ -51,10 +51,10 @@ pub struct Scope<'a> {
 
 impl<'a> Model for Scope<'a> {
     ghost use Rattle.std.specs.Prelude.{◌+◌, ◌++◌, ◌<◌, ◌^◌, List, length};
-    ghost use Rattle.query_model.specs.Scope.{Named as Column};
+    ghost use Rattle.query_model.specs.Scope.{Named as Seen};
     ghost use Rattle.bind_scope.specs.Lent.{columns_of, source_scope};
 
-    ghost Value = { List Column };
+    ghost Value = { List Seen };
 
     ghost view = { λ scope. source_scope 0 scope.left ++ source_scope (length (columns_of scope.left.columns)) scope.right };
 

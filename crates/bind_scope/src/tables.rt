@@ -11,9 +11,9 @@ ghost use Rattle.bind_scope.specs.Lent.{columns_of, table_of, view_of};
 use crate::columns::Columns;
 use crate::fault::Fault;
 use crate::least::Least;
-use crate::name::is_same_name;
 use own_base::{Name, TableNo, ViewNo};
 use own_model::{SELECT_ITEMS, Schema, TABLE_COLUMNS, TableDef, ViewDef};
+use row_reading::is_same_name;
 
 /// A table of a schema, with its number.
 #[derive(Clone, Copy, Debug)]

@@ -15,11 +15,12 @@ ghost use Rattle.bind_select.specs.declared.from.Rows.TheVariants as rows;
 
 use crate::grouping::is_grouped;
 use bind_scope::{
-    Columns, Fault, Least, Scope, Source, bind_table, columns_found, is_same_name, number_of,
-    table_named, view_named,
+    Columns, Fault, Least, Scope, Source, bind_table, columns_found, number_of, table_named,
+    view_named,
 };
 use own_base::{Name, TableNo, ViewNo};
 use own_model::{Join, Schema, Select, Source1};
+use row_reading::is_same_name;
 
 /// Where the rows of a select come from: a table or a view, or two tables, of which the left one has that many columns.
 #[derive(Debug, Drop)]

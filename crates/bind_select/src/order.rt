@@ -9,9 +9,10 @@ ghost use Rattle.bind_scope.specs.After.{after};
 
 use crate::grouping::listed_items;
 use crate::output::output_name;
-use bind_scope::{Fault, Least, Scope, bind_column, is_same_name};
+use bind_scope::{Fault, Least, Scope, bind_column};
 use own_base::{ColNo, Name};
 use own_model::{ColRef, Item, Select};
+use row_reading::is_same_name;
 
 /// The first item whose output column has this name.
 fn output_position(items: &[Item], name: &Name) -> Option<usize>

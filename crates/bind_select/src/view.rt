@@ -16,11 +16,12 @@ use crate::from::{Sources, bind_from};
 use crate::output::bind_names;
 use crate::output_kinds::bind_kinds;
 use crate::select::bind_scoped;
-use bind_scope::{Fault, Least, bind_table, is_among, is_same_name};
+use bind_scope::{Fault, Least, bind_table};
 use own_base::{List, MakeCopy, Name};
 use own_model::{
     BoundSelect, CreateView, Kind, LimitName, Refusal, Schema, Select, TableDef, VIEWS, ViewDef,
 };
+use row_reading::{is_among, is_same_name};
 use std::alloc::{AllocError, Global};
 
 /// Whether a table has this name.

@@ -19,10 +19,10 @@ pub struct Row {
 
 impl Model for Row {
     ghost use Rattle.std.specs.Prelude.{List};
-    ghost use Rattle.own_base.specs.declared.value.Value.{Value as Held};
+    ghost use Rattle.own_base.specs.declared.value.Value.{Value as Seen};
     ghost use Rattle.own_base.specs.HeldValues.{values_of};
 
-    ghost Value = { List Held };
+    ghost Value = { List Seen };
 
     ghost view = { λ row. values_of row.held };
 }

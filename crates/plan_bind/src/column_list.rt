@@ -7,9 +7,10 @@ ghost use Rattle.plan_bind.specs.ColumnList.{columns_meant};
 ghost use Rattle.plan_bind.specs.NumberedColumns.{column_of};
 
 use crate::numbered_column::{NumberedColumn, bind_name};
-use bind_scope::{Fault, Least, is_among};
+use bind_scope::{Fault, Least};
 use own_base::{List, Name};
 use own_model::{TABLE_COLUMNS, TableDef};
+use row_reading::is_among;
 use std::alloc::{AllocError, Global};
 
 /// The columns that names mean.

@@ -8,10 +8,11 @@ ghost use Rattle.plan_bind.specs.Literals.{unfit};
 ghost use Rattle.plan_bind.specs.NumberedColumns.{column_of};
 
 use crate::numbered_column::{NumberedColumn, bind_name, column_number};
-use crate::value_kind::{goes_with, is_null};
+use crate::value_kind::goes_with;
 use bind_scope::{Fault, Least, are_compared, is_text};
 use own_base::{ColNo, MakeCopy, Name, Value};
 use own_model::{BoundExpr, Column, Expr, Kind, TABLE_COLUMNS, TableDef};
+use row_reading::is_null;
 use std::alloc::{AllocError, Global};
 
 /// Notes a literal of another kind than its column, and a NULL for a NOT NULL one.

@@ -9,9 +9,10 @@ ghost use Rattle.plan_bind.specs.InsertTargets.{IsCounted, place_of, places_of};
 
 use crate::column_list::bind_list;
 use crate::numbered_column::NumberedColumn;
-use bind_scope::{Least, is_among};
+use bind_scope::Least;
 use own_base::{ColNo, List, Name};
 use own_model::{TABLE_COLUMNS, TableDef};
+use row_reading::is_among;
 use std::alloc::{AllocError, Global};
 use std::marker::Model;
 

@@ -4,9 +4,10 @@ ghost use Rattle.bind_scope.specs.After.{after};
 ghost use Rattle.query_model.specs.WriteFaults.{column_in, not_a_column};
 ghost use Rattle.plan_bind.specs.NumberedColumns.{column_of};
 
-use bind_scope::{Fault, Least, is_same_name};
+use bind_scope::{Fault, Least};
 use own_base::{ColNo, Name};
 use own_model::{Column, TABLE_COLUMNS, TableDef};
+use row_reading::is_same_name;
 
 /// A column of a table, with its number.
 #[derive(Clone, Copy, Debug)]

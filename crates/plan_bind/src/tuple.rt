@@ -12,10 +12,11 @@ ghost use Rattle.plan_bind.specs.InsertTargets.{IsCounted, value_at};
 
 use crate::insert_targets::Targets;
 use crate::numbered_column::NumberedColumn;
-use crate::value_kind::{goes_with, is_null};
+use crate::value_kind::goes_with;
 use bind_scope::{Fault, Least};
 use own_base::{List, MakeCopy, Row, Value};
 use own_model::{STATEMENT_BYTES, TABLE_COLUMNS, TableDef};
+use row_reading::is_null;
 use std::alloc::{AllocError, Global};
 
 /// Whether a column takes no NULL: the primary key, and one that is NOT NULL.

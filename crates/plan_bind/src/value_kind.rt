@@ -1,7 +1,6 @@
 //! The kinds of values and keys.
 ghost use Rattle.std.specs.Prelude.{◌≡◌};
 ghost use Rattle.query_model.specs.Kinds as kinds;
-ghost use Rattle.query_model.specs.Truth as truth;
 
 use bind_scope::{are_compared, kind_of};
 use own_base::{Key, Value};
@@ -15,13 +14,6 @@ pub fn goes_with(kind: Kind, value: &Value) -> bool
         None => true,
         Some(other) => are_compared(kind, other),
     }
-}
-
-/// Whether a value is NULL.
-pub fn is_null(value: &Value) -> bool
-    ensures { result ≡ truth.is_null value.now }
-{
-    matches!(value, Value::Null)
 }
 
 /// The kind of a key.

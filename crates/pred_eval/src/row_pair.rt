@@ -21,10 +21,10 @@ pub struct RowPair<'a> {
 impl<'a> Model for RowPair<'a> {
     ghost use Rattle.std.specs.Prelude.{List};
     ghost use Rattle.std.specs.Option.{option_copied};
-    ghost use Rattle.own_base.specs.declared.value.Value.{Value as Held};
+    ghost use Rattle.own_base.specs.declared.value.Value.{Value as Seen};
     ghost use Rattle.pred_eval.specs.RowPair.{whole_row};
 
-    ghost Value = { List Held };
+    ghost Value = { List Seen };
 
     ghost view = { λ pair. whole_row pair.left.now (option_copied pair.right) };
 }

@@ -1,6 +1,6 @@
 ghost use Rattle.std.specs.Prelude.{◌≡◌, IfOk, unwrap_or};
 ghost use Rattle.std.specs.Option.{option_copied};
-ghost use Rattle.query_model.specs.Truth.{cell};
+ghost use Rattle.query_model.specs.Truth.{cell, is_null};
 
 use own_base::{ColNo, MakeCopy, Row, Value};
 use std::alloc::{AllocError, Global};
@@ -21,4 +21,11 @@ pub fn copied_cell(alloc: Global, row: &Row, column: ColNo) -> Result<Value, All
         Some(value) => value.copy(alloc),
         None => Ok(Value::Null),
     }
+}
+
+/// Whether a value is NULL. Takes no memory.
+pub fn is_null(value: &Value) -> bool
+    ensures { result ≡ is_null value.now }
+{
+    matches!(value, Value::Null)
 }

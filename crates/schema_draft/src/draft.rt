@@ -7,10 +7,10 @@ ghost use Rattle.schema_model.specs.OnRules.{edge_on, rules_of};
 ghost use Rattle.schema_model.specs.References.{reference_on, references_of};
 
 use crate::kinds::gives_edge;
-use crate::name::is_same_name;
 use crate::part;
 use own_base::Name;
 use own_model::{ColumnDef, CreateTable, RefDef};
+use row_reading::is_same_name;
 use std::alloc::{AllocError, Global};
 use std::marker::Model;
 
@@ -48,10 +48,10 @@ pub struct Draft<'a> {
 }
 
 impl<'a> Model for Draft<'a> {
-    ghost use Rattle.own_model.specs.declared.create.CreateTable.{CreateTable as Create};
+    ghost use Rattle.own_model.specs.declared.create.CreateTable.{CreateTable as Seen};
     ghost use Rattle.schema_draft.specs.Parts.{IsTakenApart};
 
-    ghost Value = { Create };
+    ghost Value = { Seen };
 
     ghost view = { λ draft. draft.create.now };
 

@@ -4,7 +4,6 @@
 mod draft;
 mod edges;
 mod kinds;
-mod name;
 mod named_table;
 mod names;
 mod part;
@@ -16,7 +15,6 @@ pub use edges::new_edges;
 pub use kinds::{
     gives_edge, gives_ownership, is_downward, is_owned_by, is_owns, is_same_kind, is_upward,
 };
-pub use name::is_same_name;
 pub use named_table::{number_of, table_at, table_named, target};
 pub use names::{Named, Names};
 pub use table::new_table;

@@ -6,10 +6,10 @@ ghost use Rattle.schema_draft.specs.Names.{AreNamesOf};
 ghost use Rattle.schema_model.specs.NewTable as spec;
 ghost use Rattle.schema_model.specs.Tables as tables_spec;
 
-use crate::name::is_same_name;
 use crate::names::Names;
 use own_base::{Name, TableNo};
 use own_model::{RefDef, Schema, TableDef};
+use row_reading::is_same_name;
 
 /// The number of the table of this name. Where the schema has none, it is that of the table that comes next.
 pub fn number_of(schema: &Schema, names: &Names, name: &Name) -> TableNo

@@ -23,9 +23,9 @@ pub struct Names {
 
 impl Model for Names {
     ghost use Rattle.std.specs.Prelude.{List, ℕ};
-    ghost use Rattle.schema_draft.specs.declared.names.Named.{Named as What};
+    ghost use Rattle.schema_draft.specs.declared.names.Named.{Named as Seen};
 
-    ghost Value = { List (List ℕ × What) };
+    ghost Value = { List (List ℕ × Seen) };
 
     ghost view = { λ names. names.numbers.entries };
 }

@@ -4,14 +4,14 @@ ghost use Rattle.std.specs.List.{list_any};
 ghost use Rattle.std.specs.Option.{option_copied};
 ghost use Rattle.owner_model.specs.ColumnSets.{set_of};
 ghost use Rattle.schema_draft.specs.Lent.{effect_seen, is_effect};
-ghost use Rattle.schema_model.specs.Columns.{NameBytes, is_named};
+ghost use Rattle.schema_model.specs.Columns.{NameBytes};
 ghost use Rattle.schema_model.specs.NewEdges.{set_named};
 ghost use Rattle.schema_model.specs.OnRules.{is_strike, rules_of, ruled_by};
 
 use crate::draft::{Draft, Effect, OnRule};
-use crate::name::is_same_name;
 use own_base::{ColumnSet, Name};
 use own_model::{TABLE_COLUMNS, TableDef};
+use row_reading::{is_among, is_same_name};
 
 /// Whether two effects are one.
 fn is_same_effect(one: Effect, other: Effect) -> bool
@@ -29,13 +29,6 @@ fn stands_on(rule: &OnRule, effect: Effect, column: &Name) -> bool
     ensures { result ≡ (is_effect effect (effect_seen rule.now.effect) && bytes_eq rule.now.column.now column.now) }
 {
     is_same_effect(effect, rule.effect) && is_same_name(rule.column, column)
-}
-
-/// Whether a name is one of these.
-fn is_among(names: &[Name], name: &Name) -> bool
-    ensures { result ≡ is_named names.now name.now }
-{
-    names.iter().any(|other| is_same_name(other, name))
 }
 
 /// The set with a column more, where it is wanted. A column past the last that a set can have is in none.

@@ -8,11 +8,11 @@ ghost use Rattle.schema_model.specs.NewTable as spec;
 ghost use Rattle.schema_model.specs.References.{reference_on};
 
 use crate::draft::{Draft, Reference};
-use crate::name::is_same_name;
 use crate::named_table::number_of;
 use crate::names::Names;
 use own_base::{ColNo, List, MakeCopy, Name, TableNo};
 use own_model::{Attr, Column, ColumnDef, CreateTable, Part, RefKind, Schema, TableDef};
+use row_reading::is_same_name;
 use std::alloc::{AllocError, Global};
 
 /// Whether this part makes a column UNIQUE.

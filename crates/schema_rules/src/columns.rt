@@ -8,7 +8,8 @@ ghost use Rattle.schema_model.specs.rules.RepeatedColumns.{repeated_columns};
 
 use own_base::Name;
 use own_model::{ColumnDef, Part};
-use schema_draft::{Draft, is_same_name};
+use row_reading::is_same_name;
+use schema_draft::Draft;
 
 /// Whether one of these columns has this name.
 fn is_named(columns: &[&ColumnDef], name: &Name) -> bool

@@ -8,7 +8,5 @@ mod on_rules;
 mod owners;
 mod references;
 mod scene;
-mod tables;
 
 pub use broken::{Broken, broken_rule};
-pub use tables::{is_private, is_subject};

@@ -14,9 +14,8 @@ ghost use Rattle.schema_model.specs.rules.RowsStruckByAccess.{rows_struck_by_acc
 use crate::scene::Scene;
 use own_base::Name;
 use own_model::{Column, TableDef};
-use schema_draft::{
-    Draft, Effect, OnRule, Reference, gives_edge, gives_ownership, is_same_name, is_upward,
-};
+use row_reading::is_same_name;
+use schema_draft::{Draft, Effect, OnRule, Reference, gives_edge, gives_ownership, is_upward};
 
 /// Whether both are ON GET, or both ON DEL.
 fn are_of_one_kind(one: Effect, other: Effect) -> bool

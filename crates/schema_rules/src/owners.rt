@@ -11,7 +11,8 @@ ghost use Rattle.schema_model.specs.rules.OwnersWithoutOwner.{owners_without_own
 
 use crate::scene::Scene;
 use own_base::Name;
-use schema_draft::{Draft, Reference, is_downward, is_owned_by, is_owns, is_same_name, is_upward};
+use row_reading::is_same_name;
+use schema_draft::{Draft, Reference, is_downward, is_owned_by, is_owns, is_upward};
 
 /// Whether a reference is OWNED_BY in a table of data subjects, or OWNS of one.
 fn owns_subjects(scene: &Scene, reference: &Reference) -> bool

@@ -13,7 +13,8 @@ ghost use Rattle.schema_model.specs.rules.UnequalKinds.{unequal_kinds};
 use crate::scene::Scene;
 use own_base::Name;
 use own_model::{Column, ColumnDef, TableDef};
-use schema_draft::{Draft, Reference, is_same_kind, is_same_name};
+use row_reading::is_same_name;
+use schema_draft::{Draft, Reference, is_same_kind};
 
 /// Whether one of these references is that of this column.
 fn has_reference(references: &[Reference], column: &Name) -> bool

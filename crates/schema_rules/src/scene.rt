@@ -7,9 +7,9 @@ ghost use Rattle.schema_model.specs.NewTable.{new_table, target_of};
 ghost use Rattle.schema_model.specs.Tables.{is_public, number_of};
 ghost use Rattle.schema_model.specs.rules.OwnedSubjects.{names_subjects};
 
-use crate::tables;
 use own_base::Name;
 use own_model::{RefDef, Schema, TableDef};
+use row_reading::is_public;
 use schema_draft::{Draft, Names, Reference, target};
 
 /// A CREATE TABLE over the schema that it is to change: the schema, the names of its tables and views, the CREATE
@@ -49,6 +49,6 @@ impl<'s, 'a> Scene<'s, 'a> {
             Some(number) => number.0 as usize,
             None => self.schema.tables.items().len(),
         };
-        tables::is_public(self.schema, number)
+        is_public(self.schema, number)
     }
 }

@@ -1,7 +1,7 @@
 ghost use Rattle.std.specs.Prelude.{◌≡◌, ◌≤◌, not, ◌&&◌, if◌then◌else◌, length, map, IfOk};
 ghost use Rattle.std.specs.List.{enumerate_from};
 ghost use Rattle.own_model.specs.declared.limit.TheConstants.{TABLE_COLUMNS};
-ghost use Rattle.owner_model.specs.ColumnSets.{has_column, set_of};
+ghost use Rattle.owner_model.specs.ColumnSets.{set_of};
 ghost use Rattle.owner_model.specs.RuledColumns.{is_hidden};
 ghost use Rattle.subject_access.specs.Cells.{cell_in};
 ghost use Rattle.subject_model.specs.Get.{shown_cell};
@@ -9,14 +9,8 @@ ghost use Rattle.subject_model.specs.Get.{shown_cell};
 use anon_rules::hidden;
 use own_base::{ColumnSet, EdgeNo, List, MakeCopy, Row, Value};
 use own_model::{Cell, Edge};
+use row_reading::has_column;
 use std::alloc::{AllocError, Global};
-
-/// Whether a column is in the set.
-fn has_column(set: ColumnSet, column: usize) -> bool
-    ensures { result ≡ has_column set column }
-{
-    column < u32::BITS as usize && (set.0 >> column) % 2 == 1
-}
 
 /// The columns that are hidden from a subject in a row that it reaches by these edges: none in its own row.
 fn hidden_columns(edges: &[Edge], own: bool, by: &[EdgeNo]) -> ColumnSet

@@ -14,9 +14,9 @@ pub struct Rows<'a> {
 
 impl<'a> Model for Rows<'a> {
     ghost use Rattle.std.specs.Prelude.{List};
-    ghost use Rattle.own_base.specs.declared.value.Value.{Value as Held};
+    ghost use Rattle.own_base.specs.declared.value.Value.{Value as Seen};
 
-    ghost Value = { List (List Held) };
+    ghost Value = { List (List Seen) };
 
     ghost view = { λ rows. rows.left };
 }

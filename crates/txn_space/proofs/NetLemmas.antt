@@ -1,6 +1,6 @@
 -- The net of a transaction is read off its entries.
 use Rattle.std.proofs.Common.{◌≡◌, refl, sym, ◌∙◌, ap, ℕ, suc, ◌+◌, ◌<◌, ◌≤◌, List, [], ◌∷◌, ◌++◌, length, drop, append-nil, append_assoc, filter_map, arith}
-use Rattle.std.specs.Prelude.{Bool, true, false, cond, Option, Some, None, IfSome, find, slice_get}
+use Rattle.std.specs.Prelude.{true, Option, Some, None, find, slice_get}
 use Rattle.std.specs.Option.{option_and_then, option_map_or, option_or}
 use Rattle.std.specs.Ordering.{is_eq}
 use Rattle.std.proofs.lemmas.List.{drop_all, drop_more}
@@ -22,34 +22,27 @@ use Rattle.page_model.proofs.SameFound.{same_found}
 use Rattle.state_model.specs.Net.{change_at, change_unless_same, keys_in, net, net_from, net_in}
 use Rattle.state_model.specs.Put.{changed_key}
 use Rattle.subject_model.proofs.NamedLemmas.{one_key}
-use Rattle.state_model.specs.Same.{is_same_state}
 use Rattle.state_model.proofs.KeysLemmas.{itself, keys_missing, keys_rise}
 use Rattle.state_model.proofs.Made.{found_has, found_made, rising_made}
 use Rattle.state_model.proofs.NetLeads.{named}
-use Rattle.table_part.specs.KeyIn.{key_in}
-use Rattle.table_part.proofs.KeyLemmas.{found-has_key}
+use Rattle.state_model.proofs.PutRows.{equal_is, found_key, named_in}
+use Rattle.state_model.proofs.SameLemmas.{state_same}
+use Rattle.state_model.proofs.TableOwners.{or_none}
 use Rattle.txn_space.specs.declared.entry.Entry.{Entry}
 use Rattle.txn_space.specs.Changed.{changed_db, changed_from, rows_with}
 use Rattle.txn_space.specs.Entries.{entries_at, entry_key, entry_row}
 use Rattle.txn_space.specs.EntryNet.{entry_change, entry_changes}
 use Rattle.txn_space.specs.Sound.{IsBase, IsSpaceOf}
-use Rattle.txn_space.proofs.OverLemmas.{from_none, named_in, next, same}
+use Rattle.txn_space.proofs.OverLemmas.{from_none, next, same}
 use Rattle.txn_space.proofs.PutLemmas.{row_of}
-use Rattle.txn_space.proofs.SameLemmas.{equal_is, same_state}
 
 -- nothing becomes of what stays
 unchanged : (name : RowName) (row : Option Row) → change_unless_same name row row ≡ None
-unchanged name row = rw (same_state row) refl
-
--- what isn't in either of two lists
-or_none : {X : Type 0} (left right : Option X) → option_or left right ≡ None → (left ≡ None) × (right ≡ None)
-or_none None right is = (refl, is)
-or_none (Some x) right is = let never : Some x ≡ None = is in cc
+unchanged name row = rw (state_same row) refl
 
 module _ (number : ℕ) (table : TableDef) where
   row_at : (key : Key) (rows : List Row) → find (has_key table key) rows ≡ found (key_of table) key_cmp key rows
-  unfolding key_in key_of
-  row_at key rows = sym (found-has_key table key rows)
+  row_at key rows = sym (found_key table key rows)
 
   -- what becomes of the row of an entry, by the rows of its table
   abbrev pub change_in : List Row → Entry → Option Change

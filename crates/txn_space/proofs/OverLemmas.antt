@@ -1,5 +1,5 @@
 -- The rows of all tables, as a transaction changes them.
-use Rattle.std.proofs.Common.{◌≡◌, refl, sym, ◌∙◌, ap, subst, ℕ, zero, suc, ◌+◌, ◌<◌, List, [], ◌∷◌, length, arith}
+use Rattle.std.proofs.Common.{◌≡◌, refl, sym, ◌∙◌, ap, subst, ℕ, zero, suc, ◌+◌, ◌<◌, List, [], ◌∷◌, length}
 use Rattle.std.specs.Prelude.{Some, None, filter, slice_get}
 use Rattle.std.specs.Option.{option_map_or}
 use Rattle.own_base.specs.Key.{key_cmp}
@@ -7,15 +7,14 @@ use Rattle.own_base.specs.declared.change.Change.{Change}
 use Rattle.own_base.specs.declared.row_name.RowName.{RowName}
 use Rattle.own_model.specs.declared.schema.Schema.{Schema}
 use Rattle.own_model.specs.declared.schema.TableDef.{TableDef}
-use Rattle.own_model.specs.Db.{AreRising, IsRising as IsRisingTable, Row, key_of}
+use Rattle.own_model.specs.Db.{AreRising, Row, key_of}
 use Rattle.own_model.specs.Stored.{row_named, rows_at}
-use Rattle.own_model.proofs.KeyOrder.{key_order}
 use Rattle.page_model.specs.Changed.{AreKeyed, with_changes}
 use Rattle.page_model.specs.Found.{found}
 use Rattle.page_model.specs.Rising.{IsRising}
+use Rattle.schema_model.proofs.Places.{at-place}
 use Rattle.state_model.specs.Put.{changed_key, is_of_table, put_from, row_after, rows_put}
-use Rattle.table_part.specs.KeyIn.{key_in}
-use Rattle.table_part.proofs.KeyLemmas.{found-has_key}
+use Rattle.state_model.proofs.PutRows.{named_in}
 use Rattle.txn_space.specs.declared.entry.Entry.{Entry}
 use Rattle.txn_space.specs.Changed.{changed_from, changed_rows, rows_with}
 use Rattle.txn_space.specs.Entries.{entries_at, entry_key, entry_row}
@@ -24,18 +23,13 @@ use Rattle.txn_space.specs.Sound.{IsBase, IsSpaceOf}
 pub use Rattle.txn_space.specs.ChangedRise.{changed_rise, from_none, next, same}
 use Rattle.txn_space.proofs.PutLemmas.{entries_more, row_of}
 
--- a table of a number that is there
-pub table_there : (tables : List TableDef) (place : ℕ) → place < length tables → (table : TableDef) × (slice_get tables place ≡ Some table)
-table_there [] place within = absurd (omega arith)
-table_there (table ∷ tables) zero within = (table, refl)
-table_there (table ∷ tables) (suc place) within = table_there tables place (omega arith)
-
--- a table's rows rise
-pub rising_at : (tables : List TableDef) (rows : List (List Row)) (place : ℕ) (table : TableDef) → AreRising tables rows → slice_get tables place ≡ Some table → IsRising (key_of table) key_cmp (rows_at rows place)
-rising_at [] rows place table rising is = cc
-rising_at (first ∷ tables) [] place table rising is = absurd rising
-rising_at (first ∷ tables) (one ∷ rows) zero table rising is = let this : first ≡ table = cc in subst (λ t. IsRisingTable t one) this rising.0
-rising_at (first ∷ tables) (one ∷ rows) (suc place) table rising is = rising_at tables rows place table rising.1 is
+-- no entry changes nothing
+pub changed_none : (number : ℕ) (tables : List TableDef) (rows : List (List Row)) → AreRising tables rows → changed_from number tables rows [] ≡ rows
+unfolding changed_from with_changes
+changed_none number [] [] rising = refl
+changed_none number [] (one ∷ rows) rising = absurd rising
+changed_none number (table ∷ tables) [] rising = absurd rising
+changed_none number (table ∷ tables) (one ∷ rows) rising = ap (λ rest. one ∷ rest) (changed_none (number + 1) tables rows rising.1)
 
 -- a table's rows are those of the base with its entries
 rows_from : (number : ℕ) (tables : List TableDef) (rows : List (List Row)) (space : List (List Entry)) (place : ℕ) (table : TableDef) → AreRising tables rows → slice_get tables place ≡ Some table
@@ -59,7 +53,7 @@ pub rows_of_other : (tables : List TableDef) (rows : List (List Row)) (space : L
     → rows_at (changed_rows tables rows space) place ≡ rows_at rows place
 unfolding with_changes
 rows_of_other tables rows space place rising within none =
-    let found = table_there tables place within in
+    let found = at-place tables place within in
     rows_of_table tables rows space place found.0 rising found.1 ∙ ap (λ es. rows_with found.0 es (rows_at rows place)) none
 
 -- after changes of the entries the rows are those before, with the changes
@@ -91,16 +85,11 @@ put_changes tables rows changes before after base sound puts changes_keyed =
     (λ place table is. subst (λ n. AreKeyed (key_of table) entry_key entry_row (entries_at before n)) (sym (from_none place)) (sound.keyed place table is))
     (λ place table is. subst (λ n. AreKeyed (key_of table) changed_key row_after (filter (is_of_table n) changes)) (sym (from_none place)) (changes_keyed place table is))
 
--- the row of a name, among the rows of its table
-pub named_in : (schema : Schema) (rows : List (List Row)) (name : RowName) (table : TableDef) → slice_get schema.tables name.table.0 ≡ Some table → row_named schema rows name ≡ found (key_of table) key_cmp name.key (rows_at rows name.table.0)
-unfolding row_named key_in key_of
-named_in schema rows name table is = rw is (sym (found-has_key table name.key (rows_at rows name.table.0)))
-
--- it is the one that the entry of its key puts, else the base's
-named_changed : (schema : Schema) (rows : List (List Row)) (space : List (List Entry)) (name : RowName) → IsBase schema.tables rows → IsSpaceOf schema.tables space → name.table.0 < length schema.tables
+-- the row of a name is the one that the entry of its key puts, else the base's
+pub named_changed : (schema : Schema) (rows : List (List Row)) (space : List (List Entry)) (name : RowName) → IsBase schema.tables rows → IsSpaceOf schema.tables space → name.table.0 < length schema.tables
     → row_named schema (changed_rows schema.tables rows space) name ≡ option_map_or entry_row (found entry_key key_cmp name.key (entries_at space name.table.0)) (row_named schema rows name)
 named_changed schema rows space name base sound within =
-    let there = table_there schema.tables name.table.0 within in
+    let there = at-place schema.tables name.table.0 within in
     named_in schema (changed_rows schema.tables rows space) name there.0 there.1
     ∙ (ap (found (key_of there.0) key_cmp name.key) (rows_of_table schema.tables rows space name.table.0 there.0 base.rising there.1)
     ∙ (row_of there.0 name.key (entries_at space name.table.0) (rows_at rows name.table.0) (sound.rising name.table.0) (sound.keyed name.table.0 there.0 there.1)

@@ -1,10 +1,9 @@
 -- The rows of a base after changes of a transaction's entries.
-use Rattle.std.proofs.Common.{◌≡◌, refl, sym, ◌∙◌, ap, subst, ℕ, ◌<◌, List, [], ◌∷◌, length, map}
-use Rattle.std.specs.Prelude.{Option, Some, None, Bool, true, false, cond, filter, slice_get, IfSome, IsSomeAnd}
+use Rattle.std.proofs.Common.{◌≡◌, refl, sym, ◌∙◌, ap, ◌<◌, List, [], ◌∷◌, length, map}
+use Rattle.std.specs.Prelude.{Option, Some, None, Bool, true, false, cond, slice_get, IfSome, IsSomeAnd}
 use Rattle.std.specs.List.{AllByRecursion as Each}
 use Rattle.std.specs.Option.{option_map_or}
 use Rattle.std.specs.Ordering.{is_eq}
-use Rattle.std.proofs.lemmas.Bool.{eqb-true}
 use Rattle.std.proofs.lemmas.Option.{slice_get_within}
 use Rattle.own_base.specs.Key.{key_cmp}
 use Rattle.own_base.specs.declared.change.Change.{Change}
@@ -20,7 +19,7 @@ use Rattle.page_model.proofs.FoundChanged.{found_changed, found_with_changes}
 use Rattle.page_model.proofs.InOrder.{rising_differ}
 use Rattle.page_model.proofs.SameFound.{same_found}
 use Rattle.state_model.specs.MayBePut.{IsPutIn}
-use Rattle.state_model.specs.Put.{changed_key, is_of_table, row_after}
+use Rattle.state_model.specs.Put.{changed_key, row_after}
 use Rattle.txn_space.specs.declared.entry.Entry.{Entry}
 use Rattle.txn_space.specs.Changed.{rows_with}
 use Rattle.txn_space.specs.Entries.{entry_key, entry_of, entry_row}
@@ -87,18 +86,6 @@ rising_more changes entries rising = rising_with_changes entry_key key_order cha
     each_refl : (cs : List Change) → Each (λ change. change.name.key ≡ change.name.key) cs
     each_refl [] = tt
     each_refl (c ∷ cs) = (refl, each_refl cs)
-
--- the changes of a table put rows of their keys
-pub changes_keyed : (tables : List TableDef) (number : ℕ) (table : TableDef) (changes : List Change) → slice_get tables number ≡ Some table → Each (IsPutIn tables) changes → AreKeyed (key_of table) changed_key row_after (filter (is_of_table number) changes)
-changes_keyed tables number table [] is all = tt
-changes_keyed tables number table (change ∷ changes) is all = by (is_of_table number change) refl (changes_keyed tables number table changes is all.1)
-  where
-    by : (b : Bool) → is_of_table number change ≡ b → AreKeyed (key_of table) changed_key row_after (filter (is_of_table number) changes) → AreKeyed (key_of table) changed_key row_after (cond b (change ∷ filter (is_of_table number) changes) (filter (is_of_table number) changes))
-    by true of more =
-        let there : slice_get tables change.name.table.0 ≡ Some table = ap (slice_get tables) (eqb-true change.name.table.0 number of) ∙ is in
-        let P : Option TableDef → Type 0 = λ found. IsSomeAnd found (λ t. IfSome change.after (λ row. key_of t row ≡ change.name.key)) in
-        (subst P there all.0, more)
-    by false other more = more
 
 -- a table of a change is there
 pub changes_there : (tables : List TableDef) (changes : List Change) → Each (IsPutIn tables) changes → Each (λ change. change.name.table.0 < length tables) changes

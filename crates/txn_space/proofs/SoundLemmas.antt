@@ -13,12 +13,13 @@ use Rattle.page_model.specs.Rising.{IsRising}
 use Rattle.page_model.proofs.InOrder.{few_rise}
 use Rattle.state_model.specs.MayBePut.{IsPutIn}
 use Rattle.state_model.specs.Put.{is_of_table}
+use Rattle.table_part.proofs.KeyLemmas.{changes_keyed}
 use Rattle.txn_space.specs.declared.entry.ByKey.{ByKey}
 use Rattle.txn_space.specs.declared.entry.Entry.{Entry}
 use Rattle.txn_space.specs.Entries.{entries_at, entry_key, entry_row, seen}
 use Rattle.txn_space.specs.HasPut.{HavePut}
 use Rattle.txn_space.specs.Sound.{IsSpaceOf}
-use Rattle.txn_space.proofs.PutLemmas.{changes_keyed, changes_there, keyed_more, rising_more}
+use Rattle.txn_space.proofs.PutLemmas.{changes_there, keyed_more, rising_more}
 
 pub length_seen : (tables : List (Paged ByKey Entry)) → length (seen tables) ≡ length tables
 length_seen [] = refl

@@ -5,7 +5,6 @@ mod entry;
 mod net;
 mod over;
 mod put;
-mod row_key;
 mod space;
 mod spot;
 mod walk;

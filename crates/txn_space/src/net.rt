@@ -11,7 +11,7 @@ use own_model::StoreView;
 use std::alloc::{AllocError, Global};
 
 /// Whether two values are the same. Takes no memory.
-#[tactic(auto, using(crate::proofs::SameLemmas::equal_is), unfolding(state_model::specs::Same::is_same_value))]
+#[tactic(auto, using(state_model::proofs::PutRows::equal_is), unfolding(state_model::specs::Same::is_same_value))]
 fn is_same_value(left: &Value, right: &Value) -> bool
     ensures { result ≡ is_one_value left.now right.now }
 {

@@ -16,11 +16,11 @@ use crate::entry::{ByKey, Entries, Entry};
 use crate::net::add_changes;
 use crate::over::Over;
 use crate::put::put_all;
-use crate::row_key::definition_of;
 use crate::walk::{count_with, run_from};
 use own_base::{Change, List, MakeCopy, Row, RowName, TableNo};
 use own_model::StoreView;
 use page_tree::Pages;
+use row_reading::definition_of;
 use std::alloc::{AllocError, Global};
 use std::marker::Model;
 
@@ -33,10 +33,10 @@ pub struct Space {
 
 impl Model for Space {
     ghost use Rattle.std.specs.Prelude.{List as Seq};
-    ghost use Rattle.txn_space.specs.declared.entry.Entry.{Entry as Changed};
+    ghost use Rattle.txn_space.specs.declared.entry.Entry.{Entry as Seen};
     ghost use Rattle.txn_space.specs.Entries.{seen};
 
-    ghost Value = { Seq (Seq Changed) };
+    ghost Value = { Seq (Seq Seen) };
 
     ghost view = { λ space. seen space.tables };
 }

@@ -7,9 +7,9 @@ ghost use Rattle.page_model.specs.Changed.{above_key, below_key};
 ghost use Rattle.page_model.specs.Place.{IsPlaceOf};
 ghost use Rattle.page_model.specs.Rising.{IsRising};
 
-use crate::row_key::compare;
 use own_base::{Key, TableNo};
 use own_model::{StoreView, TableDef};
+use row_reading::compare_key;
 
 /// Whether the row at a place is below a key. Takes no memory.
 fn is_below<V: StoreView>(
@@ -24,7 +24,7 @@ fn is_below<V: StoreView>(
 {
     match base.row_at(table, place) {
         None => false,
-        Some(row) => compare(definition, row, key).is_lt(),
+        Some(row) => compare_key(definition, row, key).is_lt(),
     }
 }
 
@@ -77,7 +77,7 @@ pub(crate) fn spot_from<V: StoreView>(
     match base.row_at(table, place) {
         None => (place, place),
         Some(row) => {
-            if compare(definition, row, key).is_eq() {
+            if compare_key(definition, row, key).is_eq() {
                 (place, place + 1)
             } else {
                 (place, place)

@@ -1,11 +1,11 @@
 use Rattle.std.proofs.Common.{◌<◌, ◌≤◌, length, sym, ◌∙◌, subst, arith}
 use Rattle.std.proofs.lemmas.Option.{slice_get_within}
 use Rattle.own_model.specs.Stored.{rows_at}
-use Rattle.subject_access.proofs.CellLemmas.{row-within}
 use Rattle.subject_access.proofs.ShownLemmas.{shown-more, shown-start}
 use Rattle.subject_access.proofs.collect.add_table.Goals as goal
 use Rattle.subject_access.proofs.collect.add_table.Goals.{in-Some+in_ok-add_row, in_default}
 use Rattle.subject_model.proofs.TableByTable.{past-none}
+use Rattle.state_model.proofs.StoredRows.{row-within}
 
 pub loop-at-init : goal.loop-at-init
 loop-at-init g c =

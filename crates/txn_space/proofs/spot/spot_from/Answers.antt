@@ -39,9 +39,9 @@ returns-in-None-clause-above g c =
 pub returns-then-is_eq-clause-above : goal.returns-then-is_eq-clause-above
 returns-then-is_eq-clause-above g c =
     spot_here c.args.definition.now c.args.key.now (rows_at (g.V.StoreView.db c.args.base.now).rows c.args.table.0) c.args.from c.place_from-place.result c.place_from-place.ensures.behind c.requires.rising c.place_from-place.ensures.place c.in-Some.row.now (sym c.in-Some.ensures)
-    (sym (c.is_eq.ensures ∙ ap is_eq c.compare.ensures) ∙ c.if-is_eq.true)
+    (sym (c.is_eq.ensures ∙ ap is_eq c.compare_key.ensures) ∙ c.if-is_eq.true)
 
 pub returns-else-is_eq-clause-above : goal.returns-else-is_eq-clause-above
 returns-else-is_eq-clause-above g c =
     spot_other c.args.definition.now c.args.key.now (rows_at (g.V.StoreView.db c.args.base.now).rows c.args.table.0) c.args.from c.place_from-place.result c.place_from-place.ensures.behind c.requires.rising c.place_from-place.ensures.place c.in-Some.row.now (sym c.in-Some.ensures)
-    (sym (c.is_eq.ensures ∙ ap is_eq c.compare.ensures) ∙ c.if-is_eq.false)
+    (sym (c.is_eq.ensures ∙ ap is_eq c.compare_key.ensures) ∙ c.if-is_eq.false)

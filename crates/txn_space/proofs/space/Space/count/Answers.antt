@@ -1,7 +1,8 @@
 use Rattle.std.proofs.Common.{length, sym, ◌∙◌, ap}
 use Rattle.own_model.specs.Stored.{rows_at}
+use Rattle.state_model.proofs.PutRows.{rising_at}
 use Rattle.txn_space.specs.Changed.{rows_with}
-use Rattle.txn_space.proofs.OverLemmas.{rising_at, rows_of_other, rows_of_table}
+use Rattle.txn_space.proofs.OverLemmas.{rows_of_other, rows_of_table}
 use Rattle.txn_space.proofs.space.Space.count.Goals as goal
 
 pub count_with-requires-clause-rising : goal.count_with-requires-clause-rising

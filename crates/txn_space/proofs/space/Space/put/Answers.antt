@@ -1,11 +1,11 @@
 use Rattle.std.proofs.Common.{◌≡◌, sym, ◌∙◌, ap, subst}
 use Rattle.state_model.specs.Put.{put_rows}
+use Rattle.table_part.proofs.KeyLemmas.{changes_keyed}
 use Rattle.txn_space.specs.Changed.{changed_rows}
 use Rattle.txn_space.specs.Entries.{entries_at, seen}
 use Rattle.txn_space.specs.HasPut.{HavePut, entries_put}
 use Rattle.txn_space.specs.Sound.{IsSpaceOf}
 use Rattle.txn_space.proofs.OverLemmas.{put_changes}
-use Rattle.txn_space.proofs.PutLemmas.{changes_keyed}
 use Rattle.txn_space.proofs.SoundLemmas.{put_sound}
 use Rattle.txn_space.proofs.space.Space.put.Goals as goal
 

@@ -1,8 +1,9 @@
 use Rattle.std.proofs.Common.{List, sym, ◌∙◌, ap, subst}
 use Rattle.own_model.specs.Db.{Row}
 use Rattle.own_model.specs.Stored.{IsRunFrom, rows_at}
+use Rattle.state_model.proofs.PutRows.{rising_at}
 use Rattle.txn_space.specs.Changed.{rows_with}
-use Rattle.txn_space.proofs.OverLemmas.{rising_at, rows_of_other, rows_of_table}
+use Rattle.txn_space.proofs.OverLemmas.{rows_of_other, rows_of_table}
 use Rattle.txn_space.proofs.space.Space.rows_from.Goals as goal
 
 pub run_from-requires-clause-rising : goal.run_from-requires-clause-rising

@@ -3,7 +3,7 @@ ghost use Rattle.owner_model.specs.ColumnSets.{has_column};
 
 use own_base::ColumnSet;
 
-/// Whether a column is in the set.
+/// Whether a column is in a set. Takes no memory.
 pub fn has_column(set: ColumnSet, column: usize) -> bool
     ensures { result ≡ has_column set column }
 {

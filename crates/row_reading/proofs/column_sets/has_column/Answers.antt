@@ -1,6 +1,6 @@
 use Rattle.std.proofs.Common.{◌^◌, ◌<◌, ◌≤◌, arith}
 use Rattle.std.proofs.lemmas.Nat.Bits.{bit_at_above}
-use Rattle.subject_access.proofs.cells.has_column.Goals as goal
+use Rattle.row_reading.proofs.column_sets.has_column.Goals as goal
 
 -- no bit stands above the number's type
 pub returns-else-column : goal.returns-else-column
