@@ -1,4 +1,5 @@
 pub mod BaseRows
+mod BoundSelects
 pub mod JoinedRows
 pub mod KeptByValue
 pub mod MeetingByKey

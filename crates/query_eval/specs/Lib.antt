@@ -7,3 +7,4 @@ pub mod Sources
 pub mod TableRows
 pub mod Tables
 pub mod Tally
+pub mod Views

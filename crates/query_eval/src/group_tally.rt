@@ -19,9 +19,9 @@ pub(crate) struct GroupTally {
 
 impl Model for GroupTally {
     ghost use Rattle.std.specs.Prelude.{List as Seq};
-    ghost use Rattle.query_eval.specs.declared.item_tally.ItemTally.{ItemTally as Counted};
+    ghost use Rattle.query_eval.specs.declared.item_tally.ItemTally.{ItemTally as Seen};
 
-    ghost Value = { Seq Counted };
+    ghost Value = { Seq Seen };
 
     ghost view = { λ group. group.items.items };
 }

@@ -18,10 +18,10 @@ pub(crate) struct GroupValue<'a> {
 impl<'a> Model for GroupValue<'a> {
     ghost use Rattle.std.specs.Prelude.{unwrap_or};
     ghost use Rattle.std.specs.Option.{option_copied};
-    ghost use Rattle.own_base.specs.declared.value.Value.{Value as Held};
+    ghost use Rattle.own_base.specs.declared.value.Value.{Value as Seen};
     ghost use Rattle.own_base.specs.declared.value.Value.TheVariants.{Null};
 
-    ghost Value = { Held };
+    ghost Value = { Seen };
 
     ghost view = { λ group. unwrap_or (option_copied group.value) Null };
 }

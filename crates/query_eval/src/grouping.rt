@@ -45,7 +45,7 @@ fn grouped_reply(
 
 /// The reply to a grouped select, from a table of a store or from two that are joined.
 #[tactic(auto, using(crate::proofs::BaseRows::of_base), unfolding(query_model::specs::Query::query_rows, query_model::specs::Query::selected))]
-pub fn group<V: StoreView>(
+pub(crate) fn group<V: StoreView>(
     alloc: Global,
     view: &V,
     query: &BoundSelect,

@@ -26,9 +26,9 @@ pub(crate) struct Groups<'a> {
 
 impl<'a> Model for Groups<'a> {
     ghost use Rattle.std.specs.Prelude.{List};
-    ghost use Rattle.own_base.specs.declared.value.Value.{Value as Held};
+    ghost use Rattle.own_base.specs.declared.value.Value.{Value as Seen};
 
-    ghost Value = { List (List Held) };
+    ghost Value = { List (List Seen) };
 
     ghost use Rattle.query_eval.specs.Groups.{shown_groups, AreCounted};
 

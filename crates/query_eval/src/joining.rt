@@ -10,7 +10,11 @@ use std::alloc::{AllocError, Global};
 
 /// The reply to a select from two tables of a store that are joined.
 #[tactic(auto, unfolding(query_model::specs::Query::query_rows, query_model::specs::Query::selected))]
-pub fn join<V: StoreView>(alloc: Global, view: &V, query: &BoundSelect) -> Result<Reply, AllocError>
+pub(crate) fn join<V: StoreView>(
+    alloc: Global,
+    view: &V,
+    query: &BoundSelect,
+) -> Result<Reply, AllocError>
     requires plain { query.now.grouped ≡ false }
     requires source { IsPairOf (V.db view.now).schema query.now.source }
     requires tables { AreTables (V.db view.now).schema (V.db view.now).rows }

@@ -5,21 +5,22 @@ ghost use Rattle.query_model.specs.Footprints.{key_column};
 ghost use Rattle.query_model.specs.Truth.{keeps};
 ghost use Rattle.query_eval.specs.Tables.{AreTables};
 
-use crate::lent_rows::LentRows;
+use crate::row_list::RowList;
 use own_base::{ColNo, Row, RowName, TableNo};
 use own_model::{BoundCond, StoreView};
-use pred_eval::{RowPair, keeps_row, pinned_key};
+use pred_eval::{keeps, pinned_key};
+use row_reading::definition_of;
 use std::alloc::{AllocError, Global};
 
 /// One row more, where WHERE keeps it, behind the rows so far.
-pub(crate) fn keep<'a>(
-    kept: &mut LentRows<'a>,
-    row: RowPair<'a>,
+fn keep<'a>(
+    kept: &mut RowList<'a>,
+    row: &'a Row,
     cond: Option<&BoundCond>,
 ) -> Result<(), AllocError>
-    ensures { OnOk result (kept.new ≡ kept.old ++ filter (keeps (option_copied cond.entry)) (row.entry ∷ [])) }
+    ensures { OnOk result (kept.new ≡ kept.old ++ filter (keeps (option_copied cond.entry)) (row.now ∷ [])) }
 {
-    if keeps_row(cond, &row) {
+    if keeps(cond, row, None) {
         kept.push(row)?;
     }
     Ok(())
@@ -27,27 +28,27 @@ pub(crate) fn keep<'a>(
 
 /// Those of some more rows that WHERE keeps, behind the rows so far.
 fn keep_more<'a>(
-    kept: &mut LentRows<'a>,
+    kept: &mut RowList<'a>,
     rows: &'a [Row],
     cond: Option<&BoundCond>,
 ) -> Result<(), AllocError>
     ensures { OnOk result (kept.new ≡ kept.old ++ filter (keeps (option_copied cond.entry)) rows.now) }
 {
     for row in rows {
-        keep(kept, RowPair::new(row, None), cond)?;
+        keep(kept, row, cond)?;
     }
     Ok(())
 }
 
 /// The rows that WHERE keeps.
-pub fn kept_rows<'a>(
+pub(crate) fn kept_rows<'a>(
     alloc: Global,
     rows: &'a [Row],
     cond: Option<&BoundCond>,
-) -> Result<LentRows<'a>, AllocError>
+) -> Result<RowList<'a>, AllocError>
     ensures { IfOk result (λ kept. kept ≡ filter (keeps (option_copied cond.entry)) rows.now) }
 {
-    let mut kept = LentRows::new(alloc);
+    let mut kept = RowList::new(alloc);
     keep_more(&mut kept, rows, cond)?;
     Ok(kept)
 }
@@ -57,7 +58,7 @@ pub(crate) fn key_column<V: StoreView>(view: &V, table: TableNo) -> ColNo
     requires { table.0 < length (V.db view.now).schema.tables }
     ensures { result.0 ≡ key_column (V.db view.now).schema table }
 {
-    view.schema().tables.items()[table.0 as usize].key
+    definition_of(view, table).key
 }
 
 /// The row of a name, where WHERE keeps it.
@@ -66,13 +67,13 @@ fn kept_by_key<'a, V: StoreView>(
     view: &'a V,
     name: &RowName,
     cond: Option<&BoundCond>,
-) -> Result<LentRows<'a>, AllocError>
+) -> Result<RowList<'a>, AllocError>
     requires { name.now.table.0 < length (V.db view.now).schema.tables }
     ensures { IfOk result (λ kept. kept ≡ filter (keeps (option_copied cond.entry)) (option_to_list (row_named (V.db view.now).schema (V.db view.now).rows name.now))) }
 {
-    let mut kept = LentRows::new(alloc);
+    let mut kept = RowList::new(alloc);
     if let Some(row) = view.row(name) {
-        keep(&mut kept, RowPair::new(row, None), cond)?;
+        keep(&mut kept, row, cond)?;
     }
     Ok(kept)
 }
@@ -83,11 +84,11 @@ fn kept_by_runs<'a, V: StoreView>(
     view: &'a V,
     table: TableNo,
     cond: Option<&BoundCond>,
-) -> Result<LentRows<'a>, AllocError>
+) -> Result<RowList<'a>, AllocError>
     requires { table.0 < length (V.db view.now).schema.tables }
     ensures { IfOk result (λ kept. kept ≡ filter (keeps (option_copied cond.entry)) (rows_at (V.db view.now).rows table.0)) }
 {
-    let mut kept = LentRows::new(alloc);
+    let mut kept = RowList::new(alloc);
     let count = view.count(table);
     let mut at = 0;
     while at < count {
@@ -105,7 +106,7 @@ pub fn kept_in_table<'a, V: StoreView>(
     view: &'a V,
     table: TableNo,
     cond: Option<&BoundCond>,
-) -> Result<LentRows<'a>, AllocError>
+) -> Result<RowList<'a>, AllocError>
     requires there { table.0 < length (V.db view.now).schema.tables }
     requires tables { AreTables (V.db view.now).schema (V.db view.now).rows }
     ensures { IfOk result (λ kept. kept ≡ filter (keeps (option_copied cond.entry)) (rows_at (V.db view.now).rows table.0)) }

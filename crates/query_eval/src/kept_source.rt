@@ -23,7 +23,10 @@ pub(crate) fn kept_in_source<'a, V: StoreView>(
     ensures { IfOk result (λ kept. kept ≡ filter (keeps (option_copied cond.entry)) (base_rows (V.db view.now).rows source.now)) }
 {
     match source {
-        Source1::Table(table) => kept_in_table(alloc, view, *table, cond),
+        Source1::Table(table) => {
+            let kept = kept_in_table(alloc, view, *table, cond)?;
+            LentRows::of_list(alloc, &kept)
+        }
         Source1::Pair {
             left,
             right,

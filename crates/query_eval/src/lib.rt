@@ -1,4 +1,4 @@
-//! The rows of a select.
+//! The reply to a SELECT, and the rows of a table that WHERE keeps.
 #![tactic(auto)]
 
 mod group_tally;
@@ -14,6 +14,7 @@ mod lent_rows;
 mod meeting;
 mod number_tally;
 mod pairs;
+mod reply;
 mod row_list;
 mod row_order;
 mod selection;
@@ -23,9 +24,6 @@ mod value_index;
 mod value_tallies;
 mod views;
 
-pub use grouping::group;
-pub use joining::join;
-pub use kept::{kept_in_table, kept_rows};
-pub use lent_rows::LentRows;
-pub use selection::{select, select_rows};
-pub use views::view_rows;
+pub use kept::kept_in_table;
+pub use reply::select_reply;
+pub use row_list::RowList;

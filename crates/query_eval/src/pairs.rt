@@ -1,4 +1,4 @@
-ghost use Rattle.std.specs.Prelude.{◌≡◌, ◌<◌, [], ◌++◌, filter, length, map, unwrap_or, IfOk, OnOk};
+ghost use Rattle.std.specs.Prelude.{◌≡◌, ◌<◌, [], ◌∷◌, ◌++◌, filter, length, map, unwrap_or, IfOk, OnOk};
 ghost use Rattle.std.specs.Option.{option_copied, option_to_list};
 ghost use Rattle.own_model.specs.Stored.{rows_at};
 ghost use Rattle.query_model.specs.Footprints.{key_column};
@@ -6,7 +6,7 @@ ghost use Rattle.query_model.specs.Query.{joined};
 ghost use Rattle.query_model.specs.Truth.{keeps};
 ghost use Rattle.query_eval.specs.Tables.{AreTables};
 
-use crate::kept::{keep, key_column};
+use crate::kept::key_column;
 use crate::lent_rows::LentRows;
 use crate::meeting::meeting_row;
 use crate::row_list::RowList;
@@ -14,7 +14,7 @@ use crate::table_rows::TableRows;
 use crate::value_index::ValueIndex;
 use own_base::{ColNo, Row, TableNo};
 use own_model::{BoundCond, StoreView};
-use pred_eval::RowPair;
+use pred_eval::{RowPair, keeps_row};
 use row_reading::cell;
 use std::alloc::{AllocError, Global};
 
@@ -25,6 +25,20 @@ pub(crate) struct Joined {
     pub right: TableNo,
     pub left_column: ColNo,
     pub right_column: ColNo,
+}
+
+/// One pair more, where WHERE keeps it, behind the pairs so far.
+fn keep<'a>(
+    kept: &mut LentRows<'a>,
+    pair: RowPair<'a>,
+    cond: Option<&BoundCond>,
+) -> Result<(), AllocError>
+    ensures { OnOk result (kept.new ≡ kept.old ++ filter (keeps (option_copied cond.entry)) (pair.entry ∷ [])) }
+{
+    if keeps_row(cond, &pair) {
+        kept.push(pair)?;
+    }
+    Ok(())
 }
 
 /// The pair of a row of the left table with one of the right table, where there is one and WHERE keeps it, behind the

@@ -1,4 +1,4 @@
-ghost use Rattle.std.specs.Prelude.{◌≡◌, [], ◌∷◌, ◌++◌, map, OnOk};
+ghost use Rattle.std.specs.Prelude.{◌≡◌, [], ◌∷◌, ◌++◌, length, map, OnOk};
 
 use own_base::Row;
 use std::alloc::{AllocError, Global};
@@ -6,15 +6,15 @@ use std::marker::Model;
 
 /// Rows of a table that are lent, in order; contracts see the list of the rows.
 #[derive(Drop)]
-pub(crate) struct RowList<'a> {
+pub struct RowList<'a> {
     rows: Vec<&'a Row>,
 }
 
 impl<'a> Model for RowList<'a> {
     ghost use Rattle.std.specs.Prelude.{List, map};
-    ghost use Rattle.own_base.specs.declared.value.Value.{Value as Held};
+    ghost use Rattle.own_base.specs.declared.value.Value.{Value as Seen};
 
-    ghost Value = { List (List Held) };
+    ghost Value = { List (List Seen) };
 
     ghost view = { λ lent. map (λ row. row.now) lent.rows.items };
 }
@@ -37,8 +37,15 @@ impl<'a> RowList<'a> {
         Ok(())
     }
 
+    /// How many rows there are. Takes no memory.
+    pub fn count(&self) -> u64
+        ensures { result ≡ length self.now }
+    {
+        self.rows.len() as u64
+    }
+
     /// Lends the rows, in order. Takes no memory.
-    pub(crate) fn rows(&self) -> &[&'a Row]
+    pub fn rows(&self) -> &[&'a Row]
         ensures { map (λ row. row.now) result.now ≡ self.now }
     {
         self.rows.as_slice()

@@ -30,17 +30,21 @@ pub(crate) fn plain_reply(
 
 /// The reply to a select that isn't grouped, over the rows of its source.
 #[tactic(auto, unfolding(query_model::specs::Query::selected))]
-pub fn select_rows(alloc: Global, rows: &[Row], query: &BoundSelect) -> Result<Reply, AllocError>
+pub(crate) fn select_rows(
+    alloc: Global,
+    rows: &[Row],
+    query: &BoundSelect,
+) -> Result<Reply, AllocError>
     requires { query.now.grouped ≡ false }
     ensures { IfOk result (λ reply. reply ≡ reply_of (selected query.now rows.now)) }
 {
     let kept = kept_rows(alloc, rows, query.cond.as_ref())?;
-    plain_reply(alloc, kept, query)
+    plain_reply(alloc, LentRows::of_list(alloc, &kept)?, query)
 }
 
 /// The reply to a select that isn't grouped, from a table of a store.
 #[tactic(auto, unfolding(query_model::specs::Query::query_rows, query_model::specs::Query::selected))]
-pub fn select<V: StoreView>(
+pub(crate) fn select<V: StoreView>(
     alloc: Global,
     view: &V,
     query: &BoundSelect,
@@ -53,7 +57,7 @@ pub fn select<V: StoreView>(
     match &query.source {
         Source1::Table(table) => {
             let kept = kept_in_table(alloc, view, *table, query.cond.as_ref())?;
-            plain_reply(alloc, kept, query)
+            plain_reply(alloc, LentRows::of_list(alloc, &kept)?, query)
         }
         Source1::View(_) | Source1::Pair { .. } => unreachable!(),
     }

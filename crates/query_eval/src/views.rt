@@ -13,7 +13,7 @@ use std::alloc::{AllocError, Global};
 
 /// The rows of a view, however many, in its own order.
 #[tactic(auto, unfolding(query_model::specs::Query::view_rows, query_model::specs::Query::selected))]
-pub fn view_rows<V: StoreView>(
+pub(crate) fn view_rows<V: StoreView>(
     alloc: Global,
     view: &V,
     definition: &ViewDef,

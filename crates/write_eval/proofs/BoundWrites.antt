@@ -1,5 +1,5 @@
 -- What binding leaves of an INSERT, an UPDATE or a DELETE is a write.
-use Rattle.std.proofs.Common.{◌≡◌, ◌==◌, List, [], false, Option, None, Some, inl, inr, refl, sym, ap, subst, arith}
+use Rattle.std.proofs.Common.{◌≡◌, ◌==◌, List, [], false, Option, None, Some, inl, inr, sym, ap, subst, arith}
 use Rattle.std.specs.Prelude.{Ok, slice_get}
 use Rattle.std.specs.List.{AllByRecursion as Each}
 use Rattle.std.specs.Option.{option_map_or}
@@ -10,12 +10,11 @@ use Rattle.own_model.specs.declared.bound.Bound.{Bound}
 use Rattle.own_model.specs.declared.bound.BoundExpr.{BoundExpr}
 use Rattle.own_model.specs.declared.condition.Cond.{Cond}
 use Rattle.own_model.specs.declared.expression.Expr.{Expr}
-use Rattle.own_model.specs.declared.refusal.Refusal.{Refusal}
 use Rattle.own_model.specs.declared.schema.Schema.{Schema}
 use Rattle.own_model.specs.declared.schema.TableDef.{TableDef}
 use Rattle.own_model.specs.declared.statement.Statement.{Statement}
 use Rattle.own_model.specs.declared.statement.Statement.TheVariants.{Delete, Insert, Update}
-use Rattle.query_model.specs.BoundStatement.{bound_statement, bound_unless, faults, meaning}
+use Rattle.query_model.specs.BoundStatement.{bound_statement, faults, meaning}
 use Rattle.query_model.specs.ConditionFaults.{where_faults}
 use Rattle.query_model.specs.Footprints.{key_column}
 use Rattle.query_model.specs.Refused.{lowest}
@@ -29,6 +28,7 @@ use Rattle.readable_model.proofs.Sources.{table-there}
 use Rattle.run_model.specs.Update.{Sets}
 use Rattle.run_model.proofs.KeylessSets.{keyless-bound_sets, sets_over}
 use Rattle.run_model.proofs.RisingKeys.{AreKeyless}
+use Rattle.run_model.proofs.Outcomes.{bound_unless-ok}
 use Rattle.write_eval.specs.Write.{IsThere, IsWrite, SpareKey}
 
 -- a statement that changes rows by a table's name
@@ -37,10 +37,6 @@ ChangesRows (Insert table columns rows) = Unit {0}
 ChangesRows (Update table sets cond) = Unit {0}
 ChangesRows (Delete table cond) = Unit {0}
 ChangesRows _ = ⊥
-
-given : (reported : Option Refusal) (meant got : Bound) → bound_unless reported meant ≡ Ok got → (reported ≡ None) × (meant ≡ got)
-given None meant got is = (refl, cc)
-given (Some fault) meant got is = absurd (cc)
 
 -- sets of no primary key of the table of a number
 spare : (schema : Schema) (number : TableNo) (table : TableDef) (sets : Sets) → slice_get schema.tables number.0 ≡ Some table → AreKeyless table sets → SpareKey schema number sets
@@ -74,5 +70,5 @@ meant_write schema _ changes reported = absurd changes
 pub bound_write : (schema : Schema) (found : Statement) (meant : Bound) → bound_statement schema found ≡ Ok meant → ChangesRows found → IsWrite schema meant
 unfolding bound_statement
 bound_write schema found meant is changes =
-    let both = given (lowest (faults schema found)) (meaning schema found) meant is in
+    let both = bound_unless-ok (lowest (faults schema found)) (meaning schema found) meant is in
     subst (IsWrite schema) both.1 (meant_write schema found changes both.0)

@@ -8,17 +8,17 @@ use Rattle.own_base.specs.declared.number.TableNo.{TableNo}
 use Rattle.own_base.specs.declared.value.Key.{Key}
 use Rattle.own_model.specs.declared.bound.BoundCond.{BoundCond}
 use Rattle.own_model.specs.declared.reply.Reply.TheVariants.{Counted}
-use Rattle.own_model.specs.declared.schema.Schema.{Schema}
 use Rattle.own_model.specs.declared.schema.TableDef.{TableDef}
 use Rattle.own_model.specs.Db.{Db, IsRising, Row, key_of}
 use Rattle.own_model.specs.Stored.{has_key, rows_at}
 use Rattle.query_model.specs.Truth.{keeps}
 use Rattle.state_model.specs.Put.{changed_key}
+use Rattle.state_model.proofs.PutRows.{rising_at}
 use Rattle.query_eval.specs.Tables.{AreTables}
 use Rattle.run_model.specs.Run.{delete}
 use Rattle.run_model.specs.Update.{rows_left}
 use Rattle.run_model.proofs.FoundRows.{find-filter}
-use Rattle.run_model.proofs.RisingKeys.{rising-at, rising-filter}
+use Rattle.run_model.proofs.RisingKeys.{rising-filter}
 use Rattle.write_eval.specs.Deletions.{deletion}
 use Rattle.write_eval.specs.Writes.{Writes}
 use Rattle.write_eval.specs.declared.written.Written.{Written}
@@ -81,7 +81,7 @@ deletes db number table condition written tables is count changes =
     let rows = rows_at db.rows number.0 in
     let left = filter (λ row. not (keeps condition row)) rows in
     let made = map (deletion number table) (filter (keeps condition) rows) in
-    let lead = lead_within number table (keeps condition) rows (rising-at db.schema.tables db.rows number.0 table tables.rising is) in
+    let lead = lead_within number table (keeps condition) rows (rising_at db.schema.tables db.rows number.0 table tables.rising is) in
     record {
       reply = ap Counted (sym count);
       counted = ap length changes ∙ (length-map (filter (keeps condition) (rows_at db.rows number.0)) (deletion number table) ∙ sym count);

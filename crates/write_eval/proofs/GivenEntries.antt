@@ -13,16 +13,8 @@ use Rattle.own_base.specs.declared.value.Key.{Key}
 use Rattle.own_model.specs.Db.{Row}
 use Rattle.own_model.specs.Stored.{is_equal}
 use Rattle.own_model.proofs.KeyOrder.{key_order}
+use Rattle.run_model.proofs.Overlaps.{at_key}
 use Rattle.write_eval.specs.Insertions.{Given}
-
--- a test for a key, from either side
-turned : (o : Ordering) → is_eq (ordering_reverse o) ≡ is_equal o
-turned Less = refl
-turned Equal = refl
-turned Greater = refl
-
-pub at_key : (key other : Key) → is_at (key_cmp key) other ≡ is_equal (key_cmp other key)
-at_key key other = ap is_eq (key_order.antisymm key other) ∙ turned (key_cmp other key)
 
 -- the order of keys, as a map takes it
 module _ (order : Key → Key → Ordering) (same : (left right : Key) → order left right ≡ key_cmp left right) where

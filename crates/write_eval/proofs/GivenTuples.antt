@@ -17,8 +17,9 @@ use Rattle.own_model.specs.Stored.{has_key, row_named, rows_at}
 use Rattle.run_model.specs.Insert.{and_tuple, with_row, with_tuple, with_tuples}
 use Rattle.run_model.proofs.FoundRows.{any_by_find}
 use Rattle.run_model.proofs.InsertLookups.{found-with_row}
+use Rattle.run_model.proofs.Overlaps.{at_key}
 use Rattle.write_eval.specs.Insertions.{Given, and_given, give, given_tuples, is_taken}
-use Rattle.write_eval.proofs.GivenEntries.{at_key, each-more, insert_entry-is, length-more, lookup-more, rising-more}
+use Rattle.write_eval.proofs.GivenEntries.{each-more, insert_entry-is, length-more, lookup-more, rising-more}
 
 -- the first, else the other
 abbrev pub or_else : Option Row → Option Row → Option Row

@@ -8,4 +8,4 @@ pub mod Insertions
 pub mod Kept
 pub mod OneTable
 pub mod Replacements
-pub mod Targets
+pub mod StoredTables

@@ -19,9 +19,10 @@ use Rattle.query_model.specs.Footprints.{key_column}
 use Rattle.query_model.specs.Truth.{keeps}
 use Rattle.state_model.specs.Fault.{first_of}
 use Rattle.state_model.specs.Put.{changed_key}
+use Rattle.state_model.proofs.PutRows.{rising_at}
 use Rattle.run_model.specs.Run.{stored_unless, update}
 use Rattle.run_model.specs.Update.{Sets, update_faults, updated_rows}
-use Rattle.run_model.proofs.RisingKeys.{AreKeyless, rising-at, rising-filter}
+use Rattle.run_model.proofs.RisingKeys.{AreKeyless, rising-filter}
 use Rattle.run_model.proofs.UpdateLookups.{changed, found-updated}
 use Rattle.write_eval.specs.Updates.{replacement}
 use Rattle.write_eval.specs.Write.{SpareKey}
@@ -70,7 +71,7 @@ module _ (number : TableNo) (table : TableDef) (sets : Sets) (keyless : AreKeyle
   }
 
 -- sets that spare the key of a table that is there
-keyless_sets : (schema : Schema) (number : TableNo) (table : TableDef) (sets : Sets) → slice_get schema.tables number.0 ≡ Some table → SpareKey schema number sets → AreKeyless table sets
+pub keyless_sets : (schema : Schema) (number : TableNo) (table : TableDef) (sets : Sets) → slice_get schema.tables number.0 ≡ Some table → SpareKey schema number sets → AreKeyless table sets
 keyless_sets schema number table sets is spare =
     let same : key_column schema number ≡ table.key.0 = ap (λ found. option_map_or (λ (table : TableDef). table.key.0) found 0) is in
     subst (λ key. Each (λ (set : ColNo × BoundExpr). (set.0.0 == key) ≡ false) sets) same spare
@@ -97,7 +98,7 @@ module _ (db : Db) (number : TableNo) (table : TableDef) (sets : Sets) (conditio
       let after = updated_rows sets condition (rows_at db.rows number.0) in
       let made = map (replacement number table sets) kept in
       let lead = lead_within number table sets (keyless_sets db.schema number table sets is spare) condition (rows_at db.rows number.0)
-      (rising-at db.schema.tables db.rows number.0 table rising is) in
+      (rising_at db.schema.tables db.rows number.0 table rising is) in
       let write : Writes db (stored_unless db number.0 (updated_rows sets condition (rows_at db.rows number.0)) (length kept) None) number written = record {
         reply = ap Counted (sym count);
         counted = ap length changes ∙ (length-map kept (replacement number table sets) ∙ sym count);

@@ -5,12 +5,11 @@ ghost use Rattle.run_model.specs.Run as outcome;
 ghost use Rattle.write_eval.specs.Deletions as spec;
 ghost use Rattle.write_eval.specs.Writes.{Writes};
 
-use crate::definition::definition;
-use crate::target::target_rows;
 use crate::written::Written;
 use own_base::{Change, List, MakeCopy, Row, RowName, TableNo};
 use own_model::{BoundCond, StoreView, TableDef};
-use row_reading::key_of;
+use query_eval::kept_in_table;
+use row_reading::{definition_of, key_of};
 use std::alloc::{AllocError, Global};
 
 /// That a row goes.
@@ -58,10 +57,10 @@ pub(crate) fn delete<V: StoreView>(
     requires tables { AreTables (V.db view.now).schema (V.db view.now).rows }
     ensures { IfOk result (λ written. Writes (V.db view.now) (outcome.delete (V.db view.now) table.0 (option_copied cond.entry)) table written) }
 {
-    let targets = target_rows(alloc, view, table, cond)?;
-    let changes = deletions(alloc, table, definition(view, table), targets.rows())?;
+    let kept = kept_in_table(alloc, view, table, cond)?;
+    let changes = deletions(alloc, table, definition_of(view, table), kept.rows())?;
     Ok(Written {
-        count: targets.count(),
+        count: kept.count(),
         changes,
     })
 }

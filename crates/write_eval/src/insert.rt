@@ -4,11 +4,10 @@ ghost use Rattle.run_model.specs.Run as outcome;
 ghost use Rattle.write_eval.specs.Insertions as spec;
 ghost use Rattle.write_eval.specs.Writes.{Answers};
 
-use crate::definition::definition;
 use crate::written::Written;
 use own_base::{Change, Key, List, MakeCopy, Row, RowName, TableNo};
 use own_model::{Refusal, StoreView, TableDef};
-use row_reading::key_of;
+use row_reading::{definition_of, key_of};
 use std::alloc::{AllocError, Global};
 use std::collections::BTreeMap;
 use std::mem::drop;
@@ -96,7 +95,7 @@ pub(crate) fn insert<V: StoreView>(
     requires tables { AreTables (V.db view.now).schema (V.db view.now).rows }
     ensures { IfOk result (λ answer. Answers (V.db view.now) (outcome.insert (V.db view.now) number.0 tuples.now) number answer) }
 {
-    let table = definition(view, number);
+    let table = definition_of(view, number);
     match give_each(alloc, view, number, table, tuples)? {
         Ok(given) => {
             let changes = insertions(alloc, number, given)?;

@@ -1,11 +1,9 @@
 //! What an INSERT, an UPDATE or a DELETE changes in a store that is viewed. The store stays as it is.
 #![tactic(auto)]
 
-mod definition;
 mod delete;
 mod insert;
 mod set_value;
-mod target;
 mod update;
 mod update_fault;
 mod write;

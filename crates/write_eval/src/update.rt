@@ -7,14 +7,13 @@ ghost use Rattle.write_eval.specs.Updates as spec;
 ghost use Rattle.write_eval.specs.Write.{SpareKey};
 ghost use Rattle.write_eval.specs.Writes.{Answers};
 
-use crate::definition::definition;
 use crate::set_value::set_value;
-use crate::target::target_rows;
 use crate::update_fault::first_fault;
 use crate::written::Written;
 use own_base::{Change, ColNo, List, MakeCopy, Row, RowName, TableNo};
 use own_model::{BoundCond, BoundExpr, Refusal, StoreView, TableDef};
-use row_reading::key_of;
+use query_eval::kept_in_table;
+use row_reading::{definition_of, key_of};
 use std::alloc::{AllocError, Global};
 
 /// A row after an UPDATE of it, of which each expression sees the row as it was.
@@ -79,14 +78,14 @@ pub(crate) fn update<V: StoreView>(
     requires tables { AreTables (V.db view.now).schema (V.db view.now).rows }
     ensures { IfOk result (λ answer. Answers (V.db view.now) (outcome.update (V.db view.now) number.0 sets.now (option_copied cond.entry)) number answer) }
 {
-    let table = definition(view, number);
-    let targets = target_rows(alloc, view, number, cond)?;
-    match first_fault(alloc, table, sets, targets.rows())? {
+    let table = definition_of(view, number);
+    let kept = kept_in_table(alloc, view, number, cond)?;
+    match first_fault(alloc, table, sets, kept.rows())? {
         Some(why) => Ok(Err(why)),
         None => {
-            let changes = replacements(alloc, number, table, sets, targets.rows())?;
+            let changes = replacements(alloc, number, table, sets, kept.rows())?;
             Ok(Ok(Written {
-                count: targets.count(),
+                count: kept.count(),
                 changes,
             }))
         }
