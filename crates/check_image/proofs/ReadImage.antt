@@ -104,8 +104,6 @@ image-only (version ∷ bytes) image is = rw is.0 (fields_only bytes image is.1 
 pub image-none : (bytes : List ℕ) → image_of bytes ≡ None → (image : Image) → IsImage image bytes → ⊥
 image-none bytes none image is = let found = image-only bytes image is in cc
 
-pub image-one : (bytes : List ℕ) (one other : Image) → IsImage one bytes → IsImage other bytes → one ≡ other
-image-one bytes one other first second = some_is one other (sym (image-only bytes one first) ∙ image-only bytes other second)
-
+-- there are no more tables than creates
 pub tables_few : (creates : List CreateText) → table_count creates ≤ length creates
 tables_few creates = count_by-le-length (λ create. not create.view) creates

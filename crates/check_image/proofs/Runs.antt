@@ -6,14 +6,11 @@ use Rattle.std.proofs.lemmas.List.{append-nil, drop-drop, drop_all, drop_at}
 use Rattle.std.proofs.lemmas.List.Concat.{flat_map-cons}
 use Rattle.own_model.specs.Db.{Row}
 use Rattle.own_model.specs.Stored.{IsRunFrom, rows_at}
+use Rattle.schema_model.proofs.Places.{all-append}
 
 all_apart : {A : Type 0} (P : A → Type 0) (xs ys : List A) → AllByRecursion P (xs ++ ys) → AllByRecursion P xs × AllByRecursion P ys
 all_apart P [] ys all = (tt, all)
 all_apart P (x ∷ xs) ys all = let rest = all_apart P xs ys all.1 in ((all.0, rest.0), rest.1)
-
-all_both : {A : Type 0} (P : A → Type 0) (xs ys : List A) → AllByRecursion P xs → AllByRecursion P ys → AllByRecursion P (xs ++ ys)
-all_both P [] ys first second = second
-all_both P (x ∷ xs) ys first second = (first.0, all_both P xs ys first.1 second)
 
 module _ (rows : List Row) (at : ℕ) (run : List Row) (runs : IsRunFrom rows at run) where
   -- what is behind a run
@@ -41,7 +38,7 @@ module _ (rows : List Row) (at : ℕ) (run : List Row) (runs : IsRunFrom rows at
       ∙ ap (λ (tail : List ℕ). out ++ tail) (sym apart) ∙ so_far
 
   pub run_typed : (P : Row → Type 0) → AllByRecursion P run → (AllByRecursion P (drop at rows) → AllByRecursion P rows) → AllByRecursion P (drop (at + length run) rows) → AllByRecursion P rows
-  run_typed P own whole rest = whole (subst (AllByRecursion P) (sym runs.follow) (all_both P run runs.rest own (subst (AllByRecursion P) behind rest)))
+  run_typed P own whole rest = whole (subst (AllByRecursion P) (sym runs.follow) (all-append P run runs.rest own (subst (AllByRecursion P) behind rest)))
 
 -- the table at a place, and those after it
 module _ (tables : List (List Row)) (at : ℕ) (below : at < length tables) where

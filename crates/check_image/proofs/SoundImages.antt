@@ -1,8 +1,7 @@
 -- A database that a store may represent has an image.
-use Rattle.std.proofs.Common.{◌≡◌, ℕ, suc, ◌+◌, ◌≤◌, Bool, true, false, cond, List, [], ◌∷◌, length, length-append, map, fold, refl, sym, ap, subst, ◌∙◌, arith}
-use Rattle.std.specs.Prelude.{None, not, sum_by, if◌then◌else◌}
+use Rattle.std.proofs.Common.{◌≡◌, ℕ, suc, ◌+◌, ◌≤◌, cond, List, [], ◌∷◌, length, length-append, map, fold, refl, sym, ap, subst, ◌∙◌, arith}
+use Rattle.std.specs.Prelude.{not, sum_by}
 use Rattle.std.specs.List.{AllByRecursion}
-use Rattle.std.proofs.lemmas.Bool.{ltb-false}
 use Rattle.std.proofs.lemmas.List.Sums.{sum_by-cons}
 use Rattle.own_base.specs.declared.value.Value.TheVariants as value
 use Rattle.own_model.specs.declared.limit.TheConstants.{JOURNAL_ROOM, STORE_ROWS, TABLES, VIEWS}
@@ -16,28 +15,19 @@ use Rattle.own_model.specs.Db.{Db, Row, empty}
 use Rattle.schema_model.specs.NewTable.{new_table}
 use Rattle.schema_model.specs.WithTable.{with_table}
 use Rattle.schema_model.specs.WithinLimits.{IsTableWithin}
-use Rattle.schema_model.proofs.Places.{append-none}
 use Rattle.query_model.specs.BoundView.{new_view}
 use Rattle.state_model.specs.Create.{kept_text, kept_view_text, with_view}
 use Rattle.state_model.specs.Created.{Create, IsCreated, IsReadableCreate, OfTable, OfView, schema_after, text_of, with_create}
-use Rattle.state_model.specs.Fault.{fault}
 use Rattle.state_model.specs.Rows.{AreOfKinds, AreRowsOf, IsRowOf, IsStorable}
 use Rattle.state_model.specs.Sound.{Sound}
-use Rattle.state_model.specs.Weight.{row_count}
 use Rattle.state_model.proofs.CreatedSchema.{views_within-created, within-created}
-use Rattle.state_model.proofs.Faultless.{faultless-from}
+use Rattle.state_model.proofs.Faultless.{few_rows}
+use Rattle.state_model.proofs.StoredRows.{length-of_kinds}
 use Rattle.disk_model.specs.Bounds.{AreShortRows, IsBoundedImage, IsCountable, IsShortRow, IsShortValue}
 use Rattle.disk_model.specs.Image.{table_count}
 use Rattle.check_image.specs.Gated.{image_from}
-use Rattle.query_model.proofs.NoFaults.{none-if}
 
 -- ---- rows
-
-length-of_kinds : (columns : List Column) (row : Row) → AreOfKinds columns row → length row ≡ length columns
-length-of_kinds [] [] are = refl
-length-of_kinds [] (x ∷ row) are = absurd are
-length-of_kinds (column ∷ columns) [] are = absurd are
-length-of_kinds (column ∷ columns) (x ∷ row) are = let rest = length-of_kinds columns row are.1 in omega arith
 
 short_values : (columns : List Column) (row : Row) → AreOfKinds columns row → AllByRecursion IsStorable row → AllByRecursion IsShortValue row
 short_values [] [] are short = tt
@@ -71,16 +61,11 @@ tables_short (table ∷ tables) (one ∷ rows) within are few =
     let count = later.1 in
     ((((omega arith), short_rows table one within.0 are.0), later.0), omega arith)
 
--- a database without a fault has no more rows than a store may have
-few_rows : (db : Db) → fault db ≡ None → row_count db ≤ STORE_ROWS
-few_rows db none =
-    let both = append-none _ _ (faultless-from db none).limit in
-    ltb-false STORE_ROWS (row_count db) (none-if _ _ both.0)
-
+-- so are those of a sound database, whose tables are few
 pub sound_rows : (db : Db) → Sound db → AllByRecursion AreShortRows db.rows × (length db.rows ≡ length db.schema.tables) × (length db.schema.tables ≤ TABLES)
 sound_rows db sound =
-    let within = within-created db sound.kept.created in
-    let both = tables_short db.schema.tables db.rows within.each sound.kept.rows (few_rows db sound.faultless) in
+    let within = within-created db sound.well_formed.created in
+    let both = tables_short db.schema.tables db.rows within.each sound.well_formed.rows (few_rows db sound.faultless) in
     (both.0, both.1, within.tables)
 
 -- ---- creates
@@ -155,5 +140,5 @@ countable_texts db created = subst (AllByRecursion (λ create. IsCountable creat
 pub bounded_image : (db : Db) (commits : ℕ) → Sound db → commits ≤ JOURNAL_ROOM → IsBoundedImage (image_from db commits)
 bounded_image db commits sound few =
     let rows = sound_rows db sound in
-    let creates = created_texts db sound.kept.created in
-    record { within = record { commits = few; creates = creates.1; tables = rows.1 ∙ creates.0 }; creates = countable_texts db sound.kept.created; tables = rows.0 }
+    let creates = created_texts db sound.well_formed.created in
+    record { within = record { commits = few; creates = creates.1; tables = rows.1 ∙ creates.0 }; creates = countable_texts db sound.well_formed.created; tables = rows.0 }

@@ -12,10 +12,11 @@ use Rattle.own_model.specs.Db.{Row}
 use Rattle.query_model.specs.Truth.{cell, is_null}
 use Rattle.schema_model.proofs.Places.{same-place, slice_get-append_below, slice_get-push}
 use Rattle.state_model.specs.Same.{is_same_value}
+use Rattle.state_model.proofs.SameLemmas.{one_value}
 use Rattle.commit_check.specs.declared.lent_value.LentValue.{LentValue}
 use Rattle.commit_check.specs.declared.lent_value.LentValue.TheVariants.{Int, Text, Sum}
 use Rattle.commit_check.specs.ValueCounts.{CountsColumns, CountsRows, count_at, holds, times, value_of}
-use Rattle.commit_check.proofs.LentOrder.{lent_cmp, looked_up, same-one, ties}
+use Rattle.commit_check.proofs.LentOrder.{lent_cmp, looked_up, ties}
 
 -- one where a test passes
 abbrev once : Bool → ℕ
@@ -27,7 +28,7 @@ module _ (old new : BTreeMap LentValue ℕ) (held : LentValue) (had : ℕ) (was 
       → unwrap_or (cond b (Some (had + 1)) (get lent_cmp old other)) 0 ≡ count_at old.entries (value_of other) + once (is_same_value (value_of held) (value_of other))
   added_step true is =
       let same : is_same_value (value_of held) (value_of other) ≡ true = sym (ties held other) ∙ is in
-      let one : had ≡ count_at old.entries (value_of other) = was ∙ ap (count_at old.entries) (same-one (value_of held) (value_of other) same) in
+      let one : had ≡ count_at old.entries (value_of other) = was ∙ ap (count_at old.entries) (one_value (value_of held) (value_of other) same) in
       rw same (ap (λ n. n + 1) one)
   added_step false is =
       let same : is_same_value (value_of held) (value_of other) ≡ false = sym (ties held other) ∙ is in

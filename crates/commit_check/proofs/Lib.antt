@@ -1,5 +1,4 @@
 pub mod FirstLemmas
-pub mod LentLemmas
 pub mod ReferenceLemmas
 pub mod RowCounts
 pub mod LightStores

@@ -1,6 +1,6 @@
 -- A row's references.
-use Rattle.std.proofs.Common.{◌≡◌, ℕ, ◌<◌, List, [], ◌∷◌, Bool, false, true, length}
-use Rattle.std.specs.Prelude.{None, Some, if◌then◌else◌, slice_get}
+use Rattle.std.proofs.Common.{◌≡◌, ℕ, ◌<◌, Bool, false, true, length}
+use Rattle.std.specs.Prelude.{None, Some, slice_get}
 use Rattle.std.proofs.lemmas.Option.{slice_get_within}
 use Rattle.own_base.specs.declared.number.TableNo.{TableNo}
 use Rattle.own_model.specs.declared.refusal.Refusal.{Refusal}
@@ -9,13 +9,11 @@ use Rattle.own_model.specs.declared.schema.RefKind.{RefKind}
 use Rattle.own_model.specs.declared.schema.Schema.{Schema}
 use Rattle.own_model.specs.declared.schema.TableDef.{TableDef}
 use Rattle.schema_model.specs.OwnerSchema.{ColumnsRefer}
-use Rattle.state_model.specs.Fault.{Held, first_of}
+use Rattle.state_model.specs.Fault.{ColumnValue, first_of}
+use Rattle.state_model.proofs.FaultLemmas.{refused}
 
--- what is refused of a value that a row holds
-abbrev pub refused : (Held → Bool) → (Held → Refusal) → Held → List Refusal
-refused breaks why held = if breaks held then why held ∷ [] else []
-
-module _ (breaks : Held → Bool) (why : Held → Refusal) (held : Held) where
+-- the first that is refused of a value that a row holds
+module _ (breaks : ColumnValue → Bool) (why : ColumnValue → Refusal) (held : ColumnValue) where
   pub refused-none : breaks held ≡ false → first_of (refused breaks why held) ≡ None
   refused-none is = rw is
 

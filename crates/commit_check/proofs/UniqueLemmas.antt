@@ -1,16 +1,13 @@
 -- A value that another row holds too is counted more than once.
-use Rattle.std.proofs.Common.{◌≡◌, ℕ, zero, suc, ◌+◌, ◌<◌, List, [], ◌∷◌, Bool, true, false, map, refl, sym, ap, ◌∙◌, subst, eq-eqb, arith}
-use Rattle.std.specs.Prelude.{Contains, Option, None, Some, ◌&&◌, bytes_eq, count_by, nat_lt, not, slice_get}
+use Rattle.std.proofs.Common.{◌≡◌, ℕ, zero, suc, ◌+◌, ◌<◌, List, [], ◌∷◌, Bool, true, false, map, refl, sym, ap, ◌∙◌, subst, arith}
+use Rattle.std.specs.Prelude.{Contains, Option, None, Some, ◌&&◌, count_by, nat_lt, not, slice_get}
 use Rattle.std.specs.List.{AllByRecursion, list_any}
 use Rattle.std.specs.List.Sorted.{IsStrictlySortedBy}
 use Rattle.std.specs.Ordering.{ordering_reverse}
 use Rattle.std.specs.declared.cmp.Ordering.TheVariants.{Less}
-use Rattle.std.proofs.lemmas.Bool.{and_from, ltb_from_iff, lt-ltb, ltb-true}
-use Rattle.std.proofs.lemmas.Cmp.{int_cmp_total, tied_itself}
+use Rattle.std.proofs.lemmas.Bool.{ltb_from_iff, lt-ltb, ltb-true}
 use Rattle.std.proofs.lemmas.Option.{slice_get_read}
 use Rattle.own_base.specs.Key.{key_cmp}
-use Rattle.own_base.specs.declared.value.Value.{Value}
-use Rattle.own_base.specs.declared.value.Value.TheVariants.{Null, Int, Text, Sum}
 use Rattle.own_model.specs.declared.schema.Column.{Column}
 use Rattle.own_model.specs.declared.schema.TableDef.{TableDef}
 use Rattle.own_model.specs.Db.{IsRising, Row, key_of}
@@ -21,8 +18,8 @@ use Rattle.query_model.specs.Truth.{cell, is_null}
 use Rattle.schema_model.proofs.Places.{all-at, slice_get-in_map}
 use Rattle.subject_model.proofs.NamedLemmas.{key_is}
 use Rattle.state_model.specs.Fault.{breaks_unique, is_shared}
-use Rattle.state_model.specs.Same.{is_same_value}
-use Rattle.state_model.proofs.FaultLemmas.{held_at}
+use Rattle.state_model.proofs.FaultLemmas.{column_value}
+use Rattle.state_model.proofs.SameLemmas.{value_same}
 use Rattle.commit_check.specs.ValueCounts.{holds}
 
 -- one test more below two counts
@@ -83,18 +80,6 @@ module _ (table : TableDef) (row : Row) (p : Row → Bool) where
         all-at (λ key. key_cmp (key_of table other) key ≡ Less) (map (key_of table) rows) rising.0 place (key_of table row) (slice_get-in_map (key_of table) rows place row is) in
         later_step other rows (p other) refl (lower_apart other below) (count_by-one p rows place row is passes) (another rows place rising.1 is)
 
-same_bytes : (bytes : List ℕ) → bytes_eq bytes bytes ≡ true
-same_bytes [] = refl
-same_bytes (byte ∷ bytes) = and_from _ _ (eq-eqb byte byte refl) (same_bytes bytes)
-
--- a value is the same as itself
-same-self : (value : Value) → is_same_value value value ≡ true
-unfolding is_same_value
-same-self Null = refl
-same-self (Int number) = ap is_equal (tied_itself int_cmp_total number)
-same-self (Text bytes) = same_bytes bytes
-same-self (Sum number) = ap is_equal (tied_itself int_cmp_total number)
-
 joined : (unique null many shared : Bool) → (unique ≡ true → many ≡ shared) → (unique && (not null && many)) ≡ ((unique && not null) && shared)
 joined true true many shared same = refl
 joined true false many shared same = same refl
@@ -102,10 +87,10 @@ joined false null many shared same = refl
 
 -- so a column breaks UNIQUE where what the row holds there, which isn't NULL, is counted more than once
 pub breaks-counted : (table : TableDef) (rows : List Row) (row : Row) (number : ℕ) (column : Column) (breaks : Bool) → IsRising table rows → Contains rows row
-    → breaks ≡ (column.unique && (not (is_null (cell row number)) && nat_lt 1 (count_by (holds number (cell row number)) rows))) → breaks ≡ breaks_unique table rows row (held_at row number column)
+    → breaks ≡ (column.unique && (not (is_null (cell row number)) && nat_lt 1 (count_by (holds number (cell row number)) rows))) → breaks ≡ breaks_unique table rows row (column_value row number column)
 breaks-counted table rows row number column breaks rising (place, within, at) is =
     let there : slice_get rows place ≡ Some row = slice_get_read rows _ place row refl within (sym at) in
     let value = cell row number in
     is
     ∙ joined column.unique (is_null value) (nat_lt 1 (count_by (holds number value) rows)) (is_shared table rows (key_of table row) number value)
-    (λ unique. sym (another table row (holds number value) (same-self value) rows place rising there))
+    (λ unique. sym (another table row (holds number value) (value_same value) rows place rising there))

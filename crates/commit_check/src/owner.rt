@@ -36,7 +36,7 @@ fn first_in_table<V: StoreView>(
     requires owners { AreSetsOf (V.db view.now) (owners (V.db view.now)) sets.now.owners }
     ensures { IfOk result (λ first. first ≡ first_in_table (owner_rule (V.db view.now)) table.0 definition.now (rows_at (V.db view.now).rows table.0)) }
 {
-    if !is_private(view.schema(), table) {
+    if !is_private(view.schema(), table.0 as usize) {
         return Ok(None);
     }
     for at in 0..view.count(table) {

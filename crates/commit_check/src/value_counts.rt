@@ -2,7 +2,7 @@ ghost use Rattle.std.specs.Prelude.{◌≡◌, ◌+◌, ◌-◌, ◌<◌, ◌^�
 ghost use Rattle.own_model.specs.Db.{Row as Values};
 ghost use Rattle.own_model.specs.Stored.{rows_at};
 ghost use Rattle.query_model.specs.Truth.{cell, is_null};
-ghost use Rattle.commit_check.specs.declared.lent_value.LentValue.{LentValue as Held};
+ghost use Rattle.commit_check.specs.declared.lent_value.LentValue.{LentValue as Seen};
 ghost use Rattle.commit_check.specs.ValueCounts.{CountsColumns, CountsRows, count_at, holds, times, value_of};
 
 use crate::lent_value::{LentValue, lent_from};
@@ -16,8 +16,8 @@ fn count_value<'a>(
     counts: &mut BTreeMap<LentValue<'a>, u64>,
     value: Option<LentValue<'a>>,
 ) -> Result<(), AllocError>
-    requires { (other : Held) → count_at counts.old.entries (value_of other) < 2 ^ 64 - 1 }
-    ensures { OnOk result ((other : Held) → count_at counts.new.entries (value_of other) ≡ count_at counts.old.entries (value_of other) + times value.entry (value_of other)) }
+    requires { (other : Seen) → count_at counts.old.entries (value_of other) < 2 ^ 64 - 1 }
+    ensures { OnOk result ((other : Seen) → count_at counts.new.entries (value_of other) ≡ count_at counts.old.entries (value_of other) + times value.entry (value_of other)) }
 {
     match value {
         Some(value) => {

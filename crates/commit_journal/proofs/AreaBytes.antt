@@ -5,7 +5,6 @@ use Rattle.std.specs.Int.{w64, bytes_high_first, from_be_bytes}
 use Rattle.std.proofs.lemmas.Bool.{cases_eq}
 use Rattle.std.proofs.lemmas.List.{take_at, drop_at, drop_more, append-nil, get_or-take, flat_map_more}
 use Rattle.std.proofs.lemmas.List.Elements.{All-append, All-nil, All-cons}
-use Rattle.std.proofs.lemmas.Nat.{from_be_bytes-to_be_bytes_8}
 use Rattle.own_base.specs.declared.number.Area.{Area}
 use Rattle.own_base.specs.declared.number.Area.TheVariants.{A, B}
 use Rattle.outer_world.specs.OtherArea.{other_of, bytes_in}
@@ -69,22 +68,7 @@ length-image_part stored = omega (arith, length-append (1 ∷ bytes_high_first 8
 pub length-in_front : (stored : Stored) → length (in_front stored) ≡ 17 + length stored.image + length (records_of stored.payloads)
 length-in_front stored = omega (arith, length-image_part stored, length-append (image_part stored) (records_of stored.payloads))
 
--- with any bytes behind what it begins with
-opened_front : (stored : Stored) (tail : List ℕ) → 1 ≤ length tail → IsOpened (in_front stored ++ tail)
-opened_front stored tail some = record {
-  room = omega (arith, length-in_front stored, length-append (in_front stored) tail);
-  gate = refl;
-}
-
-epoch_front : (stored : Stored) (tail : List ℕ) → stored.epoch ≤ JOURNAL_ROOM → epoch_of (in_front stored ++ tail) ≡ stored.epoch
-epoch_front stored tail last = from_be_bytes-to_be_bytes_8 stored.epoch (omega arith)
-
-pub says_opened : (bytes : List ℕ) (stored : Stored) → Says bytes stored → IsOpened bytes
-says_opened bytes stored says = subst IsOpened (sym says.spelled) (opened_front stored (says.gate ∷ says.behind) (omega arith))
-
-pub says_epoch : (bytes : List ℕ) (stored : Stored) → Says bytes stored → epoch_of bytes ≡ stored.epoch
-says_epoch bytes stored says = ap epoch_of says.spelled ∙ epoch_front stored (says.gate ∷ says.behind) says.storable.last
-
+-- the gate behind what an area says stands within it
 pub says_within : (bytes : List ℕ) (stored : Stored) (end : ℕ) → Says bytes stored → end ≡ length (in_front stored) → end < length bytes
 says_within bytes stored end says is =
     let long : length bytes ≡ length (in_front stored ++ says.gate ∷ says.behind) = ap length says.spelled in

@@ -5,11 +5,12 @@ use Rattle.own_base.specs.declared.number.Area.TheVariants.{A, B}
 use Rattle.outer_world.specs.OtherArea.{other_of, bytes_in}
 use Rattle.disk_model.specs.Area.{IsBelow, IsChosen, IsOpened, Says, Represent, RepresentNothing, Stored, epoch_of, in_front, with_payload}
 use Rattle.disk_model.specs.Records.{IsFramed, payload_of}
+use Rattle.disk_model.proofs.AreaLaws.{says_epoch}
 use Rattle.commit_journal.specs.AreaCalls.{IsAdding, OnlyIn}
 use Rattle.commit_journal.specs.Filled.{IsFilling}
 use Rattle.commit_journal.specs.JournalState.{RepresentAtMost, RepresentEither}
 use Rattle.commit_journal.specs.Retired.{IsRetiring}
-use Rattle.commit_journal.proofs.AreaBytes.{adding_says, below_retiring, not_retiring, represent_in, says_epoch, shut_below}
+use Rattle.commit_journal.proofs.AreaBytes.{adding_says, below_retiring, not_retiring, represent_in, shut_below}
 
 -- an area is filled beside the one that says something
 filling_chosen : (stored new : Stored) (stood one other : List ℕ) → Says stood stored → stored.epoch < new.epoch → one ≡ stood → IsFilling new other → IsChosen stored one other ⊎ IsChosen new other one

@@ -133,11 +133,11 @@ pub sound-puts : (db : Db) (puts : List Put) (after : Db) → Sound db → Puts 
 sound-puts db puts after sound made =
     let are : ArePutsFrom 0 db.schema.tables puts = λ place table is. subst (λ n. AllByRecursion (IsPutOf table) (filter (is_of_table n) puts)) (sym (from_none place)) (of_table db place table puts is made.lawful) in
     let left : IsWellFormed (with_puts db puts) = record {
-      created = created-rows db (after_from 0 db.schema.tables puts db.rows) sound.kept.created;
-      ordered = record { rising = rising_after 0 db.schema.tables puts db.rows are sound.kept.ordered.rising };
-      rows = rows_stand 0 db.schema.tables puts db.rows are sound.kept.rows;
+      created = created-rows db (after_from 0 db.schema.tables puts db.rows) sound.well_formed.created;
+      ordered = record { rising = rising_after 0 db.schema.tables puts db.rows are sound.well_formed.ordered.rising };
+      rows = rows_stand 0 db.schema.tables puts db.rows are sound.well_formed.rows;
     } in
-    record { kept = subst IsWellFormed (sym made.after_is) left; faultless = made.faultless }
+    record { well_formed = subst IsWellFormed (sym made.after_is) left; faultless = made.faultless }
 
 -- ---- creates
 
@@ -170,11 +170,11 @@ kept-create_view db view kept readable admitted = record {
 -- a commit
 pub sound-after : (db : Db) (commit : Commit) (after : Db) → Sound db → Follows db commit after → Sound after
 sound-after db (CreateTable text) after sound follows = record {
-  kept = subst IsWellFormed (sym follows.after_is) (kept-create db follows.table sound.kept (readable-text (OfTable follows.table) _ follows.text_of) follows.admitted);
+  well_formed = subst IsWellFormed (sym follows.after_is) (kept-create db follows.table sound.well_formed (readable-text (OfTable follows.table) _ follows.text_of) follows.admitted);
   faultless = follows.faultless;
 }
 sound-after db (CreateView text) after sound follows = record {
-  kept = subst IsWellFormed (sym follows.after_is) (kept-create_view db follows.view sound.kept (readable-text (OfView follows.view) _ follows.text_of) follows.admitted);
+  well_formed = subst IsWellFormed (sym follows.after_is) (kept-create_view db follows.view sound.well_formed (readable-text (OfView follows.view) _ follows.text_of) follows.admitted);
   faultless = follows.faultless;
 }
 sound-after db (Changes puts) after sound follows = sound-puts db puts after sound follows

@@ -2,16 +2,12 @@
 use Rattle.std.proofs.Common.{◌≡◌, ℕ, List, [], ◌∷◌, ◌++◌, Bool, true, false, refl, ap, sym, ◌∙◌, eq-eqb}
 use Rattle.std.specs.Prelude.{◌||◌, ◌&&◌, ◌==◌, Option, None, Some}
 use Rattle.std.specs.List.{AllByRecursion, list_any}
-use Rattle.std.specs.declared.cmp.Ordering.{Ordering}
-use Rattle.std.specs.declared.cmp.Ordering.TheVariants.{Less, Equal, Greater}
-use Rattle.std.specs.Ordering.{ordering_reverse}
 use Rattle.std.proofs.lemmas.Bool.{eqb-false, eqb-true, ne_eqb, or_from, or_parts}
-use Rattle.own_base.specs.Key.{key_cmp}
+use Rattle.std.proofs.Math.Bool.{or_comm}
 use Rattle.own_base.specs.declared.value.Key.{Key}
 use Rattle.own_model.specs.declared.footprint.FootItem.{FootItem}
-use Rattle.own_model.specs.Stored.{is_equal}
-use Rattle.own_model.proofs.KeyOrder.{key_order}
 use Rattle.run_model.specs.Agree.{keys_meet, overlaps}
+use Rattle.run_model.proofs.Overlaps.{keys_back}
 use Rattle.schema_model.proofs.Places.{all-append}
 
 -- whether two numbers are one, whichever is named first
@@ -22,30 +18,19 @@ eqb_back one other = by (one == other) refl
     by true is = is ∙ sym (eq-eqb other one (sym (eqb-true one other is)))
     by false is = is ∙ sym (ne_eqb other one (λ same. eqb-false one other is (sym same)))
 
-equal-reverse : (o : Ordering) → is_equal (ordering_reverse o) ≡ is_equal o
-equal-reverse Less = refl
-equal-reverse Equal = refl
-equal-reverse Greater = refl
-
 -- and whether two keys meet
 meet-back : (one other : Option Key) → keys_meet one other ≡ keys_meet other one
 meet-back None None = refl
 meet-back None (Some key) = refl
 meet-back (Some key) None = refl
-meet-back (Some key) (Some other) = ap is_equal (key_order.antisymm other key) ∙ equal-reverse (key_cmp key other)
-
-or-back : (x y : Bool) → (x || y) ≡ (y || x)
-or-back true true = refl
-or-back true false = refl
-or-back false true = refl
-or-back false false = refl
+meet-back (Some key) (Some other) = keys_back other key
 
 -- and whether two items overlap
 pub overlaps-back : (item other : FootItem) → overlaps item other ≡ overlaps other item
 overlaps-back item other =
     ap (λ b. (b && keys_meet item.key other.key) && (item.write || other.write)) (eqb_back item.table.0 other.table.0)
     ∙ (ap (λ b. (other.table.0 == item.table.0 && b) && (item.write || other.write)) (meet-back item.key other.key)
-    ∙ ap (λ b. (other.table.0 == item.table.0 && keys_meet other.key item.key) && b) (or-back item.write other.write))
+    ∙ ap (λ b. (other.table.0 == item.table.0 && keys_meet other.key item.key) && b) (or_comm item.write other.write))
 
 -- an item overlaps none of some
 abbrev pub IsFree : List FootItem → FootItem → Type 0

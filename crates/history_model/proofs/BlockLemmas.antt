@@ -10,6 +10,7 @@ use Rattle.own_model.specs.declared.limit.TheConstants.{STATEMENT_BYTES}
 use Rattle.own_model.specs.declared.schema.Schema.{Schema}
 use Rattle.own_model.specs.declared.statement.Statement.{Statement}
 use Rattle.own_model.specs.Db.{Db}
+use Rattle.schema_model.proofs.Places.{all-weaker}
 use Rattle.grammar_model.specs.Readable.{IsWritten}
 use Rattle.state_model.specs.Sound.{IsWellFormed}
 use Rattle.run_model.specs.Agree.{Agree, AgreeOn, overlaps}
@@ -18,7 +19,6 @@ use Rattle.run_model.specs.Run.{run}
 use Rattle.run_model.proofs.BlockFootprints as footprints
 use Rattle.run_model.proofs.BlockFootprints.{block_replies}
 use Rattle.run_model.proofs.KeptRuns.{kept-run}
-use Rattle.run_model.proofs.Overlaps.{each_weaker}
 use Rattle.history_model.specs.History.{History, reply}
 use Rattle.history_model.specs.Serial.{AreGiven}
 use Rattle.history_model.specs.World.{Block, Stated, after_all, after_block, statements_of}
@@ -39,7 +39,7 @@ AreOfBlock places block = AllByRecursion (IsOfBlock places) block
 
 -- a block of a shorter history is one of a longer
 pub later-of_block : (places more : ℕ) → places ≤ more → (block : Block) → AreOfBlock places block → AreOfBlock more block
-later-of_block places more le = each_weaker (IsOfBlock places) (IsOfBlock more) (λ stated is. record { taking = is.taking; before = let lt = is.before in omega arith })
+later-of_block places more le = all-weaker (IsOfBlock places) (IsOfBlock more) (λ stated is. record { taking = is.taking; before = let lt = is.before in omega arith })
 
 -- no statement
 pub items-nil : (schema : Schema) → items_of_all schema (statements_of []) ≡ []

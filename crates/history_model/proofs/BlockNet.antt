@@ -1,91 +1,34 @@
 -- A block's net depends on the rows of its items alone.
-use Rattle.std.proofs.Common.{◌≡◌, ℕ, ◌+◌, List, [], ◌∷◌, Bool, true, false, inl, inr, refl, ap, sym, subst, ◌∙◌, arith}
-use Rattle.std.specs.Prelude.{◌⊎◌, Option, None, Some, bytes_eq, find, slice_get}
-use Rattle.std.specs.List.{AllByRecursion, list_any}
-use Rattle.std.specs.Option.{option_and_then}
-use Rattle.std.proofs.lemmas.Bool.{and_from, and_parts, eq-eqb, eqb-true, or_cases}
-use Rattle.std.proofs.lemmas.Cmp.{int_cmp_total, tied_itself}
-use Rattle.own_base.specs.declared.number.TableNo.{TableNo}
+use Rattle.std.proofs.Common.{◌≡◌, ℕ, ◌+◌, List, Bool, true, false, refl, ap, sym, subst, ◌∙◌, arith}
+use Rattle.std.specs.Prelude.{Option, None, Some, find, slice_get}
+use Rattle.std.specs.List.{list_any}
 use Rattle.own_base.specs.declared.row_name.RowName.{RowName}
 use Rattle.own_base.specs.declared.value.Key.{Key}
-use Rattle.own_base.specs.declared.value.Value.{Value}
-use Rattle.own_base.specs.declared.value.Value.TheVariants.{Null, Int, Text, Sum}
 use Rattle.own_model.specs.declared.footprint.FootItem.{FootItem}
 use Rattle.own_model.specs.declared.schema.Schema.{Schema}
 use Rattle.own_model.specs.declared.schema.TableDef.{TableDef}
 use Rattle.own_model.specs.Db.{Db, Row}
-use Rattle.own_model.specs.Stored.{has_key, is_equal, row_named, rows_at}
+use Rattle.own_model.specs.Stored.{has_key, rows_at}
 use Rattle.owner_model.specs.Joins.{row_of}
-use Rattle.subject_model.proofs.NamedLemmas.{one_key}
 use Rattle.state_model.specs.Net.{change_unless_same, net}
-use Rattle.state_model.specs.Same.{is_same_row, is_same_state, is_same_value}
+use Rattle.state_model.specs.Same.{is_same_state}
 use Rattle.state_model.specs.Sound.{IsWellFormed}
-use Rattle.run_model.specs.Agree.{Agree, AgreeOn, overlaps}
+use Rattle.state_model.proofs.NetRows.{named_at}
+use Rattle.state_model.proofs.SameLemmas.{state_same}
+use Rattle.run_model.specs.Agree.{Agree, overlaps}
 use Rattle.run_model.specs.Items.{items_of_all}
+use Rattle.run_model.proofs.AgreedRows.{row_of-agreed}
 use Rattle.history_model.specs.World.{Block, after_block, statements_of}
 use Rattle.history_model.proofs.BlockLemmas.{AreOfBlock, carries-block, kept-block, schema-block, still-block}
-use Rattle.history_model.proofs.DoomLemmas.{row_of-table}
 use Rattle.history_model.proofs.NetLemmas.{AreChangedAlike, net-alike}
-
--- what stands there is the same as itself
-same_bytes : (bytes : List ℕ) → bytes_eq bytes bytes ≡ true
-same_bytes [] = refl
-same_bytes (byte ∷ bytes) = and_from _ _ (eq-eqb byte byte refl) (same_bytes bytes)
-
-same_value : (value : Value) → is_same_value value value ≡ true
-unfolding is_same_value
-same_value Null = refl
-same_value (Int number) = ap is_equal (tied_itself int_cmp_total number)
-same_value (Text bytes) = same_bytes bytes
-same_value (Sum number) = ap is_equal (tied_itself int_cmp_total number)
-
-same_row : (row : Row) → is_same_row row row ≡ true
-unfolding is_same_row
-same_row [] = refl
-same_row (value ∷ row) = and_from _ _ (same_value value) (same_row row)
-
-same_state : (state : Option Row) → is_same_state state state ≡ true
-same_state None = refl
-same_state (Some row) = same_row row
 
 -- a row that ends as it began isn't changed
 unchanged : (name : RowName) (before after : Option Row) → before ≡ after → change_unless_same name before after ≡ None
-unchanged name before after same = let own : is_same_state before after ≡ true = subst (λ state. is_same_state before state ≡ true) same (same_state before) in rw own refl
+unchanged name before after same = let own : is_same_state before after ≡ true = subst (λ state. is_same_state before state ≡ true) same (state_same before) in rw own refl
 
 -- one row, read
 abbrev row_item : RowName → FootItem
 row_item name = record { table = name.table; key = Some name.key; write = false }
-
--- databases that agree on an item agree on the row of each name on it
-module _ (db other : Db) (schema : db.schema ≡ other.schema) (name : RowName) where
-  on_table : (table : TableNo) → table.0 ≡ name.table.0 → rows_at db.rows table.0 ≡ rows_at other.rows table.0 → row_of db name ≡ row_of other name
-  unfolding row_named
-  on_table table is same =
-      let rows : rows_at db.rows name.table.0 ≡ rows_at other.rows name.table.0 = subst (λ n. rows_at db.rows n ≡ rows_at other.rows n) is same in
-      ap (λ (schema : Schema). option_and_then (λ table. find (has_key table name.key) (rows_at db.rows name.table.0)) (slice_get schema.tables name.table.0)) schema
-      ∙ ap (λ (rows : List Row). option_and_then (λ table. find (has_key table name.key) rows) (slice_get other.schema.tables name.table.0)) rows
-
-  on_item : (table : TableNo) (key : Option Key) (write : Bool) → overlaps (record { table = table; key = key; write = write }) (row_item name) ≡ true
-      → AgreeOn db other (record { table = table; key = key; write = write }) → row_of db name ≡ row_of other name
-  on_item table None write meets agree =
-      let both = and_parts _ _ (and_parts _ _ meets).0 in
-      on_table table (eqb-true table.0 name.table.0 both.0) agree
-  on_item table (Some key) write meets agree =
-      let both = and_parts _ _ (and_parts _ _ meets).0 in
-      let same_key : key ≡ name.key = sym (one_key name.key key both.1) in
-      let same_table : table.0 ≡ name.table.0 = eqb-true table.0 name.table.0 both.0 in
-      let named : ℕ → Key → RowName = λ number key. record { table = record { 0 = number }; key = key } in
-      let same : named table.0 key ≡ name = ap (λ number. named number key) same_table ∙ ap (named name.table.0) same_key in
-      subst (λ name. row_of db name ≡ row_of other name) same agree
-
-  on_some : (items : List FootItem) → AllByRecursion (AgreeOn db other) items → list_any (λ own. overlaps own (row_item name)) items ≡ true → row_of db name ≡ row_of other name
-  on_some [] agree meets = let never : false ≡ true = meets in absurd (cc)
-  on_some (item ∷ items) agree meets = by (or_cases _ _ meets) (on_some items agree.1)
-    where
-      by : (overlaps item (row_item name) ≡ true) ⊎ (list_any (λ own. overlaps own (row_item name)) items ≡ true)
-          → (list_any (λ own. overlaps own (row_item name)) items ≡ true → row_of db name ≡ row_of other name) → row_of db name ≡ row_of other name
-      by (inl here) more = on_item item.table item.key item.write here agree.0
-      by (inr later) more = more later
 
 module _ (places : ℕ) (db other : Db) (block : Block) (kept : IsWellFormed db) (kept_other : IsWellFormed other) (are : AreOfBlock places block)
     (agree : Agree (items_of_all db.schema (statements_of block)) db other) where
@@ -110,7 +53,7 @@ module _ (places : ℕ) (db other : Db) (block : Block) (kept : IsWellFormed db)
 
     -- the row of the key, by the table of its number
     found_in : (one : Db) → one.schema ≡ db.schema → row_of one name ≡ find (has_key table key) (rows_at one.rows number)
-    found_in one schema = row_of-table one name table (subst (λ (s : Schema). slice_get s.tables number ≡ Some table) (sym schema) is)
+    found_in one schema = named_at one name table (subst (λ (s : Schema). slice_get s.tables number ≡ Some table) (sym schema) is)
 
     abbrev found : Db → Option Row
     found one = find (has_key table key) (rows_at one.rows number)
@@ -119,7 +62,7 @@ module _ (places : ℕ) (db other : Db) (block : Block) (kept : IsWellFormed db)
     written : list_any (λ own. overlaps own (row_item name)) items ≡ true
         → change_unless_same name (found db) (found left) ≡ change_unless_same name (found other) (found left_other)
     written meets =
-        let before = on_some db other agree.schema name items agree.on meets in
+        let before = row_of-agreed db other agree.schema name items agree.on meets in
         let after = carries-block places db other block kept kept_other are agree (row_item name) before in
         let first : found db ≡ found other = sym (found_in db refl) ∙ (before ∙ found_in other (sym agree.schema)) in
         let last : found left ≡ found left_other = sym (found_in left schema_left) ∙ (after ∙ found_in left_other schema_other) in

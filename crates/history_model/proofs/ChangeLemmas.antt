@@ -16,6 +16,7 @@ use Rattle.own_model.specs.declared.request.Request.TheVariants.{Run, Syntax, Li
 use Rattle.own_model.specs.declared.statement.Statement.{Statement}
 use Rattle.own_model.specs.declared.statement.Statement.TheVariants as statement
 use Rattle.own_model.specs.Db.{Db}
+use Rattle.schema_model.proofs.Places.{all-weaker}
 use Rattle.grammar_model.specs.Readable.{IsReadable, IsWritten}
 use Rattle.query_model.specs.BoundStatement.{bound_statement, faults, meaning}
 use Rattle.query_model.specs.SelectMeaning.{table_number}
@@ -29,7 +30,6 @@ use Rattle.run_model.specs.Items.{TakesRows, items_of, items_of_all}
 use Rattle.run_model.specs.Run.{run}
 use Rattle.run_model.proofs.KeptRuns.{kept-run}
 use Rattle.run_model.proofs.Outcomes.{of-statement}
-use Rattle.run_model.proofs.Overlaps.{each_weaker}
 use Rattle.run_model.proofs.StatementFootprints.{same_schema-taking, still-run}
 use Rattle.run_model.proofs.TableRows.{in_place}
 use Rattle.history_model.specs.Held.{held, is_open, lowest_other}
@@ -89,11 +89,11 @@ module _ (base : Db) (history : History) (world : World) (is : IsSerialWorld bas
       granted_changes accepted =
           let none = accepted-committing verdict (changes world.flat (run world.flat asked).db) (commit_refusal world.flat (run world.flat asked).db) (run world.flat asked).reply accepted in
           record {
-            sound = record { kept = kept-run world.flat is.sound.kept asked readable; faultless = commit_refusal-fault world.flat (run world.flat asked).db none.1 };
+            sound = record { well_formed = kept-run world.flat is.sound.well_formed asked readable; faultless = commit_refusal-fault world.flat (run world.flat asked).db none.1 };
             others = λ other differs open' none. record {
               schema = sym ((same_schema-taking world.flat asked takes).schema);
-              on = each_weaker (IsFree (items_of world.flat.schema asked)) (AgreeOn world.flat (run world.flat asked).db)
-                  (λ item free. still-run world.flat asked takes (in_place world.flat is.sound.kept) item (free-back item (items_of world.flat.schema asked) free)) (held world other)
+              on = all-weaker (IsFree (items_of world.flat.schema asked)) (AgreeOn world.flat (run world.flat asked).db)
+                  (λ item free. still-run world.flat asked takes (in_place world.flat is.sound.well_formed) item (free-back item (items_of world.flat.schema asked) free)) (held world other)
                   (apart-back (items_of world.flat.schema asked) (held world other) (granted.apart other differs));
             };
           }
@@ -115,7 +115,7 @@ module _ (base : Db) (history : History) (world : World) (is : IsSerialWorld bas
       by None free accepted =
           let none = accepted-committing verdict true (fault (run world.flat asked).db) (run world.flat asked).reply accepted in
           record {
-            sound = record { kept = kept-run world.flat is.sound.kept asked readable; faultless = none.1 };
+            sound = record { well_formed = kept-run world.flat is.sound.well_formed asked readable; faultless = none.1 };
             others = λ other differs open' none. let never : true ≡ false = sym open' ∙ closed-lowest world session free other differs in absurd (cc);
           }
 
@@ -126,7 +126,7 @@ module _ (base : Db) (history : History) (world : World) (is : IsSerialWorld bas
     change-forgotten subject names sound = record {
       sound = sound;
       others = λ other differs open' none.
-          agree-undoomed world.flat subject is.sound.kept sound.kept (held world other) (undoomed world entry reply subject other accepted names none);
+          agree-undoomed world.flat subject is.sound.well_formed sound.well_formed (held world other) (undoomed world entry reply subject other accepted names none);
     }
 
     -- a FORGET
@@ -158,11 +158,11 @@ module _ (base : Db) (history : History) (world : World) (is : IsSerialWorld bas
         let own = open-block base history world is session begun block opened in
         let none = accepted-committing verdict (changes world.flat (after_block world.flat block)) (commit_refusal world.flat (after_block world.flat block)) Done told in
         record {
-          sound = record { kept = kept-block (length history) world.flat block is.sound.kept own.stated; faultless = commit_refusal-fault world.flat (after_block world.flat block) none.1 };
+          sound = record { well_formed = kept-block (length history) world.flat block is.sound.well_formed own.stated; faultless = commit_refusal-fault world.flat (after_block world.flat block) none.1 };
           others = λ other differs open' none. record {
             schema = sym (schema-block (length history) world.flat block own.stated);
-            on = each_weaker (IsFree (items_of_all world.flat.schema (statements_of block))) (AgreeOn world.flat (after_block world.flat block))
-                (λ item free. still-block (length history) world.flat block is.sound.kept own.stated item (free-back item (items_of_all world.flat.schema (statements_of block)) free)) (held world other)
+            on = all-weaker (IsFree (items_of_all world.flat.schema (statements_of block))) (AgreeOn world.flat (after_block world.flat block))
+                (λ item free. still-block (length history) world.flat block is.sound.well_formed own.stated item (free-back item (items_of_all world.flat.schema (statements_of block)) free)) (held world other)
                 (subst (AreApart (held world other)) (held-open world session begun block opened) (is.apart other session differs.differs));
           };
         }

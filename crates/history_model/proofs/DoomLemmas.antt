@@ -1,6 +1,6 @@
 -- A FORGET that dooms no transaction leaves the rows that it holds: it removes and changes none of them.
 use Rattle.std.proofs.Common.{◌≡◌, ℕ, List, [], ◌∷◌, ◌++◌, Bool, true, false, not, refl, sym, subst, ◌∙◌}
-use Rattle.std.specs.Prelude.{◌&&◌, ◌==◌, Option, None, Some, find, slice_get}
+use Rattle.std.specs.Prelude.{◌&&◌, ◌==◌, Option, None, Some, slice_get}
 use Rattle.std.specs.List.{AllByRecursion, list_any}
 use Rattle.std.proofs.lemmas.Bool.{and_left, or_from, or_parts}
 use Rattle.own_base.specs.declared.number.TableNo.{TableNo}
@@ -11,17 +11,18 @@ use Rattle.own_model.specs.declared.history.Entry.{Entry}
 use Rattle.own_model.specs.declared.reply.Reply.{Reply}
 use Rattle.own_model.specs.declared.schema.TableDef.{TableDef}
 use Rattle.own_model.specs.Db.{Db}
-use Rattle.own_model.specs.Stored.{has_key, row_named, rows_at}
+use Rattle.own_model.specs.Stored.{rows_at}
 use Rattle.owner_model.specs.Joins.{row_of}
+use Rattle.schema_model.proofs.Places.{all-weaker}
 use Rattle.subject_model.specs.Forget.{changed, forget, removed}
 use Rattle.subject_model.specs.Named.{is_name}
 use Rattle.subject_model.proofs.ForgetSpared.{row_of-spared}
 use Rattle.state_model.specs.Sound.{IsWellFormed}
 use Rattle.state_model.proofs.CreatedSchema.{owner_schema-created}
+use Rattle.state_model.proofs.NetRows.{named_at}
+use Rattle.state_model.proofs.PutRows.{rising_at}
 use Rattle.run_model.specs.Agree.{Agree, AgreeOn, lies_on}
-use Rattle.run_model.proofs.Overlaps.{each_weaker}
 use Rattle.run_model.proofs.TableRows.{no_rows}
-use Rattle.run_model.proofs.RisingKeys.{rising-at}
 use Rattle.history_model.specs.History.{dooms, forgotten, lie_on}
 use Rattle.history_model.specs.Reply.{is_refusal}
 use Rattle.history_model.specs.World.{World}
@@ -55,12 +56,6 @@ and-true : (b : Bool) → (b && true) ≡ false → b ≡ false
 and-true true is = is
 and-true false is = refl
 
--- the row of a name, by the table of its number
-pub row_of-table : (db : Db) (name : RowName) (table : TableDef) → slice_get db.schema.tables name.table.0 ≡ Some table
-    → row_of db name ≡ find (has_key table name.key) (rows_at db.rows name.table.0)
-unfolding row_named
-row_of-table db name table is = rw is refl
-
 module _ (db : Db) (subject : RowName) (kept : IsWellFormed db) (kept_left : IsWellFormed (forget db subject)) where
   schema_left : db.schema ≡ (forget db subject).schema
   unfolding forget
@@ -88,9 +83,9 @@ module _ (db : Db) (subject : RowName) (kept : IsWellFormed db) (kept_left : IsW
       let own : (key : Key) → list_any (is_name (name key)) struck ≡ false =
       λ key. none_weaker _ (is_name (name key)) (λ other is. and_left _ _ (and-true _ is)) struck none in
       rows_by_key definition (rows_at db.rows table.0) (rows_at left.rows table.0)
-      (rising-at db.schema.tables db.rows table.0 definition kept.ordered.rising is)
-      (rising-at left.schema.tables left.rows table.0 definition kept_left.ordered.rising is_left)
-      (λ key. sym (row_of-table db (name key) definition is) ∙ (sym (unchanged (name key) (own key)) ∙ row_of-table left (name key) definition is_left))
+      (rising_at db.schema.tables db.rows table.0 definition kept.ordered.rising is)
+      (rising_at left.schema.tables left.rows table.0 definition kept_left.ordered.rising is_left)
+      (λ key. sym (named_at db (name key) definition is) ∙ (sym (unchanged (name key) (own key)) ∙ named_at left (name key) definition is_left))
 
   item_left : (table : TableNo) (key : Option Key) (write : Bool) → list_any (λ name. lies_on name (record { table = table; key = key; write = write })) struck ≡ false
       → AgreeOn db left (record { table = table; key = key; write = write })
@@ -101,7 +96,7 @@ module _ (db : Db) (subject : RowName) (kept : IsWellFormed db) (kept_left : IsW
   pub agree-undoomed : (items : List FootItem) → lie_on (removed db subject ++ changed db subject) items ≡ false → Agree items db (forget db subject)
   agree-undoomed items none = record {
     schema = schema_left;
-    on = each_weaker (λ item. list_any (λ name. lies_on name item) struck ≡ false) (AgreeOn db left) (λ item. item_left item.table item.key item.write) items (none_together lies_on struck items none);
+    on = all-weaker (λ item. list_any (λ name. lies_on name item) struck ≡ false) (AgreeOn db left) (λ item. item_left item.table item.key item.write) items (none_together lies_on struck items none);
   }
 
 -- A request that forgets no one dooms no transaction,

@@ -1,24 +1,15 @@
 -- What entries more do to a history.
-use Rattle.std.proofs.Common.{◌≡◌, ℕ, zero, suc, ◌<◌, ◌≤◌, List, [], ◌∷◌, ◌++◌, length, take, refl, ap, sym, ◌∙◌, ◌+◌, arith}
-use Rattle.std.specs.Prelude.{Some, fold, slice_get, slice_index_or}
+use Rattle.std.proofs.Common.{◌≡◌, ℕ, ◌<◌, ◌≤◌, [], ◌∷◌, ◌++◌, length, take, refl, ap, sym, ◌∙◌, ◌+◌, arith}
+use Rattle.std.specs.Prelude.{Some, fold, slice_index_or}
 use Rattle.std.proofs.lemmas.List.{length-take-le, take-append-le, take_more}
 use Rattle.std.proofs.lemmas.List.Sums.{fold-append}
 use Rattle.std.proofs.Math.Seq.{take-append_seam, take-length}
 use Rattle.own_model.specs.declared.history.Entry.{Entry}
 use Rattle.own_model.specs.Db.{Db}
+use Rattle.schema_model.proofs.Places.{slice_get-append_below, slice_get-push}
 use Rattle.history_model.specs.History.{History, flat, flat_after, happens, reply, standing, world}
 use Rattle.history_model.specs.Reply.{answer}
 use Rattle.history_model.specs.World.{World, start}
-
--- the element at a place of a front
-pub slice_get-append : {X : Type 0} (xs ys : List X) (i : ℕ) → i < length xs → slice_get (xs ++ ys) i ≡ slice_get xs i
-slice_get-append [] ys i lt = absurd (omega arith)
-slice_get-append (x ∷ xs) ys zero lt = refl
-slice_get-append (x ∷ xs) ys (suc i) lt = slice_get-append xs ys i (omega arith)
-
-pub slice_get-last : {X : Type 0} (xs : List X) (x : X) → slice_get (xs ++ x ∷ []) (length xs) ≡ Some x
-slice_get-last [] x = refl
-slice_get-last (first ∷ xs) x = slice_get-last xs x
 
 -- before any entry
 pub world-empty : (base : Db) → world base [] ≡ start base
@@ -65,14 +56,14 @@ place-world base history = let long = place_fold (start base) history in omega a
 pub reply-last : (base : Db) (history : History) (entry : Entry)
     → reply base (history ++ entry ∷ []) (length history) ≡ Some (answer (world base history) entry)
 unfolding reply
-reply-last base history entry = rw (take-append_seam, slice_get-last) refl
+reply-last base history entry = rw (take-append_seam, slice_get-push) refl
 
 -- replies don't change when the history grows
 pub reply-append : (base : Db) (history more : History) (place : ℕ) → place < length history → reply base (history ++ more) place ≡ reply base history place
 unfolding reply
 reply-append base history more place lt =
     let le : place ≤ length history = omega arith in
-    rw (take-append-le place history more le, slice_get-append history more place lt) refl
+    rw (take-append-le place history more le, slice_get-append_below history more place lt) refl
 
 -- a history is its front and its last entry
 pub last_of : (history : History) (last : ℕ) (entry : Entry) → length history ≡ last + 1 → entry ≡ slice_index_or history last entry

@@ -10,8 +10,8 @@ use Rattle.own_base.specs.Key.{key_cmp}
 use Rattle.own_base.specs.declared.value.Key.{Key}
 use Rattle.own_model.specs.Stored.{is_equal}
 use Rattle.own_model.proofs.KeyOrder.{key_order}
+use Rattle.schema_model.proofs.Places.{all-weaker}
 use Rattle.subject_model.proofs.NamedLemmas.{one_key}
-use Rattle.run_model.proofs.Overlaps.{each_weaker}
 
 -- above a key, or anywhere
 abbrev pub IsAbove : Option Key → Key → Type 0
@@ -27,7 +27,7 @@ abbrev pub IsNotAmong : List Key → Key → Type 0
 IsNotAmong keys key = AllByRecursion (λ own. is_equal (key_cmp own key) ≡ false) keys
 
 not_behind : (key : Key) (keys : List Key) → AllByRecursion (λ own. key_cmp key own ≡ Less) keys → IsNotAmong keys key
-not_behind key = each_weaker (λ own. key_cmp key own ≡ Less) (λ own. is_equal (key_cmp own key) ≡ false)
+not_behind key = all-weaker (λ own. key_cmp key own ≡ Less) (λ own. is_equal (key_cmp own key) ≡ false)
     (λ own less. ap is_equal (key_order.antisymm own key ∙ ap ordering_reverse less))
 
 -- a lesser key stands before all that rise
@@ -35,7 +35,7 @@ before_all : (first other : Key) (others : List Key) → key_cmp first other ≡
     → AllByRecursion (λ own. key_cmp first own ≡ Less) (other ∷ others)
 unfolding IsStrictlySortedBy
 before_all first other others less rising =
-    (less, each_weaker (λ own. key_cmp other own ≡ Less) (λ own. key_cmp first own ≡ Less) (λ own behind. key_order.trans first other own less behind) others rising.0)
+    (less, all-weaker (λ own. key_cmp other own ≡ Less) (λ own. key_cmp first own ≡ Less) (λ own behind. key_order.trans first other own less behind) others rising.0)
 
 module _ {Y : Type 0} where
   -- of keys above one, nothing is told of those that aren't among some

@@ -1,56 +1,17 @@
 -- The net of two databases is told by what becomes of the row of each key.
-use Rattle.std.proofs.Common.{◌≡◌, ℕ, suc, ◌+◌, List, [], ◌∷◌, ◌++◌, fold, Bool, false, refl, ap, subst, ◌∙◌, arith}
+use Rattle.std.proofs.Common.{◌≡◌, ℕ, suc, ◌+◌, List, [], ◌∷◌, ◌++◌, Bool, false, refl, ap, subst, ◌∙◌, arith}
 use Rattle.std.specs.Prelude.{None, Some, find, slice_get}
 use Rattle.std.specs.List.{AllByRecursion}
-use Rattle.std.specs.List.Sorted.{IsStrictlySortedBy}
-use Rattle.std.specs.declared.cmp.Ordering.{Ordering}
-use Rattle.std.specs.declared.cmp.Ordering.TheVariants.{Less, Equal, Greater}
-use Rattle.std.specs.Ordering.{ordering_reverse}
 use Rattle.own_base.specs.Key.{key_cmp}
 use Rattle.own_base.specs.declared.value.Key.{Key}
 use Rattle.own_model.specs.declared.schema.TableDef.{TableDef}
-use Rattle.own_model.specs.Db.{AreRising, Db, IsOrdered, Row, key_of}
+use Rattle.own_model.specs.Db.{AreRising, Db, IsOrdered, Row}
 use Rattle.own_model.specs.Stored.{has_key, is_equal, rows_at}
 use Rattle.own_model.proofs.KeyOrder.{key_order}
-use Rattle.query_model.specs.Footprints.{at_first, with_key}
 use Rattle.state_model.specs.Net.{change_at, keys_in, net, net_from, net_in}
+use Rattle.state_model.proofs.NetOrder.{keys_in-rise}
 use Rattle.run_model.proofs.InsertItems.{each_row}
-use Rattle.run_model.proofs.Overlaps.{each_weaker}
 use Rattle.history_model.proofs.KeptByKeys.{IsNotAmong, kept_by_keys}
-
--- a key more among keys that rise: they rise still
-all_first : (P : Key → Type 0) (new first : Key) (rest : List Key) → P new → P first → AllByRecursion P rest → AllByRecursion P (with_key new rest)
-    → (o : Ordering) → AllByRecursion P (at_first o new first rest (with_key new rest))
-all_first P new first rest own one all more Less = (own, (one, all))
-all_first P new first rest own one all more Equal = (one, all)
-all_first P new first rest own one all more Greater = (one, more)
-
-all-with_key : (P : Key → Type 0) (new : Key) (keys : List Key) → P new → AllByRecursion P keys → AllByRecursion P (with_key new keys)
-all-with_key P new [] own all = (own, tt)
-all-with_key P new (first ∷ rest) own all = all_first P new first rest own all.0 all.1 (all-with_key P new rest own all.1) (key_cmp new first)
-
-rising_first : (new first : Key) (rest : List Key) → IsStrictlySortedBy key_cmp (first ∷ rest) → IsStrictlySortedBy key_cmp (with_key new rest)
-    → (o : Ordering) → key_cmp new first ≡ o → IsStrictlySortedBy key_cmp (at_first o new first rest (with_key new rest))
-unfolding IsStrictlySortedBy
-rising_first new first rest rising more Less is =
-    ((is, each_weaker (λ own. key_cmp first own ≡ Less) (λ own. key_cmp new own ≡ Less) (λ own behind. key_order.trans new first own is behind) rest rising.0), rising)
-rising_first new first rest rising more Equal is = rising
-rising_first new first rest rising more Greater is =
-    (all-with_key (λ own. key_cmp first own ≡ Less) new rest (key_order.antisymm first new ∙ ap ordering_reverse is) rising.0, more)
-
-rising-with_key : (new : Key) (keys : List Key) → IsStrictlySortedBy key_cmp keys → IsStrictlySortedBy key_cmp (with_key new keys)
-unfolding IsStrictlySortedBy
-rising-with_key new [] rising = (tt, tt)
-rising-with_key new (first ∷ rest) rising = rising_first new first rest rising (rising-with_key new rest rising.1) _ refl
-
-rising_fold : (table : TableDef) (keys : List Key) (rows : List Row) → IsStrictlySortedBy key_cmp keys
-    → IsStrictlySortedBy key_cmp (fold (λ keys row. with_key (key_of table row) keys) keys rows)
-rising_fold table keys [] rising = rising
-rising_fold table keys (row ∷ rows) rising = rising_fold table (with_key (key_of table row) keys) rows (rising-with_key (key_of table row) keys rising)
-
-rising-keys_in : (table : TableDef) (rows : List Row) → IsStrictlySortedBy key_cmp (keys_in table rows)
-unfolding IsStrictlySortedBy
-rising-keys_in table rows = rising_fold table [] rows tt
 
 -- where no row has a key, none is found
 none_has : (test : Row → Bool) (rows more : List Row) → AllByRecursion (λ row. test row ≡ false) (rows ++ more) → (find test rows ≡ None) × (find test more ≡ None)
@@ -78,7 +39,7 @@ net_in-alike : (number : ℕ) (table : TableDef) (before after befores afters : 
     → net_in number table before after ≡ net_in number table befores afters
 net_in-alike number table before after befores afters alike =
     kept_by_keys (change_at number table before after) (change_at number table befores afters) alike (keys_in table (before ++ after)) (keys_in table (befores ++ afters))
-    (rising-keys_in table (before ++ after)) (rising-keys_in table (befores ++ afters)) (unchanged_at number table before after) (unchanged_at number table befores afters)
+    (keys_in-rise table (before ++ after)) (keys_in-rise table (befores ++ afters)) (unchanged_at number table before after) (unchanged_at number table befores afters)
 
 -- and so in each table
 abbrev pub AreChangedAlikeFrom : ℕ → List TableDef → List (List Row) → List (List Row) → List (List Row) → List (List Row) → Type 0

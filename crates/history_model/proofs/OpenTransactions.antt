@@ -20,16 +20,16 @@ module _ (base : Db) (history : History) (session begun : ℕ) (block : Block) (
   unfolding flat standing
   own = open-block base history (world base history) (serial-world base history sound entered) session begun block opened
 
-  kept : IsWellFormed (flat base history)
+  well_formed : IsWellFormed (flat base history)
   unfolding flat
-  kept = (serial-world base history sound entered).sound.kept
+  well_formed = (serial-world base history sound entered).sound.well_formed
 
   agree_on_items : Agree (items_of_all (flat base history).schema (statements_of block)) (flat base history) other
   unfolding flat standing
   agree_on_items = subst (λ items. Agree items (flat base history) other) (held-open (world base history) session begun block opened) agree
 
   pub replies-open : AreGiven base history other block
-  replies-open = given-agree (length history) base history (flat base history) other block kept kept_other own.stated agree_on_items own.given
+  replies-open = given-agree (length history) base history (flat base history) other block well_formed kept_other own.stated agree_on_items own.given
 
   pub net-open : net (flat base history) (after_block (flat base history) block) ≡ net other (after_block other block)
-  net-open = nets.net-agree (length history) (flat base history) other block kept kept_other own.stated agree_on_items
+  net-open = nets.net-agree (length history) (flat base history) other block well_formed kept_other own.stated agree_on_items

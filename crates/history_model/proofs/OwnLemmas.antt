@@ -17,7 +17,8 @@ use Rattle.own_model.specs.Db.{Db}
 use Rattle.grammar_model.specs.Readable.{IsReadable, IsWritten}
 use Rattle.query_model.specs.BoundStatement.{bound_statement}
 use Rattle.run_model.specs.Items.{TakesRows, items_of, items_of_all}
-use Rattle.run_model.specs.Run.{run}
+use Rattle.run_model.specs.Run.{Outcome, run, run_unless}
+use Rattle.run_model.proofs.StatementFootprints.{run_bound_of}
 use Rattle.schema_model.proofs.Places.{all-append}
 use Rattle.history_model.specs.Held.{held, is_open, items_held}
 use Rattle.history_model.specs.History.{History, after_request, flat_after, is_conflict, is_failure, left_by, own_after, reply, with_stated}
@@ -33,12 +34,7 @@ use Rattle.history_model.proofs.Worlds.{HoldsNothing, IsOpenBlock, IsSerialWorld
 -- a statement with a footprint that binding refuses is told why, whatever rows there are
 pub refused-binding : (db : Db) (asked : Statement) (why : Refusal) → TakesRows asked → bound_statement db.schema asked ≡ Err why
     → (run db asked).reply ≡ Refused why
-unfolding run
-refused-binding db (statement.Select query) why takes is = rw is refl
-refused-binding db (statement.Insert table columns rows) why takes is = rw is refl
-refused-binding db (statement.Update table sets cond) why takes is = rw is refl
-refused-binding db (statement.Delete table cond) why takes is = rw is refl
-refused-binding db _ why takes is = absurd takes
+refused-binding db asked why takes is = ap (λ (outcome : Outcome). outcome.reply) (run_bound_of db asked takes ∙ ap (run_unless db) is)
 
 -- A session outside, or whose transaction a FORGET ended, holds nothing after a request.
 outside-nothing : (place : ℕ) (request : Request) (conflicts : Bool) → HoldsNothing (after_request place Outside request conflicts)

@@ -13,7 +13,7 @@ use Rattle.own_model.specs.declared.schema.TableDef.{TableDef}
 use Rattle.own_model.specs.Db.{IsRising, Row, key_of}
 use Rattle.own_model.specs.Stored.{has_key, is_equal}
 use Rattle.own_model.proofs.KeyOrder.{key_order}
-use Rattle.run_model.proofs.Overlaps.{each_weaker}
+use Rattle.schema_model.proofs.Places.{all-weaker}
 use Rattle.subject_model.proofs.NamedLemmas.{equal_is}
 
 module _ (table : TableDef) where
@@ -36,7 +36,7 @@ module _ (table : TableDef) where
   none_lesser key row rows rising less =
       none_behind key (row ∷ rows) (
         less,
-        each_weaker (λ later. key_cmp (key_of table row) later ≡ Less) (λ later. key_cmp key later ≡ Less) (λ later behind. key_order.trans key (key_of table row) later less behind)
+        all-weaker (λ later. key_cmp (key_of table row) later ≡ Less) (λ later. key_cmp key later ≡ Less) (λ later behind. key_order.trans key (key_of table row) later less behind)
             (map (key_of table) rows) rising.0,
       )
 
@@ -45,7 +45,7 @@ module _ (table : TableDef) where
   unfolding IsStrictlySortedBy
   none_later key row rows rising equal =
       none_behind key rows
-      (each_weaker (λ later. key_cmp (key_of table row) later ≡ Less) (λ later. key_cmp key later ≡ Less)
+      (all-weaker (λ later. key_cmp (key_of table row) later ≡ Less) (λ later. key_cmp key later ≡ Less)
       (λ later behind. sym (key_order.congr (key_of table row) key later equal) ∙ behind) (map (key_of table) rows) rising.0)
 
   abbrev AreFoundAlike : List Row → List Row → Type 0

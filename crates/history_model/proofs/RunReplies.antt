@@ -39,7 +39,7 @@ use Rattle.query_model.specs.SelectFaults.{no_table}
 use Rattle.query_model.specs.Truth.{is_null, keeps}
 use Rattle.query_model.specs.WriteFaults.{assigned_kind, column_in, delete_faults, expression_faults, gdpr_faults, key_write, not_a_column, set_faults, sum_faults, update_faults}
 use Rattle.subject_model.specs.Named.{is_there}
-use Rattle.state_model.specs.Fault.{fault, first_of, held_in, limit_faults, over_rows, owner_faults, owner_rule, reference_faults, reference_rule, unique_faults, unique_rule}
+use Rattle.state_model.specs.Fault.{column_values, fault, first_of, limit_faults, over_rows, owner_faults, owner_rule, reference_faults, reference_rule, unique_faults, unique_rule}
 use Rattle.state_model.specs.Weight.{row_count, weight}
 use Rattle.state_model.specs.CommitRefusal.{commit_refusal, first_refusal}
 use Rattle.run_model.specs.Run.{Outcome, add_view, create_table, create_unless, delete, forget_subject, insert, insert_into, put, run, run_bound, run_unless, show_subject, stored_unless, update, update_in, view_unless}
@@ -234,11 +234,11 @@ rule-of_statement rule own number (table ∷ tables) (rows ∷ rest) =
 module _ (db : Db) where
   unique-of_statement : AreOfStatement (unique_faults db)
   unfolding unique_faults
-  unique-of_statement = rule-of_statement unique_rule (λ number table rows row. each _ (held_in table row) (λ held. if_one _ _ refl)) 0 db.schema.tables db.rows
+  unique-of_statement = rule-of_statement unique_rule (λ number table rows row. each _ (column_values table row) (λ one. if_one _ _ refl)) 0 db.schema.tables db.rows
 
   reference-of_statement : AreOfStatement (reference_faults db)
   unfolding reference_faults
-  reference-of_statement = rule-of_statement (reference_rule db) (λ number table rows row. each _ (held_in table row) (λ held. if_one _ _ refl)) 0 db.schema.tables db.rows
+  reference-of_statement = rule-of_statement (reference_rule db) (λ number table rows row. each _ (column_values table row) (λ one. if_one _ _ refl)) 0 db.schema.tables db.rows
 
   owner-of_statement : AreOfStatement (owner_faults db)
   unfolding owner_faults

@@ -76,7 +76,7 @@ module _ (base : Db) (history : History) (world : World) (is : IsSerialWorld bas
           last = own.last;
           stated = later-of_block (length history) (length more) longer block own.stated;
           given = given-later base history (entry ∷ []) db block own.stated
-              (given-agree (length history) base history world.flat db block is.sound.kept change.sound.kept own.stated (still_open begun block so undoomed) own.given);
+              (given-agree (length history) base history world.flat db block is.sound.well_formed change.sound.well_formed own.stated (still_open begun block so undoomed) own.given);
         }
 
     stands_doomed : (stands : SessionStanding) → IsStanding base more db other (doomed_at world.place stands)

@@ -12,12 +12,13 @@ use Rattle.own_model.specs.declared.request.Request.TheVariants.{Run, Syntax, Li
 use Rattle.own_model.specs.declared.statement.Statement.{Statement}
 use Rattle.own_model.specs.declared.statement.Statement.TheVariants as statement
 use Rattle.own_model.specs.Db.{Db}
+use Rattle.schema_model.proofs.Places.{slice_get-append_below, slice_get-push}
 use Rattle.run_model.specs.Run.{run}
 use Rattle.history_model.specs.History.{History, after_request, doomed_at, after_stated, happens, is_conflict, is_failure, reply, standing, with_stated, world}
 use Rattle.history_model.specs.Reply.{answer}
 use Rattle.history_model.specs.Since.{IsBegun, is_left_out, is_of_block, row_statement, stated_at, stated_since}
 use Rattle.history_model.specs.World.{Block, Stated, SessionStanding, Outside, Open, Doomed, World}
-use Rattle.history_model.proofs.HistoryLemmas.{place-world, reply-append, reply-last, slice_get-append, slice_get-last, standing-append, standing-world}
+use Rattle.history_model.proofs.HistoryLemmas.{place-world, reply-append, reply-last, standing-append, standing-world}
 
 -- numbered entries, one more
 enumerate-last : {X : Type 0} (from : ℕ) (xs : List X) (x : X) → enumerate_from from (xs ++ x ∷ []) ≡ enumerate_from from xs ++ (from + length xs, x) ∷ []
@@ -142,7 +143,7 @@ module _ (base : Db) (history : History) (entry : Entry) (session : ℕ) where
       let lt = below-length history begun is.entry is.at in
       record {
         entry = is.entry;
-        at = slice_get-append history (entry ∷ []) begun lt ∙ is.at;
+        at = slice_get-append_below history (entry ∷ []) begun lt ∙ is.at;
         own = is.own;
         request = is.request;
         done = reply-append base history (entry ∷ []) begun lt ∙ is.done;
@@ -206,7 +207,7 @@ module _ (base : Db) (history : History) (entry : Entry) (session : ℕ) (own : 
     statements = sym (none-last base (history ++ entry ∷ []) session (length history) (let long = length-append history (entry ∷ []) in omega arith));
     begins = record {
       entry = entry;
-      at = slice_get-last history entry;
+      at = slice_get-push history entry;
       own = eqb-true _ _ own;
       request = is;
       done = reply-last base history entry ∙ ap Some done;

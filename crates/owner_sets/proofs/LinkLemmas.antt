@@ -18,7 +18,7 @@ use Rattle.owner_sets.specs.declared.link.Link.{Link}
 use Rattle.owner_sets.specs.Gathered.{IsWithin}
 use Rattle.owner_sets.specs.Links.{link, link_at, links, place_named}
 use Rattle.owner_sets.proofs.Ranges.{contains_of_option, contains_option, contains_range}
-use Rattle.owner_sets.proofs.Standing.{Named, NamesRow, StandsAt, held_at, place_named-names, place_named-row, there-standing}
+use Rattle.owner_sets.proofs.Standing.{Named, NamesRow, StandsAt, standing_value, place_named-names, place_named-row, there-standing}
 use Rattle.subject_model.proofs.JoinsLemmas.{same_table}
 
 -- An edge joins the rows at the places of a link.
@@ -76,7 +76,7 @@ module _ (db : Db) (edge : Edge) (ordered : IsOrdered db) (among : Contains db.s
       })
 
   linked_at : (at : ℕ) (l : Link) (definition : TableDef) → (edge.holder ≡ edge.lower) ⊎ (edge.holder ≡ edge.upper) → slice_get db.schema.tables edge.holder.0 ≡ Some definition
-      → (o : Option ℕ) → place_named db.schema db.rows (named_table edge).0 (held_at db edge.holder.0 edge.column.0 at) ≡ o → option_map (link edge at) o ≡ Some l → Linked db edge l.lower l.upper
+      → (o : Option ℕ) → place_named db.schema db.rows (named_table edge).0 (standing_value db edge.holder.0 edge.column.0 at) ≡ o → option_map (link edge at) o ≡ Some l → Linked db edge l.lower l.upper
   linked_at at l definition held table_is None found is = let never : ◌≡◌ {A = Option Link} None (Some l) = is in cc
   linked_at at l definition held table_is (Some named) found is =
       let same : link edge at named ≡ l = cc in
@@ -89,7 +89,7 @@ module _ (db : Db) (edge : Edge) (ordered : IsOrdered db) (among : Contains db.s
   links-joined within held l listed =
       let (at, of_range, own) = contains_of_flat_map (λ place. option_to_list (link_at db.schema db.rows edge place)) (range_with_len 0 (length (rows_at db.rows edge.holder.0))) l listed in
       let (definition, table_is) = at-place db.schema.tables edge.holder.0 within.holder in
-      linked_at at l definition held table_is (place_named db.schema db.rows (named_table edge).0 (held_at db edge.holder.0 edge.column.0 at)) refl
+      linked_at at l definition held table_is (place_named db.schema db.rows (named_table edge).0 (standing_value db edge.holder.0 edge.column.0 at)) refl
       (contains_of_option (link_at db.schema db.rows edge at) l own)
 
   listed_at : (at : ℕ) (l : Link) → at < length (rows_at db.rows edge.holder.0) → link_at db.schema db.rows edge at ≡ Some l → Contains (links db.schema db.rows edge) l
@@ -106,10 +106,10 @@ module _ (db : Db) (edge : Edge) (ordered : IsOrdered db) (among : Contains db.s
       → link_at db.schema db.rows edge at ≡ Some (link edge at named)
   unfolding link_at
   link_named holder other at named names of_holder of_other =
-      let found : place_named db.schema db.rows other.table.0 (held_at db holder.table.0 edge.column.0 at) ≡ Some named = place_named-names db edge.column.0 holder other at named ordered names in
-      let moved : place_named db.schema db.rows (named_table edge).0 (held_at db edge.holder.0 edge.column.0 at) ≡ Some named =
-      subst (λ t. place_named db.schema db.rows t (held_at db edge.holder.0 edge.column.0 at) ≡ Some named) of_other
-      (subst (λ t. place_named db.schema db.rows other.table.0 (held_at db t edge.column.0 at) ≡ Some named) of_holder found) in
+      let found : place_named db.schema db.rows other.table.0 (standing_value db holder.table.0 edge.column.0 at) ≡ Some named = place_named-names db edge.column.0 holder other at named ordered names in
+      let moved : place_named db.schema db.rows (named_table edge).0 (standing_value db edge.holder.0 edge.column.0 at) ≡ Some named =
+      subst (λ t. place_named db.schema db.rows t (standing_value db edge.holder.0 edge.column.0 at) ≡ Some named) of_other
+      (subst (λ t. place_named db.schema db.rows other.table.0 (standing_value db t edge.column.0 at) ≡ Some named) of_holder found) in
       ap (option_map (link edge at)) moved
 
   listed_by : (lower upper : RowName) (lower_at upper_at : ℕ) → StandsAt db lower lower_at → StandsAt db upper upper_at → Joins db lower edge upper

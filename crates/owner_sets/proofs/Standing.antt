@@ -106,8 +106,8 @@ literal_of_key (keyed.Int number) = refl
 literal_of_key (keyed.Text bytes) = refl
 
 -- what stands in a column of the row at a place of a table
-abbrev pub held_at : Db → ℕ → ℕ → ℕ → Option Value
-held_at db table column place = option_and_then (λ row. slice_get row column) (slice_get (rows_at db.rows table) place)
+abbrev pub standing_value : Db → ℕ → ℕ → ℕ → Option Value
+standing_value db table column place = option_and_then (λ row. slice_get row column) (slice_get (rows_at db.rows table) place)
 
 -- A row holds another one's key: both stand at their places, and so the other's is the one that is named.
 pub record NamesRow (db : Db) (column : ℕ) (holder other : RowName) (at named : ℕ) : Type 0 where
@@ -116,11 +116,11 @@ pub record NamesRow (db : Db) (column : ℕ) (holder other : RowName) (at named 
   pub names : value_at db holder column ≡ Some (value_of other.key)
 
 pub place_named-names : (db : Db) (column : ℕ) (holder other : RowName) (at named : ℕ) → IsOrdered db → NamesRow db column holder other at named
-    → place_named db.schema db.rows other.table.0 (held_at db holder.table.0 column at) ≡ Some named
+    → place_named db.schema db.rows other.table.0 (standing_value db holder.table.0 column at) ≡ Some named
 place_named-names db column holder other at named ordered is =
     let held : slice_get is.holder_stands.row column ≡ Some (value_of other.key) =
     sym (ap (option_and_then (λ row. slice_get row column)) (row_of-standing db holder at ordered is.holder_stands)) ∙ is.names in
-    let value : held_at db holder.table.0 column at ≡ Some (value_of other.key) = rw (is.holder_stands.row_is) held in
+    let value : standing_value db holder.table.0 column at ≡ Some (value_of other.key) = rw (is.holder_stands.row_is) held in
     rw (value, literal_of_key other.key) (place_of-standing db other named ordered is.other_stands)
 
 -- Where a place is named, a row at it is.
@@ -171,5 +171,5 @@ module _ (db : Db) (column : ℕ) (holder_table other_table : TableNo) (at named
   named_by_row ordered table_is (Some row) row_is found = named_by_cell ordered row table_is row_is (slice_get row column) refl found
 
   pub place_named-row : IsOrdered db → slice_get db.schema.tables holder_table.0 ≡ Some definition
-      → place_named db.schema db.rows other_table.0 (held_at db holder_table.0 column at) ≡ Some named → Named db column holder_table other_table at named
+      → place_named db.schema db.rows other_table.0 (standing_value db holder_table.0 column at) ≡ Some named → Named db column holder_table other_table at named
   place_named-row ordered table_is found = named_by_row ordered table_is (slice_get (rows_at db.rows holder_table.0) at) refl found

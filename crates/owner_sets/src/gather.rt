@@ -46,7 +46,7 @@ fn own_set<V: StoreView>(
     ensures { IfOk result (λ set. set ≡ own_set (V.db view.now).schema (V.db view.now).rows table.0 at) }
 {
     let mut set = List::new(alloc);
-    if is_subject(view.schema(), table) {
+    if is_subject(view.schema(), table.0 as usize) {
         add_row(alloc, view, table, at, &mut set)?;
     }
     Ok(set)
@@ -95,7 +95,7 @@ fn hand_down<V: StoreView>(
     requires { table.0 < length (V.db view.now).schema.tables }
     ensures { OnOk result (subjects.new ≡ subjects.old ++ handed_down (V.db view.now).schema (V.db view.now).rows done.now table.0 at) }
 {
-    if is_subject(view.schema(), table) {
+    if is_subject(view.schema(), table.0 as usize) {
         add_row(alloc, view, table, at, subjects)
     } else {
         add_copies(alloc, set_at(done, table, at), subjects)

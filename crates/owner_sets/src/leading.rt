@@ -32,7 +32,7 @@ fn hands_down<V: StoreView>(
     requires { table.0 < length (V.db view.now).schema.tables }
     ensures { result ≡ is_among subject.now (handed_down (V.db view.now).schema (V.db view.now).rows reach.now table.0 at) }
 {
-    if is_subject(view.schema(), table) {
+    if is_subject(view.schema(), table.0 as usize) {
         is_named(view, table, at, &subject.0)
     } else {
         is_among(subject, set_at(reach, table, at))

@@ -1,5 +1,5 @@
 ghost use Rattle.std.specs.Prelude.{◌≡◌, ◌<◌, ◌==◌, [], Contains, IfOk, filter, length, slice_index_or};
-ghost use Rattle.own_model.specs.declared.schema.Edge.{Edge as Held};
+ghost use Rattle.own_model.specs.declared.schema.Edge.{Edge as Seen};
 ghost use Rattle.own_model.specs.Db.{IsOrdered};
 ghost use Rattle.owner_graph.specs.Graph.{IsGraphOf};
 ghost use Rattle.owner_sets.specs.Leading.{is_among};
@@ -53,7 +53,7 @@ fn table_sets<V: StoreView>(
     requires owner { IsOwnerSchema (V.db view.now).schema }
     requires there { table.0 < length (V.db view.now).schema.tables }
     requires edges { edges.now ≡ filter (λ edge. edge.lower.0 == table.0) (V.db view.now).schema.edges }
-    requires above { (edge : Held) → Contains edges.now edge → AreSetsOfTable (V.db view.now) (listed which (V.db view.now))
+    requires above { (edge : Seen) → Contains edges.now edge → AreSetsOfTable (V.db view.now) (listed which (V.db view.now))
         edge.upper.0 (slice_index_or done.now edge.upper.0 []) }
     ensures { IfOk result (AreSetsOfTable (V.db view.now) (listed which (V.db view.now)) table.0) }
 {

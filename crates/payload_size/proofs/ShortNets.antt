@@ -1,34 +1,31 @@
 -- How many bytes a net takes at most.
 use Rattle.std.proofs.Common.{◌≡◌, ℕ, zero, suc, ◌+◌, ◌*◌, ◌<◌, ◌≤◌, ◌^◌, List, [], ◌∷◌, ◌++◌, length, length-append, Bool, true, false, cond, fold, refl, ap, arith}
-use Rattle.std.specs.Prelude.{Option, Some, None, IfSome, filter_map, find, slice_index_or, sum_by, if◌then◌else◌}
+use Rattle.std.specs.Prelude.{Option, Some, None, IfSome, filter_map, find, slice_index_or, sum_by}
 use Rattle.std.specs.List.{AllByRecursion as Each, cons_option}
 use Rattle.std.specs.declared.cmp.Ordering.{Ordering}
 use Rattle.std.specs.declared.cmp.Ordering.TheVariants.{Less, Equal, Greater}
-use Rattle.std.proofs.lemmas.Bool.{ltb-false}
 use Rattle.std.proofs.lemmas.List.Sums.{sum_by-append, sum_by-cons}
 use Rattle.own_base.specs.Key.{key_cmp}
 use Rattle.own_base.specs.declared.change.Change.{Change}
 use Rattle.own_base.specs.declared.value.Key.{Key}
 use Rattle.own_base.specs.declared.value.Value.{Value}
 use Rattle.own_base.specs.declared.value.Value.TheVariants as value
-use Rattle.own_model.specs.declared.limit.TheConstants.{STORE_ROWS, TABLE_COLUMNS, TEXT_BYTES}
-use Rattle.own_model.specs.declared.schema.Column.{Column}
+use Rattle.own_model.specs.declared.limit.TheConstants.{TABLE_COLUMNS, TEXT_BYTES}
 use Rattle.own_model.specs.declared.schema.TableDef.{TableDef}
-use Rattle.own_model.specs.Db.{Db, Row, as_key, key_of}
+use Rattle.own_model.specs.Db.{Row, as_key, key_of}
 use Rattle.own_model.specs.Stored.{has_key}
 use Rattle.schema_model.specs.WithinLimits.{IsTableWithin}
 use Rattle.schema_model.proofs.Found.{find-some}
-use Rattle.schema_model.proofs.Places.{all-at, append-none}
+use Rattle.schema_model.proofs.Places.{all-append, all-at, all-weaker}
 use Rattle.query_model.specs.Footprints.{at_first, with_key}
-use Rattle.state_model.specs.Fault.{fault}
 use Rattle.state_model.specs.Net.{change_at, keys_in, net, net_from, net_in}
 use Rattle.state_model.specs.Payload.{change_bytes, key_bytes, payload_bytes, state_bytes, value_bytes}
-use Rattle.state_model.specs.Rows.{AreOfKinds, AreRowsOf, IsRowOf, IsStorable}
+use Rattle.state_model.specs.Rows.{AreRowsOf, IsRowOf, IsStorable}
 use Rattle.state_model.specs.Same.{is_same_state}
-use Rattle.state_model.specs.Weight.{row_count}
-use Rattle.state_model.proofs.Faultless.{faultless-from}
+use Rattle.state_model.proofs.Faultless.{few_rows}
+use Rattle.state_model.proofs.NetOrder.{all-with_key}
+use Rattle.state_model.proofs.StoredRows.{length-of_kinds}
 use Rattle.payload_size.specs.SoundNet.{IsSoundNet}
-use Rattle.query_model.proofs.NoFaults.{none-if}
 
 -- what a value takes at most, and what a change of one row does
 abbrev pub value_most : ℕ
@@ -64,12 +61,6 @@ key-few : (table : TableDef) (row : Row) → IsRowOf table row → key_bytes (ke
 unfolding key_of
 key-few table row is = key_few (slice_index_or row table.key.0 value.Null) (short-at row table.key.0 is.storable)
 
-length-of_kinds : (columns : List Column) (values : List Value) → AreOfKinds columns values → length values ≡ length columns
-length-of_kinds [] [] are = refl
-length-of_kinds [] (value ∷ values) are = absurd are
-length-of_kinds (column ∷ columns) [] are = absurd are
-length-of_kinds (column ∷ columns) (value ∷ values) are = let rest = length-of_kinds columns values are.1 in omega arith
-
 -- what is found among such rows
 state_few : (table : TableDef) (rows : List Row) (key : Key) → length table.columns ≤ TABLE_COLUMNS → Each (IsRowOf table) rows
     → (found : Option Row) → find (has_key table key) rows ≡ found → state_bytes found ≤ 4 + TABLE_COLUMNS * value_most
@@ -82,15 +73,6 @@ state_few table rows key few are (Some row) is =
     omega arith
 
 -- a key more among keys
-keys_step : (P : Key → Type 0) (new first : Key) (rest further : List Key) → P new → Each P (first ∷ rest) → Each P further → (o : Ordering) → Each P (at_first o new first rest further)
-keys_step P new first rest further own all more Less = (own, all)
-keys_step P new first rest further own all more Equal = all
-keys_step P new first rest further own all more Greater = (all.0, more)
-
-each-with_key : (P : Key → Type 0) (new : Key) (keys : List Key) → P new → Each P keys → Each P (with_key new keys)
-each-with_key P new [] own all = (own, tt)
-each-with_key P new (first ∷ rest) own all = keys_step P new first rest (with_key new rest) own all (each-with_key P new rest own all.1) (key_cmp new first)
-
 count_step : (new first : Key) (rest further : List Key) → length further ≤ suc (length rest) → (o : Ordering) → length (at_first o new first rest further) ≤ suc (suc (length rest))
 count_step new first rest further few Less = omega arith
 count_step new first rest further few Equal = omega arith
@@ -106,20 +88,12 @@ module _ (table : TableDef) where
 
   each-with_keys : (P : Key → Type 0) (keys : List Key) (rows : List Row) → Each P keys → Each (λ row. P (key_of table row)) rows → Each P (with_keys keys rows)
   each-with_keys P keys [] all own = all
-  each-with_keys P keys (row ∷ rows) all own = each-with_keys P (with_key (key_of table row) keys) rows (each-with_key P (key_of table row) keys own.0 all) own.1
+  each-with_keys P keys (row ∷ rows) all own = each-with_keys P (with_key (key_of table row) keys) rows (all-with_key P (key_of table row) own.0 keys all) own.1
 
   count-with_keys : (keys : List Key) (rows : List Row) → length (with_keys keys rows) ≤ length keys + length rows
   count-with_keys keys [] = omega arith
   count-with_keys keys (row ∷ rows) =
       let own = count-with_key (key_of table row) keys in let later = count-with_keys (with_key (key_of table row) keys) rows in omega arith
-
-each_more : {X : Type 0} (P : X → Type 0) (xs ys : List X) → Each P xs → Each P ys → Each P (xs ++ ys)
-each_more P [] ys first all = all
-each_more P (x ∷ xs) ys first all = (first.0, each_more P xs ys first.1 all)
-
-each_weaker : {X : Type 0} (P Q : X → Type 0) → ((x : X) → P x → Q x) → (xs : List X) → Each P xs → Each Q xs
-each_weaker P Q weaker [] all = tt
-each_weaker P Q weaker (x ∷ xs) all = (weaker x all.0, each_weaker P Q weaker xs all.1)
 
 -- what is given of some, each of which is small, is small together
 module _ {X Y : Type 0} (give : X → Option Y) (size : Y → ℕ) (most : ℕ) where
@@ -145,10 +119,10 @@ module _ (number : ℕ) (table : TableDef) (before after : List Row) (few : leng
   -- and those of a table as much for each row before or after
   table_few : sum_by change_bytes (net_in number table before after) ≤ change_most * (length before + length after)
   table_few =
-      let short = each-with_keys table (λ key. key_bytes key ≤ value_most) [] (before ++ after) tt (each_weaker (IsRowOf table) _ (λ row own. key-few table row own) (before ++ after) (each_more (IsRowOf table) before after was is)) in
+      let short = each-with_keys table (λ key. key_bytes key ≤ value_most) [] (before ++ after) tt (all-weaker (IsRowOf table) _ (λ row own. key-few table row own) (before ++ after) (all-append (IsRowOf table) before after was is)) in
       let count = count-with_keys table [] (before ++ after) in
       let both = length-append before after in
-      let sum = given_most (change_at number table before after) change_bytes change_most (keys_in table (before ++ after)) (each_weaker _ _ small_change _ short) in
+      let sum = given_most (change_at number table before after) change_bytes change_most (keys_in table (before ++ after)) (all-weaker _ _ small_change _ short) in
       omega arith
 
 net_few : (number : ℕ) (tables : List TableDef) (befores afters : List (List Row)) → Each IsTableWithin tables → AreRowsOf tables befores → AreRowsOf tables afters
@@ -164,12 +138,6 @@ net_few number (table ∷ tables) (before ∷ befores) (after ∷ afters) within
     let one = sum_by-cons length before befores in
     let other = sum_by-cons length after afters in
     omega arith
-
--- a database without a fault has no more rows than a store may have
-few_rows : (db : Db) → fault db ≡ None → row_count db ≤ STORE_ROWS
-few_rows db none =
-    let both = append-none _ _ (faultless-from db none).limit in
-    ltb-false STORE_ROWS (row_count db) (none-if _ _ both.0)
 
 -- Neither the payload of a store's net nor the number of its changes' bytes is too great for 64 bits.
 pub short_net : (changes : List Change) → IsSoundNet changes → payload_bytes changes < 2 ^ 64

@@ -1,5 +1,5 @@
 -- The commit that is read is the one whose payload the bytes are.
-use Rattle.std.proofs.Common.{◌≡◌, ℕ, zero, suc, cond, List, [], ◌∷◌, length, refl, sym, subst, ◌∙◌, arith}
+use Rattle.std.proofs.Common.{◌≡◌, ℕ, zero, suc, cond, List, [], ◌∷◌, length, refl, subst, arith}
 use Rattle.std.specs.Prelude.{Some, None}
 use Rattle.disk_model.specs.declared.commit.Commit.{Commit}
 use Rattle.disk_model.specs.declared.commit.Commit.TheVariants.{CreateTable, CreateView, Changes, Forget}
@@ -53,6 +53,3 @@ payload-only (Forget x) (kind ∷ bytes) is = rw (is.0, all-only IsName name_at 
 
 pub payload-none : (bytes : List ℕ) → payload_of bytes ≡ None → (commit : Commit) → IsPayload commit bytes → ⊥
 payload-none bytes none commit is = let found = payload-only commit bytes is in cc
-
-pub payload-one : (payload : List ℕ) (one other : Commit) → IsPayload one payload → IsPayload other payload → one ≡ other
-payload-one payload one other first second = some_is one other (sym (payload-only one payload first) ∙ payload-only other payload second)

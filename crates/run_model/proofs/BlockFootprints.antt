@@ -3,6 +3,7 @@
 use Rattle.std.proofs.Common.{◌≡◌, List, [], ◌∷◌, ◌++◌, Bool, true, false, ◌||◌, fold, Option, Some, None, refl, sym, ◌∙◌, subst}
 use Rattle.std.specs.List.{AllByRecursion as Each, list_any}
 use Rattle.own_base.specs.declared.value.Key.{Key}
+use Rattle.page_model.proofs.RisingLemmas.{each_back, each_front}
 use Rattle.own_model.specs.declared.footprint.FootItem.{FootItem}
 use Rattle.own_model.specs.declared.reply.Reply.{Reply}
 use Rattle.own_model.specs.declared.statement.Statement.{Statement}
@@ -35,15 +36,7 @@ agree_then db mid other item first second = by item.key first second
     by None first second = first ∙ second
     by (Some key) first second = first ∙ second
 
--- the two parts of a list
-each_front : {X : Type 0} (P : X → Type 0) (xs ys : List X) → Each P (xs ++ ys) → Each P xs
-each_front P [] ys all = tt
-each_front P (x ∷ xs) ys all = (all.0, each_front P xs ys all.1)
-
-each_back : {X : Type 0} (P : X → Type 0) (xs ys : List X) → Each P (xs ++ ys) → Each P ys
-each_back P [] ys all = all
-each_back P (x ∷ xs) ys all = each_back P xs ys all.1
-
+-- what passes in none of a list passes in none of its parts
 none_of_both : {X : Type 0} (p : X → Bool) (xs ys : List X) → list_any p (xs ++ ys) ≡ false → (list_any p xs ≡ false) × (list_any p ys ≡ false)
 none_of_both p [] ys none = (refl, none)
 none_of_both p (x ∷ xs) ys none = by (none_of_both p xs ys) (p x) none

@@ -11,11 +11,11 @@ use Rattle.own_model.specs.Db.{Db, IsRising, Row}
 use Rattle.own_model.specs.Stored.{has_key, rows_at}
 use Rattle.query_model.specs.Footprints.{key_column, pinned_key}
 use Rattle.query_model.specs.Truth.{keeps}
+use Rattle.state_model.proofs.PutRows.{rising_at}
 use Rattle.run_model.specs.Agree.{keys_meet}
 use Rattle.run_model.specs.Update.{rows_left}
 use Rattle.run_model.proofs.FoundRows.{find-filter}
 use Rattle.run_model.proofs.PinnedRows.{not-kept, whole_meets}
-use Rattle.run_model.proofs.RisingKeys.{rising-at}
 use Rattle.run_model.proofs.TableRows.{AreInPlace, AreSame}
 
 module _ (cond : Option BoundCond) where
@@ -36,7 +36,7 @@ module _ (cond : Option BoundCond) where
   module _ (db : Db) (place : AreInPlace db) (number : TableNo) where
     found_there : (table : TableDef) (key : Key) → slice_get db.schema.tables number.0 ≡ Some table
         → find (has_key table key) (rows_left cond (rows_at db.rows number.0)) ≡ option_filter is_left (find (has_key table key) (rows_at db.rows number.0))
-    found_there table key is = found-left table key (rows_at db.rows number.0) (rising-at db.schema.tables db.rows number.0 table place.ordered.rising is)
+    found_there table key is = found-left table key (rows_at db.rows number.0) (rising_at db.schema.tables db.rows number.0 table place.ordered.rising is)
 
     -- rows of keys that the condition doesn't pin stay
     pub still-left : (key : Option Key) → keys_meet (pinned_key (key_column db.schema number) cond) key ≡ false

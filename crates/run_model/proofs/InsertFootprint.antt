@@ -6,6 +6,7 @@ use Rattle.std.specs.List.{AllByRecursion as Each, list_any}
 use Rattle.own_base.specs.Key.{key_cmp}
 use Rattle.own_base.specs.declared.number.TableNo.{TableNo}
 use Rattle.own_base.specs.declared.value.Key.{Key}
+use Rattle.page_model.proofs.RisingLemmas.{each_map, each_weaker}
 use Rattle.own_model.specs.declared.footprint.FootItem.{FootItem}
 use Rattle.own_model.specs.declared.schema.TableDef.{TableDef}
 use Rattle.own_model.specs.Db.{Db, Row, key_of}
@@ -17,7 +18,7 @@ use Rattle.run_model.specs.Run.{insert, insert_into, put}
 use Rattle.run_model.proofs.FoundRows.{find_agree, has_tied_key}
 use Rattle.run_model.proofs.InsertItems.{each_row}
 use Rattle.run_model.proofs.InsertLookups.{AreAlike, IsSameAt, IsStill, alike-with_tuples, still-with_tuples}
-use Rattle.run_model.proofs.Overlaps.{apart_key, each_made, each_weaker, named_key, none_passes, tied_meet}
+use Rattle.run_model.proofs.Overlaps.{apart_key, named_key, none_passes, tied_meet}
 use Rattle.run_model.proofs.TableRows.{AreInPlace, AreSame, agree-stored, agree_from_same, agree_itself, one_found, rows_put, same_from_agree, still-stored}
 
 -- the items of an INSERT
@@ -30,7 +31,7 @@ by_tuple : (P : FootItem → Type 0) (db : Db) (number : TableNo) (tuples : List
     → (table : TableDef) → slice_get db.schema.tables number.0 ≡ Some table → Each P (insert_items db number tuples)
     → Each (λ tuple. P (item number (Some (key_of table tuple)) true)) tuples
 by_tuple P db number tuples shared table is all =
-    each_row (λ key. P (item number (Some key) true)) shared table tuples (rw is at (each_made P (λ key. item number (Some key) true) (keys_of db.schema number tuples) all))
+    each_row (λ key. P (item number (Some key) true)) shared table tuples (rw is at (each_map P (λ key. item number (Some key) true) (keys_of db.schema number tuples) all))
 
 module _ (db other : Db) (schema : db.schema ≡ other.schema) where
   -- rows of tied keys are the same or not

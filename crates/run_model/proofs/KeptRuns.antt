@@ -32,6 +32,7 @@ use Rattle.state_model.proofs.ForgetKept.{kept-forget}
 use Rattle.state_model.proofs.KeyColumns.{HasKey, keyed-created}
 use Rattle.state_model.proofs.WellFormedLemmas.{kept-create, kept-create_view}
 use Rattle.state_model.proofs.PlainKinds.{IsPlainTable}
+use Rattle.state_model.proofs.StoredRows.{rows-at}
 use Rattle.run_model.specs.Insert.{with_tuples}
 use Rattle.run_model.specs.Run.{Outcome, answered, run, run_bound}
 use Rattle.run_model.specs.Update.{Sets, rows_left}
@@ -44,7 +45,7 @@ use Rattle.run_model.proofs.PutRows.{rows-put}
 use Rattle.run_model.proofs.RightSets.{sets-of}
 use Rattle.run_model.proofs.RisingKeys.{AreKeyless}
 use Rattle.run_model.proofs.StorableValues.{written-storable}
-use Rattle.run_model.proofs.TableLemmas.{AreTogether, IfRows, rows-at, rows-change, rows-set, together-with_tuples}
+use Rattle.run_model.proofs.TableLemmas.{AreTogether, IfRows, rows-change, rows-set, together-with_tuples}
 use Rattle.run_model.proofs.UpdatedRows.{AreSetsOf, all-rows_left, rows-updated}
 
 module _ (db : Db) (kept : IsWellFormed db) where

@@ -1,3 +1,4 @@
+pub mod AgreedRows
 pub mod BlockFootprints
 pub mod BoundFootprints
 pub mod DeleteFootprint

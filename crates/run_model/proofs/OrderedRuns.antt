@@ -20,13 +20,14 @@ use Rattle.schema_model.specs.OwnerSchema.{IsOwnerSchema}
 use Rattle.schema_model.specs.WithTable.{with_table}
 use Rattle.state_model.specs.Create.{create, create_view, with_view}
 use Rattle.state_model.proofs.WellFormedLemmas.{rising-append}
+use Rattle.state_model.proofs.PutRows.{rising_at}
 use Rattle.subject_model.proofs.ForgetOrder.{ordered-forget}
 use Rattle.run_model.specs.Insert.{with_tuples}
 use Rattle.run_model.specs.Run.{Outcome, answered, delete, insert, run, update}
 use Rattle.run_model.specs.Update.{Sets, rows_left}
 use Rattle.run_model.proofs.KeylessSets.{Written, keyless-bound_sets, sets_over}
 use Rattle.run_model.proofs.Outcomes.{IfBound, IfDeleted, IfPut, IfRuns, IfUpdated, of-delete, of-insert, of-statement, of-update}
-use Rattle.run_model.proofs.RisingKeys.{AreKeyless, rising-at, rising-change, rising-rows_left, rising-set, rising-updated_rows, rising-with_tuples}
+use Rattle.run_model.proofs.RisingKeys.{AreKeyless, rising-change, rising-rows_left, rising-set, rising-updated_rows, rising-with_tuples}
 use Rattle.run_model.proofs.TableLemmas.{IfRows}
 
 module _ (db : Db) (ordered : IsOrdered db) where
@@ -39,7 +40,7 @@ module _ (db : Db) (ordered : IsOrdered db) where
   pub ordered-put : (number : ℕ) (tuples : List Row) → IfPut db Left number tuples
   ordered-put number tuples table rows at new =
       let rising : IfRows (IsRising table) (with_tuples table (rows_at db.rows number) tuples) =
-      rising-with_tuples table (rows_at db.rows number) tuples (rising-at db.schema.tables db.rows number table ordered.rising at) in
+      rising-with_tuples table (rows_at db.rows number) tuples (rising_at db.schema.tables db.rows number table ordered.rising at) in
       record { rising = rising-set db.schema.tables db.rows number table rows ordered.rising at (rw new at rising) }
 
   -- an INSERT does
@@ -51,7 +52,7 @@ module _ (db : Db) (ordered : IsOrdered db) where
   ordered-updated number sets cond keyless table at none =
       record {
         rising = rising-set db.schema.tables db.rows number table _ ordered.rising at
-            (rising-updated_rows table sets (keyless table at) cond (rows_at db.rows number) (rising-at db.schema.tables db.rows number table ordered.rising at));
+            (rising-updated_rows table sets (keyless table at) cond (rows_at db.rows number) (rising_at db.schema.tables db.rows number table ordered.rising at));
       }
 
   -- an UPDATE that sets no primary key

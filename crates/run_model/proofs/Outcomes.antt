@@ -242,14 +242,14 @@ module _ (db : Db) (P : Outcome → Type 0) (same : (reply : Reply) → P (answe
   of-adding_nothing found adds = of-statement db P same found (runs found adds)
 
 -- what binding gives has no fault, and is what the statement means
-ok_step : (told : Option Refusal) (meant given : Bound) → bound_unless told meant ≡ Ok given → (told ≡ None) × (meant ≡ given)
-ok_step None meant given is = (refl, cc)
-ok_step (Some why) meant given is = absurd (cc)
+pub bound_unless-ok : (told : Option Refusal) (meant given : Bound) → bound_unless told meant ≡ Ok given → (told ≡ None) × (meant ≡ given)
+bound_unless-ok None meant given is = (refl, cc)
+bound_unless-ok (Some why) meant given is = absurd (cc)
 
 pub bound-ok : (schema : Schema) (found : Statement) (meant : Bound) → bound_statement schema found ≡ Ok meant
     → (lowest (faults schema found) ≡ None) × (meaning schema found ≡ meant)
 unfolding bound_statement
-bound-ok schema found meant is = ok_step _ _ meant is
+bound-ok schema found meant is = bound_unless-ok _ _ meant is
 
 -- and what has no fault is given
 pub bound-none : (schema : Schema) (found : Statement) → lowest (faults schema found) ≡ None → bound_statement schema found ≡ Ok (meaning schema found)

@@ -1,5 +1,6 @@
 -- Items that don't overlap.
-use Rattle.std.proofs.Common.{◌≡◌, ◌==◌, List, [], ◌∷◌, Bool, true, false, ◌&&◌, ◌||◌, map, Option, Some, None, refl, sym, ap, ◌∙◌}
+use Rattle.std.proofs.Common.{◌≡◌, ◌==◌, List, [], ◌∷◌, Bool, true, false, ◌&&◌, ◌||◌, Option, Some, None, refl, sym, ap, ◌∙◌}
+use Rattle.std.specs.BTreeMap.{is_at}
 use Rattle.std.specs.List.{AllByRecursion as Each, list_any}
 use Rattle.std.specs.Ordering.{ordering_reverse}
 use Rattle.std.specs.declared.cmp.Ordering.{Ordering}
@@ -15,6 +16,7 @@ use Rattle.own_model.specs.Db.{Row, key_of}
 use Rattle.own_model.specs.Stored.{has_key, is_equal}
 use Rattle.own_model.proofs.KeyOrder.{key_order}
 use Rattle.query_model.specs.Footprints.{item}
+use Rattle.state_model.proofs.PutRows.{equal_is}
 use Rattle.run_model.specs.Agree.{keys_meet, overlaps}
 
 -- a test that no member passes fails for each
@@ -25,15 +27,6 @@ none_passes p (first ∷ rest) none = by (p first) refl none (none_passes p rest
     by : (b : Bool) → p first ≡ b → b || list_any p rest ≡ false → (list_any p rest ≡ false → Each (λ x. p x ≡ false) rest) → (p first ≡ false) × Each (λ x. p x ≡ false) rest
     by true is none more = cc
     by false is none more = (is, more none)
-
--- what holds of each that is made of some, and of parts of a list
-pub each_made : {X Y : Type 0} (P : Y → Type 0) (make : X → Y) (xs : List X) → Each P (map make xs) → Each (λ x. P (make x)) xs
-each_made P make [] all = tt
-each_made P make (first ∷ rest) all = (all.0, each_made P make rest all.1)
-
-pub each_weaker : {X : Type 0} (P Q : X → Type 0) → ((x : X) → P x → Q x) → (xs : List X) → Each P xs → Each Q xs
-each_weaker P Q gives [] all = tt
-each_weaker P Q gives (first ∷ rest) all = (gives first all.0, each_weaker P Q gives rest all.1)
 
 second_false : (at meets : Bool) → at ≡ true → (at && meets) && true ≡ false → meets ≡ false
 second_false true true is apart = cc
@@ -50,9 +43,17 @@ reversed Less = refl
 reversed Equal = refl
 reversed Greater = refl
 
+-- whether two keys are the same, whichever is named first
+pub keys_back : (one other : Key) → is_equal (key_cmp one other) ≡ is_equal (key_cmp other one)
+keys_back one other = ap is_equal (key_order.antisymm one other) ∙ reversed (key_cmp other one)
+
+-- and as the look-up of a key in a map tests it
+pub at_key : (key other : Key) → is_at (key_cmp key) other ≡ is_equal (key_cmp other key)
+at_key key other = equal_is (key_cmp key other) ∙ keys_back key other
+
 -- a row that is named by a key has it
 pub named_key : (table : TableDef) (key : Key) (row : Row) → has_key table key row ≡ keys_meet (Some (key_of table row)) (Some key)
-named_key table key row = ap is_equal (key_order.antisymm (key_of table row) key) ∙ reversed (key_cmp key (key_of table row))
+named_key table key row = keys_back (key_of table row) key
 
 -- tied keys meet the same items
 pub tied_meet : (key tie : Key) → key_cmp key tie ≡ Equal → (other : Option Key) → keys_meet (Some key) other ≡ keys_meet (Some tie) other

@@ -13,9 +13,9 @@ use Rattle.query_model.specs.Footprints.{item, key_column, pinned_by, pinned_key
 use Rattle.query_model.specs.Stored.{IsStored}
 use Rattle.query_model.specs.Truth.{cell, keeps}
 use Rattle.query_model.proofs.KeptByKey.{kept_of_rising, not_kept}
+use Rattle.state_model.proofs.PutRows.{rising_at}
 use Rattle.run_model.specs.Agree.{AgreeOn, keys_meet}
 use Rattle.run_model.proofs.FoundRows.{found_has, has_one_key}
-use Rattle.run_model.proofs.RisingKeys.{rising-at}
 use Rattle.run_model.proofs.TableRows.{AreInPlace, AreSame, no_rows, same_from_agree, stored_keys}
 
 -- what a condition pins in a table that is there
@@ -28,7 +28,7 @@ kept_of_key : (db : Db) (number : ℕ) (table : TableDef) (condition : BoundCond
     → pinned_by table.key.0 condition ≡ Some key
     → filter (keeps (Some condition)) (rows_at db.rows number) ≡ filter (keeps (Some condition)) (option_to_list (find (has_key table key) (rows_at db.rows number)))
 kept_of_key db number table condition key place is pins =
-    kept_of_rising table condition key pins (rows_at db.rows number) (rising-at db.schema.tables db.rows number table place.ordered.rising is)
+    kept_of_rising table condition key pins (rows_at db.rows number) (rising_at db.schema.tables db.rows number table place.ordered.rising is)
     (stored_keys db number table place is)
 
 module _ (db other : Db) (schema : db.schema ≡ other.schema) (place : AreInPlace db) (places : AreInPlace other) where

@@ -10,6 +10,7 @@ use Rattle.own_base.specs.declared.number.ColNo.{ColNo}
 use Rattle.own_base.specs.declared.value.Key.{Key}
 use Rattle.own_base.specs.declared.value.Value.{Value}
 use Rattle.own_base.specs.declared.value.Value.TheVariants.{Null}
+use Rattle.page_model.proofs.Ordered.{below_from_above}
 use Rattle.own_model.specs.declared.bound.BoundCond.{BoundCond}
 use Rattle.own_model.specs.declared.bound.BoundExpr.{BoundExpr}
 use Rattle.own_model.specs.declared.schema.TableDef.{TableDef}
@@ -20,10 +21,6 @@ use Rattle.query_model.specs.Truth.{cell, keeps}
 use Rattle.run_model.specs.Insert.{and_tuple, with_row, with_tuple, with_tuples}
 use Rattle.run_model.specs.Update.{Sets, rows_left, set_value, updated, updated_rows}
 use Rattle.run_model.proofs.TableLemmas.{IfRows}
-
--- the other way round
-greater_is_less : (x y : Key) → key_cmp x y ≡ Greater → key_cmp y x ≡ Less
-greater_is_less x y greater = rw (key_order.antisymm y x) (rw greater refl)
 
 -- what is below the first of rising keys is below each
 below_all : (k first : Key) (rest : List Key) → key_cmp k first ≡ Less → AllByRecursion (λ y. key_cmp first y ≡ Less) rest
@@ -60,7 +57,7 @@ module _ (table : TableDef) (row : Row) where
       rw is (below_with_row (key_of table first) rest is rising.0, more (rw is at absent))
   rising_step first rest rising absent more Equal is = let never : true ≡ false = rw is at absent in cc
   rising_step first rest rising absent more Greater is =
-      let less = greater_is_less (key_of table first) (key_of table row) is in
+      let less = below_from_above key_order (key_of table first) (key_of table row) is in
       rw is ((less, below_all (key_of table row) (key_of table first) (map (key_of table) rest) less rising.0), rising)
 
   -- a row whose key isn't there goes to its place
@@ -98,14 +95,7 @@ pub rising-with_tuples : (table : TableDef) (rows tuples : List Row) → IsRisin
 unfolding with_tuples
 rising-with_tuples table rows tuples rising = rising_fold table (Ok rows) tuples rising
 
--- the rows of the table of a number rise, and other rows that rise stand in their place
-pub rising-at : (tables : List TableDef) (rows : List (List Row)) (number : ℕ) (table : TableDef) → AreRising tables rows
-    → slice_get tables number ≡ Some table → IsRising table (rows_at rows number)
-rising-at [] rows number table rising is = cc
-rising-at (first ∷ tables) [] number table rising is = absurd rising
-rising-at (first ∷ tables) (one ∷ rows) zero table rising is = let same : first ≡ table = cc in subst (λ table. IsRising table one) same rising.0
-rising-at (first ∷ tables) (one ∷ rows) (suc number) table rising is = rising-at tables rows number table rising.1 is
-
+-- where the rows of each table rise, rows that rise stand in the place of those of one
 pub rising-set : (tables : List TableDef) (rows : List (List Row)) (number : ℕ) (table : TableDef) (new : List Row) → AreRising tables rows
     → slice_get tables number ≡ Some table → IsRising table new → AreRising tables (slice_set rows number new)
 rising-set [] rows number table new rising is news = cc

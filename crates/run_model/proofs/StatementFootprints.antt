@@ -22,7 +22,7 @@ use Rattle.run_model.proofs.SparedKeys.{footprinted}
 use Rattle.run_model.proofs.TableRows.{AreInPlace, agree_itself}
 
 -- one of the four does what it means, unless binding refuses it
-run_bound_of : (db : Db) (statement : Statement) → TakesRows statement → run db statement ≡ run_unless db (bound_statement db.schema statement)
+pub run_bound_of : (db : Db) (statement : Statement) → TakesRows statement → run db statement ≡ run_unless db (bound_statement db.schema statement)
 unfolding run
 run_bound_of db (Select select) takes = refl
 run_bound_of db (Insert table columns rows) takes = refl
@@ -42,7 +42,7 @@ pub same_schema-taking : (db : Db) (statement : Statement) → TakesRows stateme
 same_schema-taking db statement takes = same_schema-run db statement (adds_nothing statement takes)
 
 -- the items of a statement are those of what it means
-items_bound : (schema : Schema) (statement : Statement) (bound : Bound) → bound_statement schema statement ≡ Ok bound → items_of schema statement ≡ footprint_of schema bound
+pub items_bound : (schema : Schema) (statement : Statement) (bound : Bound) → bound_statement schema statement ≡ Ok bound → items_of schema statement ≡ footprint_of schema bound
 unfolding items_of
 items_bound schema statement bound is = rw is refl
 

@@ -108,14 +108,6 @@ rows-there (first ∷ tables) [] number table are is = absurd are
 rows-there (first ∷ tables) (one ∷ rows) zero table are is = refl
 rows-there (first ∷ tables) (one ∷ rows) (suc number) table are is = rows-there tables rows number table are.1 is
 
--- and may stand in it
-pub rows-at : (tables : List TableDef) (rows : List (List Row)) (number : ℕ) (table : TableDef) → AreRowsOf tables rows
-    → slice_get tables number ≡ Some table → AllByRecursion (IsRowOf table) (rows_at rows number)
-rows-at [] rows number table are is = cc
-rows-at (first ∷ tables) [] number table are is = absurd are
-rows-at (first ∷ tables) (one ∷ rows) zero table are is = let same : first ≡ table = cc in rw (← same) are.0
-rows-at (first ∷ tables) (one ∷ rows) (suc number) table are is = rows-at tables rows number table are.1 is
-
 -- other rows of the table in their place
 pub rows-set : (tables : List TableDef) (rows : List (List Row)) (place : ℕ) (table : TableDef) (new : List Row) → AreRowsOf tables rows
     → slice_get tables place ≡ Some table → AllByRecursion (IsRowOf table) new → AreRowsOf tables (slice_set rows place new)

@@ -19,9 +19,9 @@ use Rattle.query_model.specs.Stored.{IsStored}
 use Rattle.query_model.specs.Truth.{cell}
 use Rattle.state_model.specs.Rows.{AreOfKinds, AreRowsOf, IsOfKind, IsRowOf}
 use Rattle.state_model.specs.Sound.{IsWellFormed}
+use Rattle.state_model.proofs.StoredRows.{rows-at}
 use Rattle.run_model.specs.Agree.{AgreeOn}
 use Rattle.run_model.specs.Run.{stored}
-use Rattle.run_model.proofs.TableLemmas.{rows-at}
 
 -- the rows of a database rise by key in each table, and may stand there
 pub record AreInPlace (db : Db) : Type 0 where

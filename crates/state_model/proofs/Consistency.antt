@@ -33,7 +33,7 @@ use Rattle.state_model.specs.Rows.{AreOfKinds, AreRowsOf, IsOfKind, IsRowOf}
 use Rattle.state_model.specs.Same.{is_same_value}
 use Rattle.state_model.specs.Sound.{Sound}
 use Rattle.state_model.specs.Weight.{row_count, weight}
-use Rattle.state_model.proofs.FaultLemmas.{columns_pass, each_row, held_at}
+use Rattle.state_model.proofs.FaultLemmas.{columns_pass, each_row, column_value}
 use Rattle.state_model.proofs.Faultless.{IsFaultless, faultless-from}
 use Rattle.state_model.proofs.SameLemmas.{value_same}
 use Rattle.query_model.proofs.NoFaults.{none-if}
@@ -177,7 +177,7 @@ module _ (db : Db) (none : IsFaultless db) where
         let kind = no_sum held.table.columns held.row number value may.kinds held.value_is in
         names_case link.1 value some kind.0 kind.1 (not-false _ named)
 
-  shared_step : (table : TableDef) (rows : List Row) (row other : Row) (number : ℕ) (column : Column) (value : Value) → breaks_unique table rows row (held_at row number column) ≡ false
+  shared_step : (table : TableDef) (rows : List Row) (row other : Row) (number : ℕ) (column : Column) (value : Value) → breaks_unique table rows row (column_value row number column) ≡ false
       → column.unique ≡ true → value ≢ Null → cell row number ≡ value → cell other number ≡ value → Contains rows other → (has : Bool) → has_key table (key_of table row) other ≡ has
       → key_of table other ≡ key_of table row
   shared_step table rows row other number column value passes unique some own its among true has = one_key _ _ has
@@ -187,7 +187,7 @@ module _ (db : Db) (none : IsFaultless db) where
       subst (λ v. is_same_value (cell other number) v ≡ true) (its ∙ sym own) (value_same (cell other number)) in
       let shared = any_contained (λ other. not (has_key table (key_of table row) other) && is_same_value (cell other number) (cell row number)) rows other among
       (and_from _ _ (not_from_false _ has) same) in
-      let breaks : breaks_unique table rows row (held_at row number column) ≡ true = and_from _ _ (and_from _ _ unique (not_from_false _ whole)) shared in
+      let breaks : breaks_unique table rows row (column_value row number column) ≡ true = and_from _ _ (and_from _ _ unique (not_from_false _ whole)) shared in
       let never : true ≡ false = sym breaks ∙ passes in
       cc
 
@@ -228,4 +228,4 @@ pub consistent_from_sound : (db : Db) → Sound db → IsConsistent db
 consistent_from_sound db sound =
     let none = faultless-from db sound.faultless in
     let limits = rows_within db none.limit in
-    record { owned = owned db none; references = references db none sound.kept.rows; unique = unique db none; rows = limits.0; weighs = limits.1 }
+    record { owned = owned db none; references = references db none sound.well_formed.rows; unique = unique db none; rows = limits.0; weighs = limits.1 }

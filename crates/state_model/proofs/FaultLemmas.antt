@@ -1,5 +1,5 @@
--- No fault of a kind is no fault of any row, and of any column.
-use Rattle.std.proofs.Common.{◌≡◌, ℕ, zero, suc, ◌+◌, List, [], ◌∷◌, Bool, true, false, refl, subst, arith}
+-- What a row holds in a column, by the column's number. No fault of a kind is no fault of any row, and of any column.
+use Rattle.std.proofs.Common.{◌≡◌, ◌∙◌, ℕ, zero, suc, ◌+◌, List, [], ◌∷◌, length, Bool, true, false, ap, refl, subst, arith}
 use Rattle.std.specs.Prelude.{Contains, Some, flat_map, slice_get, if◌then◌else◌}
 use Rattle.std.specs.List.{AllByRecursion}
 use Rattle.own_model.specs.declared.refusal.Refusal.{Refusal}
@@ -9,65 +9,94 @@ use Rattle.own_model.specs.Db.{Db, Row}
 use Rattle.query_model.specs.Truth.{cell}
 use Rattle.schema_model.proofs.Places.{append-none, flat_map-none}
 use Rattle.subject_model.proofs.Members.{all_contained, all_from_contained}
-use Rattle.state_model.specs.Fault.{Held, faults_by, held_in, over_rows}
+use Rattle.state_model.specs.Fault.{ColumnValue, faults_by, column_values, over_rows}
 
 -- what a row holds in one column
-abbrev pub held_at : Row → ℕ → Column → Held
-held_at row number column = record { number = number; column = column; value = cell row number }
+abbrev pub column_value : Row → ℕ → Column → ColumnValue
+column_value row number column = record { number = number; column = column; value = cell row number }
 
 -- and in columns that are numbered from here on
-held_from : Row → ℕ → List Column → List Held
-held_from row number [] = []
-held_from row number (column ∷ columns) = held_at row number column ∷ held_from row (number + 1) columns
+values_from : Row → ℕ → List Column → List ColumnValue
+values_from row number [] = []
+values_from row number (column ∷ columns) = column_value row number column ∷ values_from row (number + 1) columns
+
+at_from : (row : Row) (number : ℕ) (columns : List Column) (place : ℕ) (column : Column) → slice_get columns place ≡ Some column
+    → slice_get (values_from row number columns) place ≡ Some (column_value row (number + place) column)
+unfolding values_from
+at_from row number [] place column is = cc
+at_from row number (first ∷ columns) zero column is =
+    let same : first ≡ column = cc in
+    let n : number ≡ number + zero = omega arith in
+    ap (λ c. Some (column_value row number c)) same ∙ ap (λ n. Some (column_value row n column)) n
+at_from row number (first ∷ columns) (suc place) column is =
+    let n : number + 1 + place ≡ number + suc place = omega arith in
+    at_from row (number + 1) columns place column is ∙ ap (λ n. Some (column_value row n column)) n
+
+length_from : (row : Row) (number : ℕ) (columns : List Column) → length (values_from row number columns) ≡ length columns
+unfolding values_from
+length_from row number [] = refl
+length_from row number (first ∷ columns) = ap suc (length_from row (number + 1) columns)
+
+-- it stands at the column's number among all that the row holds
+pub column_values-at : (table : TableDef) (row : Row) (number : ℕ) (column : Column) → slice_get table.columns number ≡ Some column → slice_get (column_values table row) number ≡ Some (column_value row number column)
+unfolding values_from
+column_values-at table row number column is =
+    let n : 0 + number ≡ number = omega arith in
+    at_from row 0 table.columns number column is ∙ ap (λ n. Some (column_value row n column)) n
+
+-- and there is one for each column
+pub length-column_values : (table : TableDef) (row : Row) → length (column_values table row) ≡ length table.columns
+unfolding values_from
+length-column_values table row = length_from row 0 table.columns
 
 -- what is refused of a value that a row holds
-abbrev refused : (Held → Bool) → (Held → Refusal) → Held → List Refusal
-refused breaks why held = if breaks held then why held ∷ [] else []
+abbrev pub refused : (ColumnValue → Bool) → (ColumnValue → Refusal) → ColumnValue → List Refusal
+refused breaks why one = if breaks one then why one ∷ [] else []
 
-module _ (breaks : Held → Bool) (why : Held → Refusal) (row : Row) where
-  refused_none : (held : Held) (b : Bool) → breaks held ≡ b → refused breaks why held ≡ [] → breaks held ≡ false
-  refused_none held true is none = let never : ◌≡◌ {A = List Refusal} (why held ∷ []) [] = rw is at none in cc
-  refused_none held false is none = is
+module _ (breaks : ColumnValue → Bool) (why : ColumnValue → Refusal) (row : Row) where
+  refused_none : (one : ColumnValue) (b : Bool) → breaks one ≡ b → refused breaks why one ≡ [] → breaks one ≡ false
+  refused_none one true is none = let never : ◌≡◌ {A = List Refusal} (why one ∷ []) [] = rw is at none in cc
+  refused_none one false is none = is
 
-  held_none : (number : ℕ) (columns : List Column) → flat_map (refused breaks why) (held_from row number columns) ≡ []
-      → (place : ℕ) (column : Column) → slice_get columns place ≡ Some column → breaks (held_at row (number + place) column) ≡ false
-  unfolding held_from
-  held_none number [] none place column is = cc
-  held_none number (first ∷ columns) none zero column is =
-      let both = append-none (refused breaks why (held_at row number first)) (flat_map (refused breaks why) (held_from row (number + 1) columns)) none in
+  values_none : (number : ℕ) (columns : List Column) → flat_map (refused breaks why) (values_from row number columns) ≡ []
+      → (place : ℕ) (column : Column) → slice_get columns place ≡ Some column → breaks (column_value row (number + place) column) ≡ false
+  unfolding values_from
+  values_none number [] none place column is = cc
+  values_none number (first ∷ columns) none zero column is =
+      let both = append-none (refused breaks why (column_value row number first)) (flat_map (refused breaks why) (values_from row (number + 1) columns)) none in
       let same : first ≡ column = cc in
       let n : number ≡ number + zero = omega arith in
-      subst (λ n. breaks (held_at row n column) ≡ false) n (subst (λ c. breaks (held_at row number c) ≡ false) same (refused_none (held_at row number first) _ refl both.0))
-  held_none number (first ∷ columns) none (suc place) column is =
-      let both = append-none (refused breaks why (held_at row number first)) (flat_map (refused breaks why) (held_from row (number + 1) columns)) none in
+      subst (λ n. breaks (column_value row n column) ≡ false) n (subst (λ c. breaks (column_value row number c) ≡ false) same (refused_none (column_value row number first) _ refl both.0))
+  values_none number (first ∷ columns) none (suc place) column is =
+      let both = append-none (refused breaks why (column_value row number first)) (flat_map (refused breaks why) (values_from row (number + 1) columns)) none in
       let n : number + 1 + place ≡ number + suc place = omega arith in
-      subst (λ n. breaks (held_at row n column) ≡ false) n (held_none (number + 1) columns both.1 place column is)
+      subst (λ n. breaks (column_value row n column) ≡ false) n (values_none (number + 1) columns both.1 place column is)
 
-  none_held : (number : ℕ) (columns : List Column) → ((place : ℕ) (column : Column) → slice_get columns place ≡ Some column → breaks (held_at row (number + place) column) ≡ false)
-      → flat_map (refused breaks why) (held_from row number columns) ≡ []
-  unfolding held_from
-  none_held number [] each = refl
-  none_held number (first ∷ columns) each =
+  none_valued : (number : ℕ) (columns : List Column) → ((place : ℕ) (column : Column) → slice_get columns place ≡ Some column → breaks (column_value row (number + place) column) ≡ false)
+      → flat_map (refused breaks why) (values_from row number columns) ≡ []
+  unfolding values_from
+  none_valued number [] each = refl
+  none_valued number (first ∷ columns) each =
       let n : number + 0 ≡ number = omega arith in
-      let own : breaks (held_at row number first) ≡ false = subst (λ n. breaks (held_at row n first) ≡ false) n (each 0 first refl) in
-      rw own (none_held (number + 1) columns (λ place column is.
+      let own : breaks (column_value row number first) ≡ false = subst (λ n. breaks (column_value row n first) ≡ false) n (each 0 first refl) in
+      rw own (none_valued (number + 1) columns (λ place column is.
       let n : number + suc place ≡ number + 1 + place = omega arith in
-      subst (λ n. breaks (held_at row n column) ≡ false) n (each (suc place) column is)))
+      subst (λ n. breaks (column_value row n column) ≡ false) n (each (suc place) column is)))
 
   -- where nothing is refused of what a row holds, nothing is wrong in any column
-  pub columns_pass : (table : TableDef) → flat_map (refused breaks why) (held_in table row) ≡ [] → (number : ℕ) (column : Column) → slice_get table.columns number ≡ Some column
-      → breaks (held_at row number column) ≡ false
-  unfolding held_from
+  pub columns_pass : (table : TableDef) → flat_map (refused breaks why) (column_values table row) ≡ [] → (number : ℕ) (column : Column) → slice_get table.columns number ≡ Some column
+      → breaks (column_value row number column) ≡ false
+  unfolding values_from
   columns_pass table none number column is =
       let n : 0 + number ≡ number = omega arith in
-      subst (λ n. breaks (held_at row n column) ≡ false) n (held_none 0 table.columns none number column is)
+      subst (λ n. breaks (column_value row n column) ≡ false) n (values_none 0 table.columns none number column is)
 
   -- and back
-  pub pass_columns : (table : TableDef) → ((number : ℕ) (column : Column) → slice_get table.columns number ≡ Some column → breaks (held_at row number column) ≡ false)
-      → flat_map (refused breaks why) (held_in table row) ≡ []
-  unfolding held_from
+  pub pass_columns : (table : TableDef) → ((number : ℕ) (column : Column) → slice_get table.columns number ≡ Some column → breaks (column_value row number column) ≡ false)
+      → flat_map (refused breaks why) (column_values table row) ≡ []
+  unfolding values_from
   pass_columns table each =
-      none_held 0 table.columns (λ number column is. let n : number ≡ 0 + number = omega arith in subst (λ n. breaks (held_at row n column) ≡ false) n (each number column is))
+      none_valued 0 table.columns (λ number column is. let n : number ≡ 0 + number = omega arith in subst (λ n. breaks (column_value row n column) ≡ false) n (each number column is))
 
 none_flat_map : {X Y : Type 0} (f : X → List Y) (xs : List X) → AllByRecursion (λ x. f x ≡ []) xs → flat_map f xs ≡ []
 none_flat_map f [] all = refl

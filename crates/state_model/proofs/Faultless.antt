@@ -1,10 +1,14 @@
 -- A database has no fault where it has none of each kind.
-use Rattle.std.proofs.Common.{◌≡◌, List, [], ◌∷◌, ◌++◌, refl}
+use Rattle.std.proofs.Common.{◌≡◌, ◌≤◌, List, [], ◌∷◌, ◌++◌, refl}
 use Rattle.std.specs.Prelude.{None}
+use Rattle.std.proofs.lemmas.Bool.{ltb-false}
+use Rattle.own_model.specs.declared.limit.TheConstants.{STORE_ROWS}
 use Rattle.own_model.specs.declared.refusal.Refusal.{Refusal}
 use Rattle.own_model.specs.Db.{Db}
 use Rattle.schema_model.proofs.Places.{append-none}
+use Rattle.query_model.proofs.NoFaults.{none-first, none-if}
 use Rattle.state_model.specs.Fault.{fault, first_of, limit_faults, owner_faults, reference_faults, unique_faults}
+use Rattle.state_model.specs.Weight.{row_count}
 
 -- no fault of any kind
 pub record IsFaultless (db : Db) : Type 0 where
@@ -31,3 +35,9 @@ faultless-from db none =
 pub from-faultless : (db : Db) → IsFaultless db → fault db ≡ None
 unfolding fault
 from-faultless db none = rw (none.unique, none.reference, none.owner, none.limit) refl
+
+-- a database without a fault has no more rows than a store may have
+pub few_rows : (db : Db) → fault db ≡ None → row_count db ≤ STORE_ROWS
+few_rows db none =
+    let limit = (faultless-from db none).limit in
+    ltb-false STORE_ROWS (row_count db) (none-if _ _ (none-first _ _ limit))

@@ -153,7 +153,7 @@ module _ (db : Db) (kept : IsWellFormed db) (consistent : IsConsistent db) where
   pub sound_from_consistent : Sound db
   unfolding unique_faults reference_faults owner_faults
   sound_from_consistent = record {
-    kept = kept;
+    well_formed = kept;
     faultless = from-faultless db (record {
       unique = row_each unique_rule db unique_none;
       reference = row_each (reference_rule db) db reference_none;

@@ -16,6 +16,7 @@ use Rattle.own_model.specs.Db.{Db, IsOrdered, Row}
 use Rattle.own_model.specs.Stored.{rows_at}
 use Rattle.schema_model.specs.OwnerSchema.{IsOwnerSchema}
 use Rattle.schema_model.proofs.Places.{append-none}
+use Rattle.query_model.proofs.NoFaults.{none-if}
 use Rattle.subject_model.specs.Forget.{forget, left_from, left_in}
 use Rattle.subject_model.proofs.ForgetRows.{left_in-images, named_in, row_left, stays_in}
 use Rattle.state_model.specs.Fault.{limit_faults}
@@ -99,11 +100,6 @@ module _ (db : Db) (subject : RowName) where
   pub lighter : IsOrdered db → IsOwnerSchema db.schema → OwnersStay db subject → weight (forget db subject) ≤ weight db
   unfolding weight forget
   lighter ordered owner owned = sum-falls _ _ _ _ (rows-lighter db subject ordered owner owned) views-lighter
-
--- a test that gives nothing fails
-none-if : {X : Type 0} (test : Bool) (x : X) → (if test then x ∷ [] else []) ≡ [] → test ≡ false
-none-if true x none = let never : ⊥ = cc in absurd never
-none-if false x none = refl
 
 -- what is less passes no limit
 within-still : (most before after : ℕ) → after ≤ before → nat_lt most before ≡ false → nat_lt most after ≡ false

@@ -24,14 +24,14 @@ module _ (db : Db) (subject : RowName) (of_subjects : IsTrue (is_subject db.sche
   -- and nothing else is wrong
   pub sound-forget : Sound db → Sound (forget db subject)
   sound-forget sound =
-      let owner = owner_schema-created db sound.kept.created in
+      let owner = owner_schema-created db sound.well_formed.created in
       let before = faultless-from db sound.faultless in
       record {
-        kept = kept-forget db subject sound.kept;
+        well_formed = kept-forget db subject sound.well_formed;
         faultless = from-faultless (forget db subject) (record {
           unique = unique_faults-forget db subject owner before.unique;
           reference = reference_faults-forget db subject owner before.reference;
-          owner = owner_faults-forget db subject owner sound.kept.ordered of_subjects;
-          limit = limit_faults-forget sound.kept before.limit;
+          owner = owner_faults-forget db subject owner sound.well_formed.ordered of_subjects;
+          limit = limit_faults-forget sound.well_formed before.limit;
         });
       }

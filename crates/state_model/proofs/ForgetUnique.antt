@@ -18,7 +18,7 @@ use Rattle.subject_model.proofs.ForgetRows.{contains_left_in, named_in, row_left
 use Rattle.subject_model.proofs.Members.{any_contained, contains_any}
 use Rattle.state_model.specs.Fault.{breaks_unique, is_shared, unique_rule}
 use Rattle.state_model.specs.Same.{is_same_value}
-use Rattle.state_model.proofs.FaultLemmas.{columns_pass, held_at, pass_columns}
+use Rattle.state_model.proofs.FaultLemmas.{columns_pass, column_value, pass_columns}
 
 -- a value that isn't NULL was kept
 kept_whole : (lost : Bool) (value : Value) → is_null (kept_value lost value) ≡ false → kept_value lost value ≡ value
@@ -91,6 +91,6 @@ module _ (db : Db) (subject : RowName) (owner : IsOwnerSchema db.schema) (number
       let own = not-true (is_null (cell left place)) whole.1 in
       let shared = shared_before row place own parts.1 in
       let some : not (is_null (cell row place)) ≡ true = subst (λ v. not (is_null v) ≡ true) (held_before row place own) whole.1 in
-      let broke : breaks_unique table rows row (held_at row place column) ≡ true = and_from _ _ (and_from _ _ whole.0 some) shared in
+      let broke : breaks_unique table rows row (column_value row place column) ≡ true = and_from _ _ (and_from _ _ whole.0 some) shared in
       let never : true ≡ false = sym broke ∙ before in
       cc))

@@ -27,6 +27,7 @@ pub mod OwnerCounts
 pub mod OwnersLeft
 pub mod PlainKinds
 pub mod SameLemmas
+pub mod StoredRows
 pub mod TableOwners
 pub mod TableRows
 pub mod TableSound

@@ -68,3 +68,12 @@ found_has key_of key (y ∷ xs) x is = by (is_eq (key_cmp (key_of y) key)) refl 
     by : (b : Bool) → is_eq (key_cmp (key_of y) key) ≡ b → (found key_of key_cmp key xs ≡ Some x → is_eq (key_cmp (key_of x) key) ≡ true) → cond b (Some y) (found key_of key_cmp key xs) ≡ Some x → is_eq (key_cmp (key_of x) key) ≡ true
     by true has more here = let same : y ≡ x = cc in subst (λ z. is_eq (key_cmp (key_of z) key) ≡ true) same has
     by false other more there = more there
+
+-- what holds of whatever is made holds of all that is made
+pub all-filter_map : {X Y : Type 0} (P : Y → Type 0) (make : X → Option Y) → ((x : X) → IfSome (make x) P) → (xs : List X) → Each P (filter_map make xs)
+all-filter_map P make holds [] = tt
+all-filter_map {X} {Y} P make holds (x ∷ xs) = by (make x) (holds x) (all-filter_map P make holds xs)
+  where
+    by : (made : Option Y) → IfSome made P → Each P (filter_map make xs) → Each P (cons_option made (filter_map make xs))
+    by None is more = more
+    by (Some y) is more = (is, more)

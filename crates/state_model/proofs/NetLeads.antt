@@ -60,7 +60,7 @@ module _ (number : ℕ) (table : TableDef) (before after : List Row) where
   of_number = each_member _ (net_in number table before after) (λ change among. (change_told number table before after change among).number_is)
 
 -- those of tables from a number on are of numbers from it on
-from_number : (number : ℕ) (tables : List TableDef) (befores afters : List (List Row)) → Each (λ change. number ≤ change.name.table.0) (net_from number tables befores afters)
+pub from_number : (number : ℕ) (tables : List TableDef) (befores afters : List (List Row)) → Each (λ change. number ≤ change.name.table.0) (net_from number tables befores afters)
 from_number number tables befores afters =
     each_member _ (net_from number tables befores afters)
     (λ change among. let from = from_told number tables befores afters change among in let is = from.at.number_is in omega arith)

@@ -1,9 +1,8 @@
 -- The names of a net rise strictly: by table, then by key.
-use Rattle.std.proofs.Common.{◌≡◌, ℕ, ◌+◌, ◌≤◌, List, [], ◌∷◌, ◌++◌, fold, map, Bool, true, false, refl, ap, sym, ◌∙◌, subst, arith}
+use Rattle.std.proofs.Common.{◌≡◌, ℕ, ◌+◌, ◌≤◌, List, [], ◌∷◌, ◌++◌, fold, map, Bool, true, false, refl, ap, sym, subst, arith}
 use Rattle.std.specs.Prelude.{Option, None, Some, filter_map}
 use Rattle.std.specs.List.{AllByRecursion, cons_option}
 use Rattle.std.specs.List.Sorted.{IsStrictlySortedBy}
-use Rattle.std.specs.Ordering.{ordering_reverse}
 use Rattle.std.specs.declared.cmp.Ordering.{Ordering}
 use Rattle.std.specs.declared.cmp.Ordering.TheVariants.{Less, Equal, Greater}
 use Rattle.std.proofs.lemmas.List.{map-append}
@@ -14,6 +13,7 @@ use Rattle.own_base.specs.declared.value.Key.{Key}
 use Rattle.own_model.specs.declared.schema.TableDef.{TableDef}
 use Rattle.own_model.specs.Db.{Db, Row, key_of}
 use Rattle.own_model.proofs.KeyOrder.{key_order}
+use Rattle.page_model.proofs.Ordered.{below_from_above}
 use Rattle.query_model.specs.Footprints.{at_first, with_key}
 use Rattle.schema_model.proofs.Places.{all-append, all-weaker}
 use Rattle.subject_model.specs.NameOrder.{name_cmp}
@@ -29,12 +29,9 @@ module _ (P : Key → Type 0) (new : Key) (own : P new) where
   all_first Greater first rest further has all more = (has, more)
 
   -- what is true of a key and of those among which it comes is true of all
-  all-with_key : (keys : List Key) → AllByRecursion P keys → AllByRecursion P (with_key new keys)
+  pub all-with_key : (keys : List Key) → AllByRecursion P keys → AllByRecursion P (with_key new keys)
   all-with_key [] all = (own, tt)
   all-with_key (first ∷ rest) all = all_first (key_cmp new first) first rest (with_key new rest) all.0 all.1 (all-with_key rest all.1)
-
-above : (one other : Key) → key_cmp one other ≡ Greater → key_cmp other one ≡ Less
-above one other is = key_order.antisymm other one ∙ ap ordering_reverse is
 
 rise_first : (new first : Key) (rest : List Key) → IsStrictlySortedBy key_cmp (first ∷ rest) → IsStrictlySortedBy key_cmp (with_key new rest) → (o : Ordering) → key_cmp new first ≡ o
     → IsStrictlySortedBy key_cmp (at_first o new first rest (with_key new rest))
@@ -42,7 +39,7 @@ unfolding IsStrictlySortedBy
 rise_first new first rest up more Less is =
     ((is, all-weaker (λ key. key_cmp first key ≡ Less) (λ key. key_cmp new key ≡ Less) (λ key later. key_order.trans new first key is later) rest up.0), up)
 rise_first new first rest up more Equal is = up
-rise_first new first rest up more Greater is = (all-with_key (λ key. key_cmp first key ≡ Less) new (above new first is) rest up.0, more)
+rise_first new first rest up more Greater is = (all-with_key (λ key. key_cmp first key ≡ Less) new (below_from_above key_order new first is) rest up.0, more)
 
 -- keys that rise do so with one more
 rise-with_key : (new : Key) (keys : List Key) → IsStrictlySortedBy key_cmp keys → IsStrictlySortedBy key_cmp (with_key new keys)
@@ -54,9 +51,10 @@ rise_put : (table : TableDef) (rows : List Row) (keys : List Key) → IsStrictly
 rise_put table [] keys up = up
 rise_put table (row ∷ rows) keys up = rise_put table rows (with_key (key_of table row) keys) (rise-with_key (key_of table row) keys up)
 
-keys_rise : (table : TableDef) (rows : List Row) → IsStrictlySortedBy key_cmp (keys_in table rows)
+-- so do those of rows
+pub keys_in-rise : (table : TableDef) (rows : List Row) → IsStrictlySortedBy key_cmp (keys_in table rows)
 unfolding IsStrictlySortedBy
-keys_rise table rows = rise_put table rows [] tt
+keys_in-rise table rows = rise_put table rows [] tt
 
 -- the name of a change
 abbrev called : Change → RowName
@@ -125,7 +123,7 @@ from_rise number (table ∷ tables) (before ∷ befores) (after ∷ afters) =
     let own = map called (net_in number table before after) in
     let later = map called (net_from (number + 1) tables befores afters) in
     rw (map-append called (net_in number table before after) (net_from (number + 1) tables befores afters))
-    (rising_append name_cmp own later (told_rise number table before after (keys_in table (before ++ after)) (keys_rise table (before ++ after))) (from_rise (number + 1) tables befores afters)
+    (rising_append name_cmp own later (told_rise number table before after (keys_in table (before ++ after)) (keys_in-rise table (before ++ after))) (from_rise (number + 1) tables befores afters)
     (λ one other here there.
     let at = all_contained (λ name. name.table.0 ≤ number) own one (all_told number table before after (λ name. name.table.0 ≤ number) (keys_in table (before ++ after)) (each (keys_in table (before ++ after)))) here in
     let least = all_contained (λ name. number + 1 ≤ name.table.0) later other (no_lower (number + 1) tables befores afters) there in

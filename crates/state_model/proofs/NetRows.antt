@@ -192,7 +192,7 @@ told_from number (first ∷ tables) (before ∷ befores) (after ∷ afters) rb r
     (told_from (number + 1) tables befores afters rb.1 ra.1 change place table is (subst (λ n. IsChangeAt n table (rows_at befores place) (rows_at afters place) change) n at))
 
 -- the row of a name of a table
-named_at : (db : Db) (name : RowName) (table : TableDef) → slice_get db.schema.tables name.table.0 ≡ Some table → row_of db name ≡ find (has_key table name.key) (rows_at db.rows name.table.0)
+pub named_at : (db : Db) (name : RowName) (table : TableDef) → slice_get db.schema.tables name.table.0 ≡ Some table → row_of db name ≡ find (has_key table name.key) (rows_at db.rows name.table.0)
 unfolding row_named
 named_at db name table at = rw at refl
 

@@ -1,16 +1,15 @@
 -- How many own a row, and how many see it.
-use Rattle.std.proofs.Common.{◌≡◌, ◌+◌, ◌<◌, [], ◌∷◌, length, map, true, false, sym, ◌∙◌, subst}
-use Rattle.std.specs.Prelude.{◌&&◌, Contains, filter}
+use Rattle.std.proofs.Common.{◌≡◌, ◌+◌, ◌<◌, length, true, false, sym, ◌∙◌}
+use Rattle.std.specs.Prelude.{◌&&◌, filter}
 use Rattle.std.proofs.lemmas.Bool.{and_parts, false_from_ne_true}
 use Rattle.own_base.specs.declared.row_name.RowName.{RowName}
 use Rattle.own_model.specs.Db.{Db, IsOrdered}
 use Rattle.schema_model.specs.OwnerSchema.{IsOwnerSchema}
-use Rattle.subject_model.specs.Named.{named_rows}
 use Rattle.subject_model.specs.Owners.{has_owner, is_owner_path, leads_to, owners, owns, reaches, subjects}
-use Rattle.subject_model.specs.Paths.{IsPath, Path, is_subject_row, paths}
-use Rattle.subject_model.proofs.Members.{any_contained, contains_any, contains_filter, contains_map}
-use Rattle.subject_model.proofs.NamedLemmas.{named-there}
+use Rattle.subject_model.specs.Paths.{paths}
+use Rattle.subject_model.proofs.Members.{any_contained, contains_any, contains_filter}
 use Rattle.subject_model.proofs.OwnerLemmas.{from_owns, owner_from}
+use Rattle.subject_model.proofs.OwnerLists.{subject_row-ends, subjects_contain}
 use Rattle.state_model.specs.Weight.{seers}
 use Rattle.state_model.proofs.Counts.{apart, none-counted, some-counted}
 
@@ -33,24 +32,12 @@ pub seers-owners : (db : Db) (name : RowName) → seers db name + length (owners
 unfolding owners
 seers-owners db name = apart (λ subject. reaches db subject name) (λ subject. owns db subject name) (owner-reaches db name) (subjects db)
 
--- a path ends at a subject row
-subject-end : (db : Db) (from : RowName) (path : Path) (subject : RowName) → IsPath db from path subject → is_subject_row db subject ≡ true
-subject-end db from [] subject is = subst (λ name. is_subject_row db name ≡ true) is.1 is.0
-subject-end db from (step ∷ rest) subject is = subject-end db step.upper rest subject is.1.1
-
--- which is there
-subject-there : (db : Db) (subject : RowName) → IsOrdered db → is_subject_row db subject ≡ true → Contains (subjects db) subject
-unfolding is_subject_row
-subject-there db subject ordered is =
-    let (row, among) = named-there db subject ordered (and_parts _ _ is).1 in
-    contains_filter (is_subject_row db) (map (λ named. named.name) (named_rows db)) subject (contains_map (λ named. named.name) (named_rows db) _ among) is
-
 -- where a row has an owner, some are counted
 pub some-owners : (db : Db) (name : RowName) → IsOrdered db → IsOwnerSchema db.schema → has_owner db name ≡ true → 0 < length (owners db name)
 unfolding owners
 some-owners db name ordered owner has =
     let (subject, is) = owner_from db name has in
-    let there = subject-there db subject ordered (subject-end db name is.path subject is.leads) in
+    let there = subjects_contain db subject ordered (subject_row-ends db name is.path subject is.leads) in
     some-counted _ subject (contains_filter (λ subject. owns db subject name) (subjects db) subject there (from_owns db subject name ordered owner is))
 
 -- and where it has none, none are

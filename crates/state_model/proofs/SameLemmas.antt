@@ -1,52 +1,33 @@
 -- What is the same is one.
-use Rattle.std.proofs.Common.{◌≡◌, ℕ, List, [], ◌∷◌, true, false, ap, refl, eq-eqb}
-use Rattle.std.specs.Prelude.{◌==◌, Option, None, Some, bytes_eq}
+use Rattle.std.proofs.Common.{◌≡◌, [], ◌∷◌, true, false, ap, refl}
+use Rattle.std.specs.Prelude.{Option, None, Some}
 use Rattle.std.specs.Ordering.{int_cmp}
-use Rattle.std.specs.declared.cmp.Ordering.{Ordering}
-use Rattle.std.specs.declared.cmp.Ordering.TheVariants.{Less, Equal, Greater}
-use Rattle.std.proofs.lemmas.Bool.{and_from, and_parts, eqb-true}
+use Rattle.std.proofs.lemmas.Bool.{and_from, and_parts}
 use Rattle.std.proofs.lemmas.Cmp.{int_cmp_total, tied_itself}
 use Rattle.std.proofs.lemmas.Map.Lookups.{exact_signed}
 use Rattle.own_base.specs.declared.value.Value.{Value}
 use Rattle.own_base.specs.declared.value.Value.TheVariants.{Null, Int, Text, Sum}
 use Rattle.own_model.specs.Db.{Row}
 use Rattle.own_model.specs.Stored.{is_equal}
+use Rattle.schema_model.proofs.Names.{equal_name, same_name}
+use Rattle.query_model.proofs.RowOfKey.{equal_from}
 use Rattle.state_model.specs.Same.{is_same_row, is_same_state, is_same_value}
-
-tied : (o : Ordering) → is_equal o ≡ true → o ≡ Equal
-tied Less is = let never : false ≡ true = is in cc
-tied Equal is = refl
-tied Greater is = let never : false ≡ true = is in cc
-
-bytes_same : (bytes : List ℕ) → bytes_eq bytes bytes ≡ true
-bytes_same [] = refl
-bytes_same (byte ∷ bytes) = and_from _ _ (eq-eqb byte byte refl) (bytes_same bytes)
-
-one_bytes : (one other : List ℕ) → bytes_eq one other ≡ true → one ≡ other
-one_bytes [] [] is = refl
-one_bytes [] (byte ∷ other) is = let never : false ≡ true = is in cc
-one_bytes (byte ∷ one) [] is = let never : false ≡ true = is in cc
-one_bytes (byte ∷ one) (another ∷ other) is =
-    let both = and_parts (byte == another) (bytes_eq one other) is in
-    let first : byte ≡ another = eqb-true byte another both.0 in
-    let rest = one_bytes one other both.1 in
-    cc
 
 -- a value is the same as itself
 pub value_same : (value : Value) → is_same_value value value ≡ true
 unfolding is_same_value
 value_same Null = refl
 value_same (Int number) = ap is_equal (tied_itself int_cmp_total number)
-value_same (Text bytes) = bytes_same bytes
+value_same (Text bytes) = equal_name bytes bytes refl
 value_same (Sum number) = ap is_equal (tied_itself int_cmp_total number)
 
 -- and as no other
 pub one_value : (one other : Value) → is_same_value one other ≡ true → one ≡ other
 unfolding is_same_value
 one_value Null Null is = refl
-one_value (Int one) (Int other) is = ap Int (exact_signed one other (tied (int_cmp one other) is))
-one_value (Text one) (Text other) is = ap Text (one_bytes one other is)
-one_value (Sum one) (Sum other) is = ap Sum (exact_signed one other (tied (int_cmp one other) is))
+one_value (Int one) (Int other) is = ap Int (exact_signed one other (equal_from (int_cmp one other) is))
+one_value (Text one) (Text other) is = ap Text (same_name one other is)
+one_value (Sum one) (Sum other) is = ap Sum (exact_signed one other (equal_from (int_cmp one other) is))
 one_value Null (Int other) is = let never : false ≡ true = is in cc
 one_value Null (Text other) is = let never : false ≡ true = is in cc
 one_value Null (Sum other) is = let never : false ≡ true = is in cc

@@ -25,7 +25,8 @@ use Rattle.schema_model.proofs.RuledLemmas.{kind_of_edge, reference_of_edge, tar
 use Rattle.subject_model.specs.Named.{is_there}
 use Rattle.state_model.proofs.TableRows.{in_contained, there-below}
 
-or_none : {T : Type 0} (one other : Option T) → option_or one other ≡ None → (one ≡ None) × (other ≡ None)
+-- two options give nothing where neither does
+pub or_none : {T : Type 0} (one other : Option T) → option_or one other ≡ None → (one ≡ None) × (other ≡ None)
 or_none None other none = (refl, none)
 or_none (Some why) other none = let never : ⊥ = cc in absurd never
 

@@ -2,6 +2,7 @@
 use Rattle.std.proofs.Common.{◌≡◌, ℕ, zero, suc, ◌+◌, ◌<◌, List, [], ◌∷◌, ◌++◌, length, Bool, true, false, inl, inr, refl, ap, sym, ◌∙◌, arith}
 use Rattle.std.specs.Prelude.{◌&&◌, Contains, Option, Some, find, is_some, slice_get}
 use Rattle.std.specs.Option.{option_and_then}
+use Rattle.std.proofs.Math.Bool.{and-false}
 use Rattle.std.proofs.lemmas.List.Elements.{Contains-append_cases, Contains-append_left}
 use Rattle.own_base.specs.declared.row_name.RowName.{RowName}
 use Rattle.own_base.specs.declared.value.Key.{Key}
@@ -54,10 +55,6 @@ rows_at-with [] (suc number) = refl
 rows_at-with (one ∷ rows) zero = refl
 rows_at-with (one ∷ rows) (suc number) = rows_at-with rows number
 
-and_false : (b : Bool) → (b && false) ≡ false
-and_false true = refl
-and_false false = refl
-
 -- what a list contains stands at a place
 pub in_contained : {X : Type 0} (xs : List X) (x : X) → Contains xs x → IsIn xs x
 in_contained [] x among = absurd (contains_none x among)
@@ -93,8 +90,8 @@ module _ (db : Db) (table : CreateTable) (ordered : IsOrdered db) where
       λ i. (old_subject db.schema table name.table.0 (there-below db name there) i) && (is_there-create name i)
   subject_case name false none =
       ap (λ there. is_subject (with_table db.schema table) name.table.0 && there) (is_there-create name ∙ none)
-      ∙ and_false (is_subject (with_table db.schema table) name.table.0)
-      ∙ sym (ap (λ there. is_subject db.schema name.table.0 && there) none ∙ and_false (is_subject db.schema name.table.0))
+      ∙ and-false (is_subject (with_table db.schema table) name.table.0)
+      ∙ sym (ap (λ there. is_subject db.schema name.table.0 && there) none ∙ and-false (is_subject db.schema name.table.0))
 
   -- and so are the data subjects
   pub subject_row-create : (name : RowName) → is_subject_row (create db table) name ≡ is_subject_row db name

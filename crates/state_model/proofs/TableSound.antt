@@ -97,4 +97,4 @@ module _ (db : Db) (table : CreateTable) (kept : IsWellFormed db) (none : refusa
 pub sound-create : (db : Db) (table : CreateTable) → Sound db → IsReadable (Run (statement_of (OfTable table))) → refusal_of db.schema (holds_rows db.rows) table ≡ None
     → Sound (create db table)
 sound-create db table sound readable none =
-    (sound-iff_consistent (create db table) (kept-create db table sound.kept readable none)).1 (consistent-create db table sound.kept none (consistent_from_sound db sound))
+    (sound-iff_consistent (create db table) (kept-create db table sound.well_formed readable none)).1 (consistent-create db table sound.well_formed none (consistent_from_sound db sound))

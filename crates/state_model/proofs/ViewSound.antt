@@ -113,9 +113,9 @@ pub fault-create_view : (db : Db) (view : CreateView) → Sound db
 unfolding fault
 fault-create_view db view sound =
     let before = faultless-from db sound.faultless in
-    let unique = unique-create_view db view sound.kept ∙ before.unique in
-    let reference = reference-create_view db view sound.kept ∙ before.reference in
-    let owners = owner_faults-create_view db view sound.kept ∙ before.owner in
+    let unique = unique-create_view db view sound.well_formed ∙ before.unique in
+    let reference = reference-create_view db view sound.well_formed ∙ before.reference in
+    let owners = owner_faults-create_view db view sound.well_formed ∙ before.owner in
     let limits = append-none _ _ before.limit in
     let rows : nat_lt STORE_ROWS (row_count (create_view db view)) ≡ false = few db view (none-if _ _ limits.0) in
-    rw (unique, reference, owners, rows, weight-create_view db view sound.kept) (only_limit _ _)
+    rw (unique, reference, owners, rows, weight-create_view db view sound.well_formed) (only_limit _ _)

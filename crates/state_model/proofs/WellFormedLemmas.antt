@@ -84,4 +84,4 @@ faultless-empty = refl
 
 -- it has no fault
 pub sound-empty : Sound empty
-sound-empty = record { kept = kept-empty; faultless = faultless-empty }
+sound-empty = record { well_formed = kept-empty; faultless = faultless-empty }

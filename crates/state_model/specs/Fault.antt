@@ -22,18 +22,18 @@ use Rattle.state_model.specs.Same.{is_same_value}
 use Rattle.state_model.specs.Weight.{row_count, weight}
 
 -- a column of a table with its number, and the value that a row has there
-pub record Held : Type 0 where
+pub record ColumnValue : Type 0 where
   pub number : ℕ
   pub column : Column
   pub value : Value
 
--- what a row holds in each of its table's columns, by number
-abbrev pub held_in : TableDef → Row → List Held
-held_in table row = held_from 0 table.columns
+-- what a row has in each of its table's columns, by number
+abbrev pub column_values : TableDef → Row → List ColumnValue
+column_values table row = values_from 0 table.columns
   where
-    held_from : ℕ → List Column → List Held
-    held_from number [] = []
-    held_from number (column ∷ columns) = record { number = number; column = column; value = cell row number } ∷ held_from (number + 1) columns
+    values_from : ℕ → List Column → List ColumnValue
+    values_from number [] = []
+    values_from number (column ∷ columns) = record { number = number; column = column; value = cell row number } ∷ values_from (number + 1) columns
 
 -- what a rule finds in the rows of each table, by table, then key
 unfoldable pub over_rows : (ℕ → TableDef → List Row → Row → List Refusal) → ℕ → List TableDef → List (List Row) → List Refusal
@@ -49,12 +49,12 @@ abbrev pub is_shared : TableDef → List Row → Key → ℕ → Value → Bool
 is_shared table rows key number value = list_any (λ other. not (has_key table key other) && is_same_value (cell other number) value) rows
 
 -- a UNIQUE column whose value, which isn't NULL, another row of the table holds too
-abbrev pub breaks_unique : TableDef → List Row → Row → Held → Bool
-breaks_unique table rows row held = (held.column.unique && not (is_null held.value)) && is_shared table rows (key_of table row) held.number held.value
+abbrev pub breaks_unique : TableDef → List Row → Row → ColumnValue → Bool
+breaks_unique table rows row one = (one.column.unique && not (is_null one.value)) && is_shared table rows (key_of table row) one.number one.value
 
 abbrev pub unique_rule : ℕ → TableDef → List Row → Row → List Refusal
 unique_rule number table rows row =
-    flat_map (λ held. if breaks_unique table rows row held then Unique table.name (key_of table row) held.column.name ∷ [] else []) (held_in table row)
+    flat_map (λ one. if breaks_unique table rows row one then Unique table.name (key_of table row) one.column.name ∷ [] else []) (column_values table row)
 
 -- whether there is a row of a table with this key; without a key there is nothing to be there
 abbrev pub names_a_row : Db → TableNo → Option Key → Bool
@@ -62,16 +62,16 @@ names_a_row db table None = true
 names_a_row db table (Some key) = is_there db (record { table = table; key = key })
 
 -- a reference that isn't NULL and names no row
-abbrev pub breaks_reference : Db → Held → Bool
-breaks_reference db held = by held.column.refers
+abbrev pub breaks_reference : Db → ColumnValue → Bool
+breaks_reference db one = by one.column.refers
   where
     by : Option (RefKind × TableNo) → Bool
     by None = false
-    by (Some link) = not (names_a_row db link.1 (literal_key held.value))
+    by (Some link) = not (names_a_row db link.1 (literal_key one.value))
 
 abbrev pub reference_rule : Db → ℕ → TableDef → List Row → Row → List Refusal
 reference_rule db number table rows row =
-    flat_map (λ held. if breaks_reference db held then Reference table.name (key_of table row) held.column.name ∷ [] else []) (held_in table row)
+    flat_map (λ one. if breaks_reference db one then Reference table.name (key_of table row) one.column.name ∷ [] else []) (column_values table row)
 
 -- a row of a private table without an owner
 abbrev pub owner_rule : Db → ℕ → TableDef → List Row → Row → List Refusal

@@ -14,5 +14,5 @@ pub record IsWellFormed (db : Db) : Type 0 where
 
 -- such a database without a fault; so each row of a private table has an owner
 pub record Sound (db : Db) : Type 0 where
-  pub kept : IsWellFormed db
+  pub well_formed : IsWellFormed db
   pub faultless : fault db ≡ None

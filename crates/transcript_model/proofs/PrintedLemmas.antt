@@ -10,11 +10,12 @@ use Rattle.std.proofs.lemmas.List.Sums.{fold-append}
 use Rattle.own_model.specs.declared.history.Entry.{Entry}
 use Rattle.own_model.specs.declared.script.ScriptCall.{ScriptCall}
 use Rattle.own_model.specs.Db.{Db}
+use Rattle.schema_model.proofs.Places.{slice_get-append_below}
 use Rattle.history_model.specs.History.{History}
 use Rattle.history_model.specs.Made.{Want, Spared, Unshown, Unmade, Called, added, after_call, entry_of, made, place_by}
 use Rattle.script_model.specs.Numbered.{count_of}
 use Rattle.transcript_model.specs.Printed.{is_of, lines_at, lines_of, looks, place_from, place_of, printed}
-use Rattle.history_model.proofs.HistoryLemmas.{reply-append, slice_get-append}
+use Rattle.history_model.proofs.HistoryLemmas.{reply-append}
 
 -- no entry is of the call
 abbrev pub NoneOf : ScriptCall → History → Type 0
@@ -76,7 +77,7 @@ looks-append : (base : Db) (history more : History) (place : ℕ) → place < le
 unfolding looks
 looks-append base history more place lt =
     let le : place ≤ length history = omega arith in
-    rw (take-append-le place history more le, slice_get-append history more place lt) refl
+    rw (take-append-le place history more le, slice_get-append_below history more place lt) refl
 
 lines_step : (base : Db) (history more : History) (called : Called) (place : Option ℕ) → place_of history called.call ≡ place
     → lines_at base (history ++ more) called place ≡ lines_at base history called place
@@ -100,10 +101,6 @@ printed-append base history more [] none = refl
 printed-append base history more (called ∷ calls) none =
     ap (λ lines. lines ++ printed base (history ++ more) calls) (lines_of-append base history more called none.0)
     ∙ ap (λ rest. lines_of base history called ++ rest) (printed-append base history more calls none.1)
-
-and_false : (b : Bool) → (b && false) ≡ false
-and_false true = refl
-and_false false = refl
 
 -- a smaller number is another
 unequal : (m n : ℕ) → m < n → (m == n) ≡ false

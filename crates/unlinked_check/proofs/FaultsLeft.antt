@@ -20,8 +20,8 @@ use Rattle.schema_model.specs.Tables.{is_private}
 use Rattle.subject_model.specs.Named.{name_of}
 use Rattle.subject_model.specs.Owners.{has_owner}
 use Rattle.subject_model.proofs.Members.{contains_any}
-use Rattle.state_model.specs.Fault.{Held, breaks_reference, breaks_unique, is_shared, names_a_row, owner_faults, owner_rule, reference_faults, reference_rule, unique_faults, unique_rule}
-use Rattle.state_model.proofs.FaultLemmas.{columns_pass, each_row, held_at, pass_columns, row_each}
+use Rattle.state_model.specs.Fault.{ColumnValue, breaks_reference, breaks_unique, is_shared, names_a_row, owner_faults, owner_rule, reference_faults, reference_rule, unique_faults, unique_rule}
+use Rattle.state_model.proofs.FaultLemmas.{columns_pass, each_row, column_value, pass_columns, row_each}
 use Rattle.commit_check.proofs.RowCounts.{length-rising}
 use Rattle.unlinked_check.specs.Unlinked.{is_unlinked}
 use Rattle.unlinked_check.proofs.LinkLemmas.{lone-refers, lone-unique, lower-linked, referred-linked}
@@ -85,12 +85,12 @@ module _ (db next : Db) (before : IsOrdered db) (after : IsOrdered (under db nex
   named_step link None linked = refl
   named_step link (Some key) linked = ap (λ (found : Option Row). is_some found) (same_row db next are (record { table = link.1; key = key }) linked)
 
-  refers_step : (held : Held) (refers : Option (RefKind × TableNo)) → held.column.refers ≡ refers → ((link : RefKind × TableNo) → refers ≡ Some link → is_unlinked db.schema link.1.0 ≡ false)
+  refers_step : (held : ColumnValue) (refers : Option (RefKind × TableNo)) → held.column.refers ≡ refers → ((link : RefKind × TableNo) → refers ≡ Some link → is_unlinked db.schema link.1.0 ≡ false)
       → breaks_reference db held ≡ breaks_reference (under db next) held
   refers_step held None is linked = rw is refl
   refers_step held (Some link) is linked = rw is (ap not (named_step link (literal_key held.value) (linked link refl)))
 
-  free_reference : (held : Held) → held.column.refers ≡ None → breaks_reference (under db next) held ≡ false
+  free_reference : (held : ColumnValue) → held.column.refers ≡ None → breaks_reference (under db next) held ≡ false
   free_reference held is = rw is refl
 
   reference_step : reference_faults db ≡ [] → (number : ℕ) (table : TableDef) (own : List Row) (row : Row) → slice_get db.schema.tables number ≡ Some table → slice_get next.rows number ≡ Some own → Contains own row
@@ -98,13 +98,13 @@ module _ (db next : Db) (before : IsOrdered db) (after : IsOrdered (under db nex
   unfolding reference_faults
   reference_step none number table own row is there among true lone =
       pass_columns (breaks_reference (under db next)) (λ held. Reference table.name (key_of table row) held.column.name) row table (λ place column at.
-      free_reference (held_at row place column) (lone-refers db.schema number table column lone is (among-at table.columns place column at)))
+      free_reference (column_value row place column) (lone-refers db.schema number table column lone is (among-at table.columns place column at)))
   reference_step none number table own row is there among false linked =
-      let why : Held → Refusal = λ held. Reference table.name (key_of table row) held.column.name in
+      let why : ColumnValue → Refusal = λ held. Reference table.name (key_of table row) held.column.name in
       let had = each_row (reference_rule db) db none number table own row is (there_before number own linked there) among in
       pass_columns (breaks_reference (under db next)) why row table (λ place column at.
       let passed = columns_pass (breaks_reference db) why row table had place column at in
-      sym (refers_step (held_at row place column) column.refers refl (λ link refers. referred-linked db.schema table column link (among-at db.schema.tables number table is) (among-at table.columns place column at) refers)) ∙ passed)
+      sym (refers_step (column_value row place column) column.refers refl (λ link refers. referred-linked db.schema table column link (among-at db.schema.tables number table is) (among-at table.columns place column at) refers)) ∙ passed)
 
   pub reference-left : reference_faults db ≡ [] → reference_faults (under db next) ≡ []
   unfolding reference_faults

@@ -1,8 +1,9 @@
 -- What links a table, and what one has with which nothing is linked.
 use Rattle.std.proofs.Common.{◌≡◌, ℕ, Bool, true, false, not, refl, sym, ap, ◌∙◌, eq-eqb}
-use Rattle.std.specs.Prelude.{◌&&◌, ◌||◌, ◌==◌, Contains, Option, None, Some, is_some, slice_get}
+use Rattle.std.specs.Prelude.{◌&&◌, ◌==◌, Contains, Option, None, Some, is_some, slice_get}
 use Rattle.std.specs.List.{list_any}
 use Rattle.std.specs.Option.{option_map_or}
+use Rattle.std.proofs.lemmas.Bool.{or_left, or_right}
 use Rattle.own_base.specs.declared.number.TableNo.{TableNo}
 use Rattle.own_model.specs.declared.schema.Column.{Column}
 use Rattle.own_model.specs.declared.schema.Edge.{Edge}
@@ -25,13 +26,6 @@ third_cause true b c is = refl
 third_cause false true c is = refl
 third_cause false false c is = rw is refl
 
-left_true : (a b : Bool) → a ≡ true → (a || b) ≡ true
-left_true a b is = rw is refl
-
-right_true : (a b : Bool) → b ≡ true → (a || b) ≡ true
-right_true true b is = refl
-right_true false b is = is
-
 module _ (schema : Schema) where
   -- the tables of an edge are linked
   touched : (number : ℕ) (edge : Edge) → Contains schema.edges edge → touches number edge ≡ true → is_unlinked schema number ≡ false
@@ -40,10 +34,10 @@ module _ (schema : Schema) where
       third_cause (links schema number) (list_any (table_refers number) schema.tables) (list_any (touches number) schema.edges) (any_contained (touches number) schema.edges edge among is)
 
   pub lower-linked : (edge : Edge) → Contains schema.edges edge → is_unlinked schema edge.lower.0 ≡ false
-  lower-linked edge among = touched edge.lower.0 edge among (left_true _ _ (eq-eqb edge.lower.0 edge.lower.0 refl))
+  lower-linked edge among = touched edge.lower.0 edge among (or_left _ _ (eq-eqb edge.lower.0 edge.lower.0 refl))
 
   pub upper-linked : (edge : Edge) → Contains schema.edges edge → is_unlinked schema edge.upper.0 ≡ false
-  upper-linked edge among = touched edge.upper.0 edge among (right_true _ _ (eq-eqb edge.upper.0 edge.upper.0 refl))
+  upper-linked edge among = touched edge.upper.0 edge among (or_right _ _ (eq-eqb edge.upper.0 edge.upper.0 refl))
 
   -- so is one that a column refers to
   pub referred-linked : (table : TableDef) (column : Column) (link : RefKind × TableNo) → Contains schema.tables table → Contains table.columns column → column.refers ≡ Some link
@@ -74,9 +68,9 @@ module _ (schema : Schema) where
   pub lone-unique : (number : ℕ) (table : TableDef) (column : Column) → is_unlinked schema number ≡ true → slice_get schema.tables number ≡ Some table → Contains table.columns column
       → column.unique ≡ false
   lone-unique number table column lone is among =
-      free_step (is_unlinked schema number) column.unique lone (λ unique. linking-linked number table column is among (left_true column.unique (is_some column.refers) unique))
+      free_step (is_unlinked schema number) column.unique lone (λ unique. linking-linked number table column is among (or_left column.unique (is_some column.refers) unique))
 
   pub lone-refers : (number : ℕ) (table : TableDef) (column : Column) → is_unlinked schema number ≡ true → slice_get schema.tables number ≡ Some table → Contains table.columns column
       → column.refers ≡ None
   lone-refers number table column lone is among =
-      none_step column.refers (free_step (is_unlinked schema number) (is_some column.refers) lone (λ refers. linking-linked number table column is among (right_true column.unique (is_some column.refers) refers)))
+      none_step column.refers (free_step (is_unlinked schema number) (is_some column.refers) lone (λ refers. linking-linked number table column is among (or_right column.unique (is_some column.refers) refers)))

@@ -1,7 +1,7 @@
 -- What a net says table by table.
 use Rattle.std.proofs.Common.{◌≡◌, ℕ, ◌+◌, ◌<◌, ◌≤◌, List, [], ◌∷◌, ◌++◌, Bool, true, false, cond, refl, sym, ap, ◌∙◌, subst, eq-eqb, append-nil, append_assoc, arith}
-use Rattle.std.specs.Prelude.{Option, None, Some, IfSome, filter, filter_map, find}
-use Rattle.std.specs.List.{AllByRecursion as Each, cons_option}
+use Rattle.std.specs.Prelude.{Option, None, Some, IfSome, filter, find}
+use Rattle.std.specs.List.{AllByRecursion as Each}
 use Rattle.std.proofs.lemmas.Bool.{ne_eqb}
 use Rattle.std.proofs.lemmas.List.Elements.{filter-append}
 use Rattle.own_base.specs.Key.{key_cmp}
@@ -19,15 +19,8 @@ use Rattle.state_model.specs.MayBePut.{KeysDiffer}
 use Rattle.state_model.specs.Net.{change_at, keys_in, net_from, net_in}
 use Rattle.state_model.specs.Put.{changed_key, is_of_table, put_from, row_after, rows_put}
 use Rattle.state_model.specs.Same.{is_same_state}
-
--- what is made of each item has what it is made with
-each_made : {X Y : Type 0} (P : Y → Type 0) (make : X → Option Y) (xs : List X) → ((x : X) → IfSome (make x) P) → Each P (filter_map make xs)
-each_made P make [] all = tt
-each_made {Y = Y} P make (x ∷ xs) all = by (make x) (all x) (each_made P make xs all)
-  where
-    by : (o : Option Y) → IfSome o P → Each P (filter_map make xs) → Each P (cons_option o (filter_map make xs))
-    by None here more = more
-    by (Some y) here more = (here, more)
+use Rattle.state_model.proofs.Made.{all-filter_map}
+use Rattle.state_model.proofs.NetLeads.{from_number}
 
 -- a change of the table of a number: what its key had before, and what it has after
 pub record IsChangeIn (number : ℕ) (table : TableDef) (before after : List Row) (change : Change) : Type 0 where
@@ -44,7 +37,7 @@ module _ (number : ℕ) (table : TableDef) (before after : List Row) where
   change_in key = unless_step (IsChangeIn number table before after) (is_same_state (find (has_key table key) before) (find (has_key table key) after)) _ (record { of = refl; was = refl; is = refl })
 
   pub net-changes : Each (IsChangeIn number table before after) (net_in number table before after)
-  net-changes = each_made (IsChangeIn number table before after) (change_at number table before after) (keys_in table (before ++ after)) change_in
+  net-changes = all-filter_map (IsChangeIn number table before after) (change_at number table before after) change_in (keys_in table (before ++ after))
 
   found_keyed : (key : Key) (rows : List Row) (found : Option Row) → find (has_key table key) rows ≡ found → IfSome found (λ row. key_of table row ≡ key)
   found_keyed key rows None is = tt
@@ -65,17 +58,6 @@ abbrev pub LeadsFrom : ℕ → List TableDef → List (List Row) → List (List 
 LeadsFrom number [] [] [] = Unit {0}
 LeadsFrom number (table ∷ tables) (before ∷ befores) (after ∷ afters) = Leads number table before after × LeadsFrom (number + 1) tables befores afters
 LeadsFrom number _ _ _ = ⊥
-
--- the changes of a net are of tables from the first number on
-pub net-from_on : (number : ℕ) (tables : List TableDef) (befores afters : List (List Row)) → Each (λ change. number ≤ change.name.table.0) (net_from number tables befores afters)
-unfolding net_from
-net-from_on number [] befores afters = tt
-net-from_on number (table ∷ tables) [] afters = tt
-net-from_on number (table ∷ tables) (before ∷ befores) [] = tt
-net-from_on number (table ∷ tables) (before ∷ befores) (after ∷ afters) =
-    each_append _ (net_in number table before after) (net_from (number + 1) tables befores afters)
-    (each_weaker _ _ (λ change in_it. let of : change.name.table.0 ≡ number = in_it.of in omega arith) _ (net-changes number table before after))
-    (each_weaker _ _ (λ change on. let more : number + 1 ≤ change.name.table.0 = on in omega arith) _ (net-from_on (number + 1) tables befores afters))
 
 other_table : (number : ℕ) (change : Change) → (change.name.table.0 ≡ number → ⊥) → is_of_table number change ≡ false
 other_table number change apart = ne_eqb change.name.table.0 number apart
@@ -106,7 +88,7 @@ module _ (changes : List Change) (once : (number : ℕ) → KeysDiffer (filter (
   leads-from number (table ∷ tables) (before ∷ befores) (after ∷ afters) earlier rising rises below are put =
       let later = net_from (number + 1) tables befores afters in
       let own : filter (is_of_table number) changes ≡ net_in number table before after =
-      ap (filter (is_of_table number)) are ∙ own_changes number table before after earlier later below (net-from_on (number + 1) tables befores afters) in
+      ap (filter (is_of_table number)) are ∙ own_changes number table before after earlier later below (from_number (number + 1) tables befores afters) in
       let here : rows_put number table changes before ≡ after = cc in
       let rest : put_from (number + 1) tables changes befores ≡ afters = cc in
       let applied = ap (λ some. with_changes (key_of table) key_cmp changed_key row_after some before) (sym own) ∙ here in

@@ -15,8 +15,9 @@ use Rattle.page_model.proofs.RisingLemmas.{each_weaker}
 use Rattle.state_model.specs.Net.{net_from, net_in}
 use Rattle.state_model.specs.Put.{changed_key, row_after}
 use Rattle.state_model.proofs.PutRows.{found_key}
+use Rattle.state_model.proofs.NetLeads.{from_number}
 use Rattle.unlinked_check.proofs.RowSums.{Exchanged, counted, exchanged, exchanged_as, sum_by-none, sum_by-same}
-use Rattle.unlinked_check.proofs.TableLeads.{IsChangeIn, Leads, LeadsFrom, net-changes, net-from_on, net-keyed}
+use Rattle.unlinked_check.proofs.TableLeads.{IsChangeIn, Leads, LeadsFrom, net-changes, net-keyed}
 
 -- the row that a change took away
 abbrev pub row_before : Change → Option Row
@@ -85,7 +86,7 @@ module _ (f : Row → ℕ) (table : ℕ) where
   net_apart number definition before after differ = each_weaker (IsChangeIn number definition before after) _ (λ change in_it is. differ (is ∙ in_it.of)) _ (net-changes number definition before after)
 
   later_apart : (number : ℕ) (tables : List TableDef) (befores afters : List (List Row)) → table < number → Each (λ change. table ≡ change.name.table.0 → ⊥) (net_from number tables befores afters)
-  later_apart number tables befores afters less = each_weaker _ _ (λ change on is. let on : number ≤ change.name.table.0 = on in absurd (omega arith)) _ (net-from_on number tables befores afters)
+  later_apart number tables befores afters less = each_weaker _ _ (λ change on is. let on : number ≤ change.name.table.0 = on in absurd (omega arith)) _ (from_number number tables befores afters)
 
   -- a sum over the rows of one of the tables
   pub only-sum : (number place : ℕ) (tables : List TableDef) (befores afters : List (List Row)) → LeadsFrom number tables befores afters → table ≡ number + place

@@ -10,13 +10,13 @@ use Rattle.check_image.proofs.encoding.encode.Goals as goal
 
 pub write_creates-requires-clause-few : goal.write_creates-requires-clause-few
 write_creates-requires-clause-few g c =
-    let few = (created_texts (g.V.StoreView.db c.args.view.now) c.requires.sound.kept.created).1 in
+    let few = (created_texts (g.V.StoreView.db c.args.view.now) c.requires.sound.well_formed.created).1 in
     let same = ap length c.requires.creates in
     omega arith
 
 pub write_creates-requires-clause-each : goal.write_creates-requires-clause-each
 write_creates-requires-clause-each g c =
-    subst (AllByRecursion (λ create. IsCountable create.text)) (sym c.requires.creates) (countable_texts (g.V.StoreView.db c.args.view.now) c.requires.sound.kept.created)
+    subst (AllByRecursion (λ create. IsCountable create.text)) (sym c.requires.creates) (countable_texts (g.V.StoreView.db c.args.view.now) c.requires.sound.well_formed.created)
 
 pub write_tables-requires-clause-few : goal.write_tables-requires-clause-few
 write_tables-requires-clause-few g c = (sound_rows (g.V.StoreView.db c.args.view.now) c.requires.sound).2

@@ -1,5 +1,5 @@
-use Rattle.check_image.proofs.ReadImage.{image-one}
+use Rattle.disk_model.proofs.OneValue.{image}
 use Rattle.check_image.proofs.laws.bytes_are_one_image.Goals as goal
 
 pub returns : goal.returns
-returns c = image-one
+returns c = λ bytes one other. image one other bytes

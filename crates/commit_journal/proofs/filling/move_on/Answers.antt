@@ -3,10 +3,11 @@ use Rattle.outer_world.proofs.Moments.{then, weaker}
 use Rattle.outer_world.specs.LeavesOnly.{LeavesOnly}
 use Rattle.outer_world.specs.OtherArea.{other_of}
 use Rattle.disk_model.specs.Area.{IsBelow, Says, in_front, laid}
+use Rattle.disk_model.proofs.AreaLaws.{says_epoch}
 use Rattle.commit_journal.specs.AreaCalls.{IsMade, OnlyIn}
 use Rattle.commit_journal.specs.Filled.{IsFilling}
 use Rattle.commit_journal.specs.JournalState.{RepresentEither}
-use Rattle.commit_journal.proofs.AreaBytes.{laid_says, says_epoch}
+use Rattle.commit_journal.proofs.AreaBytes.{laid_says}
 use Rattle.commit_journal.proofs.Steps.{other-other}
 use Rattle.commit_journal.proofs.Stores.{filling_represents, retiring_represents}
 use Rattle.commit_journal.proofs.filling.move_on.Goals as goal
