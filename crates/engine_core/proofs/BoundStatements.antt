@@ -1,20 +1,10 @@
 -- A statement as binding answers it.
-use Rattle.std.proofs.Common.{◌≡◌, ℕ, suc, ◌+◌, List, [], ◌∷◌, cond, Bool, true, false, not, refl, ap, arith, subst, sym, ◌∙◌}
-use Rattle.std.specs.Prelude.{◌&&◌, Option, None, Some, Ok, Err, IsTrue, bytes_eq, find, slice_get, if◌then◌else◌}
-use Rattle.std.specs.List.{enumerate_from}
-use Rattle.std.specs.Option.{option_map_or}
+use Rattle.std.proofs.Common.{◌≡◌, ℕ, List, [], cond, true, false, not, refl, ap, subst, sym, ◌∙◌}
+use Rattle.std.specs.Prelude.{None, Ok, Err}
+use Rattle.std.proofs.Math.Bool.{and-false}
 use Rattle.own_model.specs.declared.bound.Bound.{Bound}
 use Rattle.own_model.specs.declared.history.Verdict.TheVariants.{Took}
-use Rattle.own_base.specs.declared.value.Key.{Key}
 use Rattle.own_model.specs.declared.refusal.Refusal.{Refusal}
-use Rattle.own_model.specs.declared.refusal.Refusal.TheVariants.{NoTable, NotSubject}
-use Rattle.schema_model.specs.Tables.{is_subject}
-use Rattle.own_model.specs.declared.schema.TableDef.{TableDef}
-use Rattle.query_model.specs.Scope.{table_named}
-use Rattle.query_model.specs.SelectFaults.{no_table}
-use Rattle.query_model.specs.SelectMeaning.{table_number}
-use Rattle.query_model.specs.WriteFaults.{faults_in, gdpr_faults, subject_faults}
-use Rattle.query_model.proofs.NoFaults.{none-first, none-if, none-last, none-lowest}
 use Rattle.own_model.specs.declared.footprint.FootItem.{FootItem}
 use Rattle.own_model.specs.declared.reply.Reply.{Reply}
 use Rattle.own_model.specs.declared.reply.Reply.TheVariants.{Refused}
@@ -24,61 +14,23 @@ use Rattle.own_model.specs.declared.schema.Schema.{Schema}
 use Rattle.own_model.specs.declared.statement.Statement.{Statement}
 use Rattle.own_model.specs.declared.statement.Statement.TheVariants as statement
 use Rattle.own_model.specs.Db.{Db}
-use Rattle.query_model.specs.BoundStatement.{bound_statement, bound_unless, faults, meaning}
+use Rattle.query_model.specs.BoundStatement.{bound_statement, faults, meaning}
 use Rattle.query_model.specs.Refused.{lowest}
 use Rattle.readable_model.proofs.Sources.{source_is_there}
 use Rattle.run_model.specs.Run.{Outcome, answered, run, run_bound}
 use Rattle.history_model.specs.History.{forgotten, lie_on}
 use Rattle.history_model.specs.Reply.{forget_reply, is_refusal, reply_outside}
 use Rattle.history_model.specs.World.{World}
+use Rattle.history_model.proofs.SubjectLemmas.{subject-bound}
 use Rattle.run_model.specs.Items.{TakesRows}
+use Rattle.run_model.proofs.Outcomes.{bound-ok}
 use Rattle.txn_core.specs.Runs.{IsRowStatement}
 use Rattle.write_eval.proofs.BoundWrites.{bound_write}
 use Rattle.engine_core.specs.Answered.{Erases, ErasesBound, Tells, bound_reply, erases, erases_bound}
 use Rattle.engine_core.specs.Asked.{IsBound, IsMeant}
 use Rattle.engine_core.specs.declared.answer.Answer.{Answer}
 
-given : (told : Option Refusal) (meant got : Bound) → bound_unless told meant ≡ Ok got → (told ≡ None) × (meant ≡ got)
-given None meant got is = (refl, cc)
-given (Some fault) meant got is = absurd (cc)
-
-meant_by : (schema : Schema) (found : Statement) (got : Bound) → bound_statement schema found ≡ Ok got → (lowest (faults schema found) ≡ None) × (meaning schema found ≡ got)
-unfolding bound_statement
-meant_by schema found got is = given (lowest (faults schema found)) (meaning schema found) got is
-
--- a GDPR call without faults is on a table of data subjects
-none_not : (b : Bool) (fault : Refusal) → (if b then [] else fault ∷ []) ≡ [] → b ≡ true
-none_not true fault none = refl
-none_not false fault none = absurd (cc)
-
--- what is found among numbered values stands at its number
-found-at : {A : Type 0} (test : A → Bool) (from : ℕ) (xs : List A) (n : ℕ) (x : A) → find (λ numbered. test numbered.1) (enumerate_from from xs) ≡ Some (n, x)
-    → (place : ℕ) × (n ≡ from + place) × (slice_get xs place ≡ Some x)
-found-at {A = A} test from [] n x is = absurd (cc)
-found-at {A = A} test from (first ∷ rest) n x is = by (found-at test (from + 1) rest n x) (test first) refl is
-  where
-    by : (find (λ numbered. test numbered.1) (enumerate_from (from + 1) rest) ≡ Some (n, x) → (place : ℕ) × (n ≡ from + 1 + place) × (slice_get rest place ≡ Some x))
-        → (b : Bool) → test first ≡ b → cond b (Some (from, first)) (find (λ numbered. test numbered.1) (enumerate_from (from + 1) rest)) ≡ Some (n, x)
-        → (place : ℕ) × (n ≡ from + place) × (slice_get (first ∷ rest) place ≡ Some x)
-    by more true passes found = let pair : (from, first) ≡ (n, x) = cc in (0, sym (ap (λ (p : ℕ × A). p.0) pair) ∙ omega arith, ap (λ (p : ℕ × A). Some p.1) pair)
-    by more false fails found = let later = more found in (suc later.0, later.1 ∙ omega arith, later.2)
-
-subject_step : (schema : Schema) (name : List ℕ) (key : Key) (found : Option (ℕ × TableDef)) → table_named schema name ≡ found → no_table schema name ≡ []
-    → option_map_or (λ found. subject_faults name key found.1) found [] ≡ [] → IsTrue (is_subject schema (option_map_or (λ found. found.0) found 0))
-subject_step schema name key None is named faults = let there = none-if true (NoTable name) (rw is at named) in absurd (cc)
-subject_step schema name key (Some found) is named faults =
-    let at = found-at (λ table. bytes_eq table.name name) 0 schema.tables found.0 found.1 is in
-    let here : slice_get schema.tables found.0 ≡ Some found.1 = ap (slice_get schema.tables) (at.1 ∙ omega arith) ∙ at.2 in
-    rw here (none_not found.1.subject (NotSubject name) (none-last _ _ faults))
-
-subject-there : (schema : Schema) (name : List ℕ) (key : Key) → lowest (gdpr_faults schema name key) ≡ None → IsTrue (is_subject schema (table_number schema name).0)
-unfolding gdpr_faults
-subject-there schema name key told =
-    let all = none-lowest _ told in
-    subject_step schema name key (table_named schema name) refl
-    (none-first (no_table schema name) (faults_in schema name (subject_faults name key)) all) (none-last (no_table schema name) (faults_in schema name (subject_faults name key)) all)
-
--- it is a select whose source is there, a write, or a GDPR call on a table of data subjects
+-- what a statement means that binding lets through is a select whose source is there, a write, or a GDPR call on a table of data subjects
 meant_there : (schema : Schema) (found : Statement) → IsBound found → bound_statement schema found ≡ Ok (meaning schema found) → lowest (faults schema found) ≡ None
     → IsMeant schema (meaning schema found)
 unfolding meaning faults
@@ -86,13 +38,13 @@ meant_there schema (statement.Select select) bound is told = source_is_there sch
 meant_there schema (statement.Insert name names tuples) bound is told = bound_write schema (statement.Insert name names tuples) _ is tt
 meant_there schema (statement.Update name sets cond) bound is told = bound_write schema (statement.Update name sets cond) _ is tt
 meant_there schema (statement.Delete name cond) bound is told = bound_write schema (statement.Delete name cond) _ is tt
-meant_there schema (statement.GdprGet name key) bound is told = subject-there schema name key told
-meant_there schema (statement.GdprForget name key) bound is told = subject-there schema name key told
+meant_there schema (statement.GdprGet name key) bound is told = subject-bound schema name key told
+meant_there schema (statement.GdprForget name key) bound is told = subject-bound schema name key told
 meant_there schema _ bound is told = absurd bound
 
 pub meant-bound : (schema : Schema) (found : Statement) (got : Bound) → IsBound found → bound_statement schema found ≡ Ok got → IsMeant schema got
 meant-bound schema found got bound is =
-    let by = meant_by schema found got is in
+    let by = bound-ok schema found got is in
     subst (IsMeant schema) by.1 (meant_there schema found bound (is ∙ ap (λ meant. Ok meant) (sym by.1)) by.0)
 
 -- it runs as what it means
@@ -108,7 +60,7 @@ run-meant db _ bound is = absurd bound
 
 pub run-bound : (db : Db) (found : Statement) (got : Bound) → IsBound found → bound_statement db.schema found ≡ Ok got → run db found ≡ run_bound db got
 run-bound db found got bound is =
-    let by = meant_by db.schema found got is in
+    let by = bound-ok db.schema found got is in
     run-meant db found bound (is ∙ ap (λ meant. Ok meant) (sym by.1)) ∙ ap (run_bound db) by.1
 
 -- one that takes rows is a select whose source is there, or a write
@@ -123,7 +75,7 @@ row_there schema _ takes is told = absurd takes
 
 pub row-bound : (schema : Schema) (found : Statement) (got : Bound) → TakesRows found → bound_statement schema found ≡ Ok got → IsRowStatement schema got
 row-bound schema found got takes is =
-    let by = meant_by schema found got is in
+    let by = bound-ok schema found got is in
     subst (IsRowStatement schema) by.1 (row_there schema found takes (is ∙ ap (λ meant. Ok meant) (sym by.1)) by.0)
 
 run-refused : (db : Db) (found : Statement) (why : Refusal) → IsBound found → bound_statement db.schema found ≡ Err why → run db found ≡ answered db (Refused why)
@@ -153,7 +105,7 @@ module _ (world : World) (session : ℕ) where
   pub reply-bound : (found : Statement) (got : Bound) → IsBound found → bound_statement world.flat.schema found ≡ Ok got
       → reply_outside world session Took found ≡ bound_reply world world.flat session got
   reply-bound found got bound is =
-      let by = meant_by world.flat.schema found got is in
+      let by = bound-ok world.flat.schema found got is in
       let meant = is ∙ ap (λ meant. Ok meant) (sym by.1) in
       reply-meant found bound meant (run-bound world.flat found (meaning world.flat.schema found) bound meant) ∙ ap (bound_reply world world.flat session) by.1
 
@@ -176,25 +128,21 @@ pub tells-refused : (db behind : Db) (why : Refusal) (answer : Answer) → answe
 tells-refused db behind why answer told stays = record { told = told; leaves = rw stays refl }
 
 -- What it erases is what its meaning does.
-and_false : (b : Bool) → (b && false) ≡ false
-and_false true = refl
-and_false false = refl
-
 erases-meant : (db : Db) (found : Statement) (reply : Reply) (items : List FootItem) → IsBound found
     → erases db (Run found) reply items ≡ erases_bound db (meaning db.schema found) reply items
 unfolding meaning
-erases-meant db (statement.Select select) reply items bound = and_false (not (is_refusal reply))
-erases-meant db (statement.Insert name names tuples) reply items bound = and_false (not (is_refusal reply))
-erases-meant db (statement.Update name sets cond) reply items bound = and_false (not (is_refusal reply))
-erases-meant db (statement.Delete name cond) reply items bound = and_false (not (is_refusal reply))
-erases-meant db (statement.GdprGet name key) reply items bound = and_false (not (is_refusal reply))
+erases-meant db (statement.Select select) reply items bound = and-false (not (is_refusal reply))
+erases-meant db (statement.Insert name names tuples) reply items bound = and-false (not (is_refusal reply))
+erases-meant db (statement.Update name sets cond) reply items bound = and-false (not (is_refusal reply))
+erases-meant db (statement.Delete name cond) reply items bound = and-false (not (is_refusal reply))
+erases-meant db (statement.GdprGet name key) reply items bound = and-false (not (is_refusal reply))
 erases-meant db (statement.GdprForget name key) reply items bound = refl
 erases-meant db _ reply items bound = absurd bound
 
 pub erases-as_bound : (db : Db) (found : Statement) (got : Bound) (answer : Answer) → IsBound found → bound_statement db.schema found ≡ Ok got → ErasesBound db got answer
     → Erases db (Run found) answer
 erases-as_bound db found got answer bound is erased =
-    let by = meant_by db.schema found got is in
+    let by = bound-ok db.schema found got is in
     λ items. erased items ∙ sym (erases-meant db found answer.reply items bound ∙ ap (λ meant. erases_bound db meant answer.reply items) by.1)
 
 -- a refusal erases nothing
@@ -207,4 +155,4 @@ erases-refused db request why answer told none =
 
 -- nor does a request that forgets nobody
 pub erases-nobody : (db : Db) (request : Request) (answer : Answer) → forgotten db.schema request ≡ None → answer.erased ≡ [] → Erases db request answer
-erases-nobody db request answer nobody none = λ items. ap (λ names. lie_on names items) none ∙ sym (rw nobody (and_false (not (is_refusal answer.reply))))
+erases-nobody db request answer nobody none = λ items. ap (λ names. lie_on names items) none ∙ sym (rw nobody (and-false (not (is_refusal answer.reply))))

@@ -12,9 +12,9 @@ use Rattle.history_model.specs.History.{History, dooms, flat_after, happens, own
 use Rattle.history_model.specs.Reply.{answer, is_refusal}
 use Rattle.history_model.specs.World.{SessionStanding, World}
 use Rattle.history_model.proofs.DoomLemmas.{refused-dooms}
-use Rattle.row_locks.specs.Kept.{kept_by as held_by}
+use Rattle.row_locks.specs.SessionItems.{items_by as held_by}
 use Rattle.row_locks.specs.RepresentsItems.{RepresentsItems}
-use Rattle.txn_core.specs.Kept.{RepresentsSession, kept_by}
+use Rattle.txn_core.specs.SessionStates.{RepresentsSession, state_by}
 use Rattle.txn_core.specs.Transactions.{AreOthersSame, AreSame, Transactions}
 use Rattle.engine_core.specs.RepresentsWorld.{IsEvent, RepresentsWorld}
 use Rattle.engine_core.specs.declared.state.State.{State}
@@ -22,23 +22,19 @@ use Rattle.engine_core.proofs.NextWorlds.{stands-next}
 
 -- what is the same of all sessions is the same of the others
 pub others-same : (session : ℕ) (before after : Transactions) → AreSame before after → AreOthersSame session before after
-others-same session before after same = record { kept = λ other differs. same.kept other; held = λ other differs. same.held other }
+others-same session before after same = record { states = λ other differs. same.states other; held = λ other differs. same.held other }
 
--- what isn't touched is the same
-pub none-moved : (txns : Transactions) → AreSame txns txns
-none-moved txns = record { kept = λ session. refl; held = λ session. refl }
-
--- and what is the same of one and of the others is the same of all
-pub all-same : (session : ℕ) (before after : Transactions) → AreOthersSame session before after → kept_by after.kept session ≡ kept_by before.kept session
+-- what is the same of one and of the others is the same of all
+pub all-same : (session : ℕ) (before after : Transactions) → AreOthersSame session before after → state_by after.states session ≡ state_by before.states session
     → held_by after.held session ≡ held_by before.held session → AreSame before after
 all-same session before after others kept held = record {
-  kept = λ one. kept_at one (one == session) refl;
+  states = λ one. kept_at one (one == session) refl;
   held = λ one. held_at one (one == session) refl;
 }
   where
-    kept_at : (one : ℕ) (b : Bool) → (one == session) ≡ b → kept_by after.kept one ≡ kept_by before.kept one
-    kept_at one true same = subst (λ n. kept_by after.kept n ≡ kept_by before.kept n) (sym (eqb-true one session same)) kept
-    kept_at one false apart = others.kept one (eqb-false one session apart)
+    kept_at : (one : ℕ) (b : Bool) → (one == session) ≡ b → state_by after.states one ≡ state_by before.states one
+    kept_at one true same = subst (λ n. state_by after.states n ≡ state_by before.states n) (sym (eqb-true one session same)) kept
+    kept_at one false apart = others.states one (eqb-false one session apart)
 
     held_at : (one : ℕ) (b : Bool) → (one == session) ≡ b → held_by after.held one ≡ held_by before.held one
     held_at one true same = subst (λ n. held_by after.held n ≡ held_by before.held n) (sym (eqb-true one session same)) held
@@ -51,7 +47,7 @@ stands-kept before after world version weighs same stands = record {
   flat = version ∙ stands.flat;
   weighs = ap weight version ∙ (stands.weighs ∙ sym weighs);
   up = stands.up;
-  kept = λ session. subst (λ one. RepresentsSession world.flat one (world.standing session)) (sym (same.kept session)) (stands.kept session);
+  states = λ session. subst (λ one. RepresentsSession world.flat one (world.standing session)) (sym (same.states session)) (stands.states session);
   held = λ session. subst (λ items. RepresentsItems items (held world session)) (sym (same.held session)) (stands.held session);
 }
 
@@ -77,19 +73,19 @@ module _ (history : History) (entry : Entry) (before after : State) (event : IsE
       → flat_after (world empty history) entry (answer (world empty history) entry) ≡ (world empty history).flat
       → ((other : ℕ) → dooms (world empty history) entry (answer (world empty history) entry) other ≡ false)
       → own_after (world empty history) entry (answer (world empty history) entry) ≡ stood
-      → RepresentsSession (world empty history).flat (kept_by after.txns.kept entry.session.0) stood
+      → RepresentsSession (world empty history).flat (state_by after.txns.states entry.session.0) stood
       → RepresentsItems (held_by after.txns.held entry.session.0) (items_held (world empty history).flat.schema stood)
       → RepresentsWorld after (happens (world empty history) entry)
   stands-calm stood version weighs others calm undoomed stands kept holds =
       let is = event.stands in
       stands-next history entry event.entries event.is_entry event.took before is after (record { 0 = length history }) refl
       (version ∙ (is.flat ∙ sym calm)) (ap weight version ∙ (is.weighs ∙ sym weighs))
-      (subst (λ db. RepresentsSession db (kept_by after.txns.kept entry.session.0) (own_after now entry told)) (sym calm)
-      (subst (λ stood. RepresentsSession now.flat (kept_by after.txns.kept entry.session.0) stood) (sym stands) kept))
+      (subst (λ db. RepresentsSession db (state_by after.txns.states entry.session.0) (own_after now entry told)) (sym calm)
+      (subst (λ stood. RepresentsSession now.flat (state_by after.txns.states entry.session.0) stood) (sym stands) kept))
       (subst (λ (db : Db). RepresentsItems (held_by after.txns.held entry.session.0) (items_held db.schema (own_after now entry told))) (sym calm)
       (subst (λ stood. RepresentsItems (held_by after.txns.held entry.session.0) (items_held now.flat.schema stood)) (sym stands) holds))
       (λ other differs. record {
-        kept = rw (undoomed other) (others.kept other differs);
+        states = rw (undoomed other) (others.states other differs);
         held = rw (undoomed other) (others.held other differs);
       })
 
@@ -103,7 +99,7 @@ module _ (history : History) (entry : Entry) (before after : State) (event : IsE
 
     pub stands-refused : (stood : SessionStanding) → after.version ≡ before.version → after.weighs ≡ before.weighs → AreOthersSame entry.session.0 before.txns after.txns
         → own_after (world empty history) entry (answer (world empty history) entry) ≡ stood
-        → RepresentsSession (world empty history).flat (kept_by after.txns.kept entry.session.0) stood
+        → RepresentsSession (world empty history).flat (state_by after.txns.states entry.session.0) stood
         → RepresentsItems (held_by after.txns.held entry.session.0) (items_held (world empty history).flat.schema stood)
         → RepresentsWorld after (happens (world empty history) entry)
     stands-refused stood version weighs others = stands-calm stood version weighs others calm (λ other. refused-dooms now entry told other refusal)
@@ -116,4 +112,4 @@ module _ (history : History) (entry : Entry) (before after : State) (event : IsE
     stands-unmoved version weighs same stays =
         let now_after = stands-kept before after now version weighs same event.stands in
         stands-refused (now.standing entry.session.0) version weighs (others-same entry.session.0 before.txns after.txns same) stays
-        (now_after.kept entry.session.0) (now_after.held entry.session.0)
+        (now_after.states entry.session.0) (now_after.held entry.session.0)

@@ -23,13 +23,13 @@ use Rattle.history_model.specs.World.{Outside, World, after_block}
 use Rattle.history_model.proofs.BlockLemmas.{creates-block, kept-block, schema-block}
 use Rattle.history_model.proofs.EveryHistory.{serial-world}
 use Rattle.history_model.proofs.Worlds.{IsOpenBlock, open-block}
-use Rattle.row_locks.specs.Kept.{kept_by as held_by}
+use Rattle.row_locks.specs.SessionItems.{items_by as held_by}
 use Rattle.row_locks.specs.RepresentsItems.{RepresentsItems}
 use Rattle.row_locks.proofs.Holders.{stand-same}
 use Rattle.txn_space.specs.Changed.{changed_db}
-use Rattle.txn_core.specs.declared.kept.Kept.{Kept}
-use Rattle.txn_core.specs.declared.kept.Kept.TheVariants as kept
-use Rattle.txn_core.specs.Kept.{RepresentsSession, is_open, kept_by}
+use Rattle.txn_core.specs.declared.session_state.SessionState.{SessionState}
+use Rattle.txn_core.specs.declared.session_state.SessionState.TheVariants as kept
+use Rattle.txn_core.specs.SessionStates.{RepresentsSession, is_open, state_by}
 use Rattle.txn_core.specs.Transactions.{AreOthersSame, AreSame, space_of}
 use Rattle.txn_core.proofs.OpenBlocks.{net_block}
 use Rattle.engine_core.specs.Answered.{Tells, left}
@@ -42,9 +42,9 @@ use Rattle.engine_core.proofs.NextWorlds.{answer-in, own-in, sound-now, stands-n
 use Rattle.engine_core.proofs.Stood.{IsOpenTxn, stood-open}
 use Rattle.engine_core.proofs.InstalledEvents.{same_undoomed}
 
-module _ (history : History) (entry : Entry) (before : State) (event : IsEvent before history entry) (opened : is_open (kept_by before.txns.kept entry.session.0) ≡ true)
+module _ (history : History) (entry : Entry) (before : State) (event : IsEvent before history entry) (opened : is_open (state_by before.txns.states entry.session.0) ≡ true)
     (asks : entry.request ≡ Run of.Commit) (made : List Change)
-    (nets : made ≡ net before.version (changed_db before.version (space_of (kept_by before.txns.kept entry.session.0)))) where
+    (nets : made ≡ net before.version (changed_db before.version (space_of (state_by before.txns.states entry.session.0)))) where
   abbrev now : World
   now = world empty history
 
@@ -54,11 +54,11 @@ module _ (history : History) (entry : Entry) (before : State) (event : IsEvent b
   abbrev told : Reply
   told = answer now entry
 
-  abbrev own : Kept
-  own = kept_by before.txns.kept session
+  abbrev own : SessionState
+  own = state_by before.txns.states session
 
   is : IsOpenTxn now.flat own (now.standing session)
-  is = stood-open now.flat own (now.standing session) (event.stands.kept session) opened
+  is = stood-open now.flat own (now.standing session) (event.stands.states session) opened
 
   opens : IsOpenBlock empty history now.flat session is.block
   opens = open-block empty history now (serial-world empty history sound-empty event.entries) session is.begun is.block is.stands
@@ -92,7 +92,7 @@ module _ (history : History) (entry : Entry) (before : State) (event : IsEvent b
   pub kept-committed : IsWellFormed (put before.version made)
   kept-committed =
       subst IsWellFormed (sym changed_is)
-      (kept-block (length history) now.flat is.block (sound-now history entry event.entries event.is_entry event.took before event.stands).kept opens.stated)
+      (kept-block (length history) now.flat is.block (sound-now history entry event.entries event.is_entry event.took before event.stands).well_formed opens.stated)
 
   module _ (given : Answer)
       (tells : Tells before.version (committing Took (changes before.version (put before.version made)) (commit_refusal before.version (put before.version made)) Done)
@@ -100,7 +100,7 @@ module _ (history : History) (entry : Entry) (before : State) (event : IsEvent b
       (place : Place) (at : place.0 ≡ length history) (middle after : State) (version : middle.version ≡ left before.version given.next) (weighs : weight middle.version ≡ middle.weighs)
       (none : given.erased ≡ []) (doomed : HasDoomed given.erased place before.txns middle.txns)
       (version_after : after.version ≡ middle.version) (weighs_after : after.weighs ≡ middle.weighs)
-      (finished : AreOthersSame entry.session.0 middle.txns after.txns) (keeps : kept_by after.txns.kept entry.session.0 ≡ kept.Nothing) (holds : held_by after.txns.held entry.session.0 ≡ []) where
+      (finished : AreOthersSame entry.session.0 middle.txns after.txns) (keeps : state_by after.txns.states entry.session.0 ≡ kept.Nothing) (holds : held_by after.txns.held entry.session.0 ≡ []) where
     tells_flat : Tells now.flat (commit_reply Took now.flat behind) behind given
     tells_flat =
         subst (λ (db : Db). Tells db (commit_reply Took db behind) behind given) event.stands.flat
@@ -144,12 +144,12 @@ module _ (history : History) (entry : Entry) (before : State) (event : IsEvent b
       replied,
       stands-next history entry event.entries event.is_entry event.took before event.stands after place at left_is
           (ap weight version_after ∙ (weighs ∙ sym weighs_after))
-          (subst (λ stood. RepresentsSession (flat_after now entry told) (kept_by after.txns.kept session) stood) (sym own_commit)
+          (subst (λ stood. RepresentsSession (flat_after now entry told) (state_by after.txns.states session) stood) (sym own_commit)
           (subst (λ one. RepresentsSession (flat_after now entry told) one Outside) (sym keeps) tt))
           (subst (λ stood. RepresentsItems (held_by after.txns.held session) (items_held (flat_after now entry told).schema stood)) (sym own_commit)
           (subst (λ items. RepresentsItems items []) (sym holds) (stand-same [])))
           (λ other differs. record {
-            kept = rw (undoomed_all other) (finished.kept other differs ∙ same.kept other);
+            states = rw (undoomed_all other) (finished.states other differs ∙ same.states other);
             held = rw (undoomed_all other) (finished.held other differs ∙ same.held other);
           }),
     )

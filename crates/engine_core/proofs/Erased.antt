@@ -3,6 +3,7 @@ use Rattle.std.proofs.Common.{◌≡◌, ◌∙◌, ◌||◌, List, [], ◌∷�
 use Rattle.std.specs.Prelude.{◌&&◌, cond}
 use Rattle.std.specs.List.{list_any}
 use Rattle.std.proofs.lemmas.List.Folds.{list_any-append}
+use Rattle.std.proofs.Math.Bool.{or_assoc}
 use Rattle.own_base.specs.declared.change.Change.{Change}
 use Rattle.own_base.specs.declared.row_name.RowName.{RowName}
 use Rattle.own_base.specs.declared.row_name.Subject.{Subject}
@@ -32,10 +33,6 @@ aside true true others = refl
 aside true false others = refl
 aside false some others = refl
 
-before : (here some others : Bool) → (here || (some || others)) ≡ ((here || some) || others)
-before true some others = refl
-before false some others = refl
-
 split : (test : RowName → Bool) (leaves : Change → Bool) (changes : List Change)
     → list_any test (names changes) ≡ (list_any test (names (filter (λ change. not (leaves change)) changes)) || list_any test (names (filter leaves changes)))
 split test leaves [] = refl
@@ -50,7 +47,7 @@ split test leaves (change ∷ changes) = by (leaves change) (split test leaves c
         ∙ aside (test change.name) (list_any test (names (filter (λ change. not (leaves change)) changes))) (list_any test (names (filter leaves changes)))
     by false more =
         ap (λ rest. test change.name || rest) more
-        ∙ before (test change.name) (list_any test (names (filter (λ change. not (leaves change)) changes))) (list_any test (names (filter leaves changes)))
+        ∙ sym (or_assoc (test change.name) (list_any test (names (filter (λ change. not (leaves change)) changes))) (list_any test (names (filter leaves changes))))
 
 module _ (db : Db) (subject : RowName) (changes : List Change) (plan : IsPlan db subject (plan_of changes)) (items : List FootItem) where
   abbrev lies : RowName → Bool

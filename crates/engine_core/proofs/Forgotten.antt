@@ -2,13 +2,11 @@
 use Rattle.std.proofs.Common.{Bor, ◌≡◌, ◌∙◌, ℕ, zero, suc, ◌+◌, ◌<◌, ◌≤◌, ◌^◌, List, [], ◌∷◌, Bool, true, false, not, ap, arith, filter, length, map, refl, subst, sym}
 use Rattle.std.specs.Prelude.{Option, None, Some, ◌&&◌, IsTrue, count_by, is_some, slice_get, sum_by, if◌then◌else◌}
 use Rattle.std.specs.Option.{option_copied, option_map_or}
-use Rattle.std.proofs.lemmas.Bool.{ltb-false}
 use Rattle.std.proofs.lemmas.List.{length-append, length-map}
 use Rattle.std.proofs.lemmas.List.Filters.{length-filter_both}
 use Rattle.std.proofs.lemmas.List.Sums.{count_by-le-length, length-filter, sum_by-cons}
 use Rattle.own_base.specs.declared.change.Change.{Change}
 use Rattle.own_base.specs.declared.row_name.RowName.{RowName}
-use Rattle.own_model.specs.declared.limit.TheConstants.{STORE_ROWS}
 use Rattle.own_model.specs.declared.refusal.Refusal.{Refusal}
 use Rattle.own_model.specs.declared.reply.Reply.{Reply}
 use Rattle.own_model.specs.declared.reply.Reply.TheVariants.{Forgot, Got, Refused}
@@ -17,13 +15,11 @@ use Rattle.own_model.specs.declared.schema.Schema.{Schema}
 use Rattle.own_model.specs.declared.schema.TableDef.{TableDef}
 use Rattle.schema_model.specs.Tables.{is_subject}
 use Rattle.own_model.specs.Db.{Db, Row}
-use Rattle.query_model.proofs.NoFaults.{none-first, none-if}
 use Rattle.state_model.specs.Fault.{fault}
 use Rattle.state_model.specs.CommitRefusal.{first_refusal}
 use Rattle.state_model.specs.Put.{put}
 use Rattle.state_model.specs.Sound.{Sound}
-use Rattle.state_model.specs.Weight.{row_count}
-use Rattle.state_model.proofs.Faultless.{faultless-from}
+use Rattle.state_model.proofs.Faultless.{few_rows}
 use Rattle.state_model.proofs.ForgetSound.{sound-forget}
 use Rattle.subject_model.specs.Forget.{changed, forget, is_changed, removed}
 use Rattle.subject_model.specs.Named.{NamedRow, is_there, name_of, named_rows, rows_from, rows_in}
@@ -52,11 +48,6 @@ named-few number (table ∷ tables) (one ∷ rest) =
     let more = named-few (number + 1) tables rest in
     let sum = sum_by-cons length one rest in
     omega arith
-
-few_rows : (db : Db) → fault db ≡ None → row_count db ≤ STORE_ROWS
-few_rows db none =
-    let limit = (faultless-from db none).limit in
-    ltb-false STORE_ROWS (row_count db) (none-if _ _ (none-first _ _ limit))
 
 -- so an erasure makes few changes
 pub few-erased : (db : Db) (subject : RowName) (changes : List Change) → fault db ≡ None → IsPlan db subject (plan_of changes) → length changes < 2 ^ 32

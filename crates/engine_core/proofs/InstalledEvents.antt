@@ -4,7 +4,6 @@ use Rattle.std.specs.Prelude.{◌⊎◌, ◌&&◌, Ok, nat_lt, if◌then◌else�
 use Rattle.std.specs.Option.{option_map_or}
 use Rattle.std.proofs.lemmas.Bool.{ltb-false, ltb-true}
 use Rattle.own_base.specs.declared.number.Place.{Place}
-use Rattle.own_base.specs.declared.row_name.RowName.{RowName}
 use Rattle.own_model.specs.declared.footprint.FootItem.{FootItem}
 use Rattle.own_model.specs.declared.history.Entry.{Entry}
 use Rattle.own_model.specs.declared.history.Verdict.TheVariants.{Took}
@@ -23,12 +22,12 @@ use Rattle.history_model.specs.Reply.{answer, is_refusal, reply_in, reply_outsid
 use Rattle.history_model.specs.World.{SessionStanding, Outside, Open, Doomed, World}
 use Rattle.history_model.proofs.EveryHistory.{serial-world}
 use Rattle.history_model.proofs.Worlds.{IsSerialWorld, IsStanding}
-use Rattle.row_locks.specs.Kept.{kept_by as held_by}
+use Rattle.row_locks.specs.SessionItems.{items_by as held_by}
 use Rattle.row_locks.specs.RepresentsItems.{AreHeld, RepresentsItems}
-use Rattle.row_locks.proofs.Holders.{lie-none, stand-same}
-use Rattle.txn_core.specs.declared.kept.Kept.{Kept}
-use Rattle.txn_core.specs.declared.kept.Kept.TheVariants as kept
-use Rattle.txn_core.specs.Kept.{RepresentsSession, kept_by, once_doomed}
+use Rattle.row_locks.proofs.Holders.{none_lie, stand-same}
+use Rattle.txn_core.specs.declared.session_state.SessionState.{SessionState}
+use Rattle.txn_core.specs.declared.session_state.SessionState.TheVariants as kept
+use Rattle.txn_core.specs.SessionStates.{RepresentsSession, state_by, once_doomed}
 use Rattle.txn_core.specs.Transactions.{AreSame, Transactions}
 use Rattle.engine_core.specs.Answered.{Erases, Tells, left}
 use Rattle.engine_core.specs.Asked.{RunsByItself}
@@ -48,31 +47,23 @@ in_range (suc number) = by (nat_lt SESSIONS (suc number)) refl
     by true is = inl (inr (ltb-true SESSIONS (suc number) is))
     by false is = let most = ltb-false SESSIONS (suc number) is in inr (omega arith, omega arith)
 
--- no name lies on nothing
-none_lies : (names : List RowName) → lie_on names [] ≡ false
-none_lies names = lie-none [] [] names refl (stand-same [])
-
-and_false : (b : Bool) → (b && false) ≡ false
-and_false true = refl
-and_false false = refl
-
 either_same : {X : Type 0} (b : Bool) (one other : X) → one ≡ other → (if b then one else other) ≡ other
 either_same true one other same = same
 either_same false one other same = refl
 
 -- what a session that is outside keeps is nothing, whatever is once_doomed
-doomed_nothing : (b : Bool) (place : Place) (one : Kept) → one ≡ kept.Nothing → (if b then once_doomed place one else one) ≡ kept.Nothing
+doomed_nothing : (b : Bool) (place : Place) (one : SessionState) → one ≡ kept.Nothing → (if b then once_doomed place one else one) ≡ kept.Nothing
 doomed_nothing true place one is = ap (once_doomed place) is
 doomed_nothing false place one is = is
 
 -- Where no row was erased, nobody is doomed.
 pub same_undoomed : (place : Place) (before after : Transactions) (held : ℕ → List FootItem) → AreHeld before.held held → HasDoomed [] place before after → AreSame before after
 same_undoomed place before after held are doomed = record {
-  kept = λ session. kept_in session (in_range session);
+  states = λ session. kept_in session (in_range session);
   held = λ session. held_in session (in_range session);
 }
   where
-    kept_in : (session : ℕ) → ((session ≡ 0) ⊎ (SESSIONS < session)) ⊎ ((1 ≤ session) × (session ≤ SESSIONS)) → kept_by after.kept session ≡ kept_by before.kept session
+    kept_in : (session : ℕ) → ((session ≡ 0) ⊎ (SESSIONS < session)) ⊎ ((1 ≤ session) × (session ≤ SESSIONS)) → state_by after.states session ≡ state_by before.states session
     kept_in session (inl out) = (doomed.others session out).0
     kept_in session (inr within) = (doomed.once_doomed held are session within.0 within.1).0
 
@@ -90,8 +81,8 @@ module _ (history : History) (entry : Entry) (before after : State) (event : IsE
   abbrev told : Reply
   told = answer now entry
 
-  abbrev own : Kept
-  own = kept_by before.txns.kept session
+  abbrev own : SessionState
+  own = state_by before.txns.states session
 
   is_serial : IsSerialWorld empty history now
   is_serial = serial-world empty history sound-empty event.entries
@@ -111,12 +102,12 @@ module _ (history : History) (entry : Entry) (before after : State) (event : IsE
           no (inr past) = let last = stands.last in omega arith
 
   -- A statement outside a transaction that runs by itself
-  module _ (asked : Statement) (asks : entry.request ≡ Run asked) (itself : RunsByItself asked) (nothing : kept_by before.txns.kept entry.session.0 ≡ kept.Nothing)
+  module _ (asked : Statement) (asks : entry.request ≡ Run asked) (itself : RunsByItself asked) (nothing : state_by before.txns.states entry.session.0 ≡ kept.Nothing)
       (given : Answer) (tells : Tells before.version (reply_outside (world empty history) entry.session.0 Took asked) (run before.version asked).db given)
       (erased : Erases before.version (Run asked) given) (version : after.version ≡ left before.version given.next) (weighs : weight after.version ≡ after.weighs)
       (doomed : HasDoomed given.erased place before.txns after.txns) where
     stands_outside : now.standing session ≡ Outside
-    stands_outside = stood-outside now.flat own (now.standing session) (event.stands.kept session) nothing
+    stands_outside = stood-outside now.flat own (now.standing session) (event.stands.states session) nothing
 
     told_outside : told ≡ reply_outside now session Took asked
     told_outside =
@@ -172,19 +163,19 @@ module _ (history : History) (entry : Entry) (before after : State) (event : IsE
         by : ((other ≡ 0) ⊎ (SESSIONS < other)) ⊎ ((1 ≤ other) × (other ≤ SESSIONS))
             → IsLeft history entry event.entries event.is_entry event.took before event.stands place after other
         by (inr within) = record {
-          kept = (doomed.once_doomed (held now) event.stands.held other within.0 within.1).0
-              ∙ ap (λ (b : Bool). if b then once_doomed place (kept_by before.txns.kept other) else kept_by before.txns.kept other) (sym (dooms_is other));
+          states = (doomed.once_doomed (held now) event.stands.held other within.0 within.1).0
+              ∙ ap (λ (b : Bool). if b then once_doomed place (state_by before.txns.states other) else state_by before.txns.states other) (sym (dooms_is other));
           held = (doomed.once_doomed (held now) event.stands.held other within.0 within.1).1
               ∙ ap (λ (b : Bool). if b then [] else held_by before.txns.held other) (sym (dooms_is other));
         }
         by (inl out) =
-            let undoomed : dooms now entry told other ≡ false = dooms_is other ∙ (ap (lie_on given.erased) (none_held other out) ∙ none_lies given.erased) in
+            let undoomed : dooms now entry told other ≡ false = dooms_is other ∙ (ap (lie_on given.erased) (none_held other out) ∙ none_lie given.erased) in
             record {
-              kept = (doomed.others other out).0 ∙ ap (λ (b : Bool). if b then once_doomed place (kept_by before.txns.kept other) else kept_by before.txns.kept other) (sym undoomed);
+              states = (doomed.others other out).0 ∙ ap (λ (b : Bool). if b then once_doomed place (state_by before.txns.states other) else state_by before.txns.states other) (sym undoomed);
               held = (doomed.others other out).1 ∙ ap (λ (b : Bool). if b then [] else held_by before.txns.held other) (sym undoomed);
             }
 
-    own_kept : kept_by after.txns.kept session ≡ kept.Nothing
+    own_kept : state_by after.txns.states session ≡ kept.Nothing
     own_kept =
         (doomed.once_doomed (held now) event.stands.held session event.is_entry.first event.is_entry.last).0
         ∙ doomed_nothing (lie_on given.erased (held now session)) place own nothing
@@ -206,7 +197,7 @@ module _ (history : History) (entry : Entry) (before after : State) (event : IsE
     serves-outside = (
       replied,
       stands-next history entry event.entries event.is_entry event.took before event.stands after place at left_is weighs
-          (subst (λ stood. RepresentsSession (flat_after now entry told) (kept_by after.txns.kept session) stood) (sym own_outside)
+          (subst (λ stood. RepresentsSession (flat_after now entry told) (state_by after.txns.states session) stood) (sym own_outside)
           (subst (λ one. RepresentsSession (flat_after now entry told) one Outside) (sym own_kept) tt))
           (subst (λ stood. RepresentsItems (held_by after.txns.held session) (items_held (flat_after now entry told).schema stood)) (sym own_outside) own_held)
           others,

@@ -35,7 +35,7 @@ unfolding create_table
 judged-table db next table weighs sound weight_is readable none made =
     let same : create db table ≡ next = ap (λ (o : Outcome). o.db) (rw none at made) in
     let sound_next = sound-create db table sound readable none in
-    subst (λ db. IsJudged db (Weighs weighs)) same (sound_next.faultless, weighs-create db table sound.kept none ∙ weight_is)
+    subst (λ db. IsJudged db (Weighs weighs)) same (sound_next.faultless, weighs-create db table sound.well_formed none ∙ weight_is)
 
 -- a database in which only the weight may be wrong
 judged-weighed : (db : Db) (whole : ℕ) (judged : Judged) → fault db ≡ (if nat_lt STORE_WEIGHT whole then Some (Limit limit.Weight) else None) → weight db ≡ whole → IsWeighed whole judged → IsJudged db judged
@@ -54,4 +54,4 @@ judged-view db next view definition weighs judged sound weight_is is made weighe
     subst (λ db. IsJudged db judged) same
     (judged-weighed (create_view db view) (weighs + view_weight db definition) judged
     (fault-create_view db view sound ∙ ap (λ n. if nat_lt STORE_WEIGHT n then Some (Limit limit.Weight) else None) whole)
-    (weight-create_view db view sound.kept ∙ whole) weighed)
+    (weight-create_view db view sound.well_formed ∙ whole) weighed)

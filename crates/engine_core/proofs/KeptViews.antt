@@ -16,7 +16,7 @@ use Rattle.query_model.proofs.NoFaults.{none-lowest}
 use Rattle.state_model.specs.Create.{with_view}
 use Rattle.state_model.specs.Created.{Create, IsAdmitted, IsCreated, IsReadableCreate, OfTable, OfView, with_create}
 use Rattle.state_model.proofs.CreatedLemmas.{kept-created}
-use Rattle.txn_core.specs.Views.{AreViewsThere, ReadsTables}
+use Rattle.query_eval.specs.Views.{AreViewsThere, ReadsTables}
 use Rattle.engine_core.proofs.TableSources.{base-by_tables}
 
 -- what was there is there among more tables

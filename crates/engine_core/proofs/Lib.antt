@@ -8,9 +8,8 @@ pub mod FewColumns
 pub mod Forgotten
 pub mod Judged
 mod JudgedCreates
-pub mod KeptTables
 pub mod KeptViews
-mod Nets
+pub mod Nets
 mod NextWorlds
 mod OpenStates
 mod OutsideReplies

@@ -37,7 +37,7 @@ may-net db list before after is = subst (MayBePut db.schema.tables) (sym is) (ne
 
 module _ (db : Db) (sound : Sound db) where
   pub changed-none : put db [] ≡ db
-  changed-none = ap (λ rows. record db { rows = rows }) (put-none 0 db.schema.tables db.rows sound.kept.ordered.rising)
+  changed-none = ap (λ rows. record db { rows = rows }) (put-none 0 db.schema.tables db.rows sound.well_formed.ordered.rising)
 
   -- and its net is empty
   module _ (list : List Change) (is : list ≡ net db (put db list)) (none : list ≡ []) where

@@ -23,12 +23,12 @@ use Rattle.history_model.proofs.HistoryLemmas.{place-world, reply-last}
 use Rattle.history_model.proofs.SerialLemmas.{held-kept, serial-step}
 use Rattle.history_model.proofs.Working.{answer-works, up-after}
 use Rattle.history_model.proofs.Worlds.{IsSerialWorld}
-use Rattle.row_locks.specs.Kept.{kept_by as held_by}
+use Rattle.row_locks.specs.SessionItems.{items_by as held_by}
 use Rattle.row_locks.specs.RepresentsItems.{RepresentsItems}
 use Rattle.row_locks.proofs.Holders.{stand-same}
-use Rattle.txn_core.specs.declared.kept.Kept.{Kept}
-use Rattle.txn_core.specs.declared.kept.Kept.TheVariants as kept
-use Rattle.txn_core.specs.Kept.{RepresentsSession, kept_by, once_doomed}
+use Rattle.txn_core.specs.declared.session_state.SessionState.{SessionState}
+use Rattle.txn_core.specs.declared.session_state.SessionState.TheVariants as kept
+use Rattle.txn_core.specs.SessionStates.{RepresentsSession, state_by, once_doomed}
 use Rattle.txn_core.proofs.RepresentsSteps.{represents_dooming}
 use Rattle.txn_core.proofs.OpenBlocks.{represents_elsewhere}
 use Rattle.engine_core.specs.RepresentsWorld.{RepresentsWorld}
@@ -80,7 +80,7 @@ module _ (history : History) (entry : Entry) (entered : IsHistory history) (is_e
       agree : is_open (now.standing other) ≡ true → Agree (held now other) now.flat next_flat
       agree opened = held-kept empty history now is_serial entry is_entry told (reply-last empty history entry) refl other (ap is_open same_standing ∙ opened)
 
-      stands_still : (one : Kept) (stood : SessionStanding) → now.standing other ≡ stood → RepresentsSession now.flat one stood → RepresentsSession next_flat one stood
+      stands_still : (one : SessionState) (stood : SessionStanding) → now.standing other ≡ stood → RepresentsSession now.flat one stood → RepresentsSession next_flat one stood
       unfolding flat standing
       stands_still kept.Nothing Outside is stood = tt
       stands_still (kept.Open txn) (Open begun block) is stood =
@@ -103,8 +103,8 @@ module _ (history : History) (entry : Entry) (entered : IsHistory history) (is_e
       holds_still (Open begun block) is = ap (λ schema. items_held schema (Open begun block)) (sym (agree (ap is_open is)).schema)
       holds_still (Doomed by) is = refl
 
-      kept_still : RepresentsSession next_flat (kept_by before.txns.kept other) (now.standing other)
-      kept_still = stands_still (kept_by before.txns.kept other) (now.standing other) refl (stands.kept other)
+      kept_still : RepresentsSession next_flat (state_by before.txns.states other) (now.standing other)
+      kept_still = stands_still (state_by before.txns.states other) (now.standing other) refl (stands.states other)
 
       held_still : RepresentsItems (held_by before.txns.held other) (items_held next_flat.schema (now.standing other))
       unfolding held
@@ -118,13 +118,13 @@ module _ (history : History) (entry : Entry) (entered : IsHistory history) (is_e
 
   -- what is kept of another session behind the entry: it is once_doomed where it is doomed, else it is as it was
   pub record IsLeft (place : Place) (after : State) (other : ℕ) : Type 0 where
-    pub kept : kept_by after.txns.kept other
-        ≡ (if dooms (world empty history) entry (answer (world empty history) entry) other then once_doomed place (kept_by before.txns.kept other) else kept_by before.txns.kept other)
+    pub states : state_by after.txns.states other
+        ≡ (if dooms (world empty history) entry (answer (world empty history) entry) other then once_doomed place (state_by before.txns.states other) else state_by before.txns.states other)
     pub held : held_by after.txns.held other ≡ (if dooms (world empty history) entry (answer (world empty history) entry) other then [] else held_by before.txns.held other)
 
   module _ (after : State) (place : Place) (at : place.0 ≡ length history) (version : after.version ≡ flat_after (world empty history) entry (answer (world empty history) entry))
       (weighs : weight after.version ≡ after.weighs)
-      (own_kept : RepresentsSession (flat_after (world empty history) entry (answer (world empty history) entry)) (kept_by after.txns.kept entry.session.0)
+      (own_kept : RepresentsSession (flat_after (world empty history) entry (answer (world empty history) entry)) (state_by after.txns.states entry.session.0)
       (own_after (world empty history) entry (answer (world empty history) entry)))
       (own_held : RepresentsItems (held_by after.txns.held entry.session.0) (items_held (flat_after (world empty history) entry (answer (world empty history) entry)).schema
       (own_after (world empty history) entry (answer (world empty history) entry))))
@@ -134,10 +134,10 @@ module _ (history : History) (entry : Entry) (entered : IsHistory history) (is_e
 
     -- of another session
     kept_by_doom : (other : ℕ) (differs : other ≡ session → ⊥) (b : Bool) → dooms now entry told other ≡ b
-        → RepresentsSession next_flat (if b then once_doomed place (kept_by before.txns.kept other) else kept_by before.txns.kept other) (if b then doomed_at now.place (now.standing other) else now.standing other)
+        → RepresentsSession next_flat (if b then once_doomed place (state_by before.txns.states other) else state_by before.txns.states other) (if b then doomed_at now.place (now.standing other) else now.standing other)
     kept_by_doom other differs true doomed =
-        subst (λ n. RepresentsSession next_flat (once_doomed place (kept_by before.txns.kept other)) (doomed_at n (now.standing other))) here
-        (represents_dooming now.flat next_flat place (kept_by before.txns.kept other) (now.standing other) (stands.kept other))
+        subst (λ n. RepresentsSession next_flat (once_doomed place (state_by before.txns.states other)) (doomed_at n (now.standing other))) here
+        (represents_dooming now.flat next_flat place (state_by before.txns.states other) (now.standing other) (stands.states other))
     kept_by_doom other differs false undoomed = kept_still other differs undoomed
 
     held_by_doom : (other : ℕ) (differs : other ≡ session → ⊥) (b : Bool) → dooms now entry told other ≡ b
@@ -145,11 +145,11 @@ module _ (history : History) (entry : Entry) (entered : IsHistory history) (is_e
     held_by_doom other differs true doomed = rw (none_held other differs next_flat.schema now.place (now.standing other)) (stand-same [])
     held_by_doom other differs false undoomed = held_still other differs undoomed
 
-    kept_at : (one : ℕ) (b : Bool) → (one == session) ≡ b → RepresentsSession next_flat (kept_by after.txns.kept one) (if b then own_after now entry told else other_after now entry told one)
-    kept_at one true same = subst (λ n. RepresentsSession next_flat (kept_by after.txns.kept n) (own_after now entry told)) (sym (eqb-true one session same)) own_kept
+    kept_at : (one : ℕ) (b : Bool) → (one == session) ≡ b → RepresentsSession next_flat (state_by after.txns.states one) (if b then own_after now entry told else other_after now entry told one)
+    kept_at one true same = subst (λ n. RepresentsSession next_flat (state_by after.txns.states n) (own_after now entry told)) (sym (eqb-true one session same)) own_kept
     kept_at one false apart =
         let differs = eqb-false one session apart in
-        subst (λ found. RepresentsSession next_flat found (other_after now entry told one)) (sym (others one differs).kept) (kept_by_doom one differs (dooms now entry told one) refl)
+        subst (λ found. RepresentsSession next_flat found (other_after now entry told one)) (sym (others one differs).states) (kept_by_doom one differs (dooms now entry told one) refl)
 
     held_at : (one : ℕ) (b : Bool) → (one == session) ≡ b
         → RepresentsItems (held_by after.txns.held one) (items_held next_flat.schema (if b then own_after now entry told else other_after now entry told one))
@@ -164,6 +164,6 @@ module _ (history : History) (entry : Entry) (entered : IsHistory history) (is_e
       flat = version;
       weighs = weighs;
       up = up-after now entry took stands.up;
-      kept = λ one. kept_at one (one == session) refl;
+      states = λ one. kept_at one (one == session) refl;
       held = λ one. held_at one (one == session) refl;
     }

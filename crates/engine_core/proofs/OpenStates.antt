@@ -18,10 +18,10 @@ use Rattle.history_model.specs.History.{History, flat, standing, world}
 use Rattle.history_model.specs.World.{World}
 use Rattle.txn_space.specs.Changed.{changed_rows}
 use Rattle.txn_space.specs.Sound.{IsBase, IsSpaceOf}
-use Rattle.txn_core.specs.declared.kept.Kept.{Kept}
-use Rattle.txn_core.specs.Kept.{is_open, kept_by}
+use Rattle.txn_core.specs.declared.session_state.SessionState.{SessionState}
+use Rattle.txn_core.specs.SessionStates.{is_open, state_by}
 use Rattle.txn_core.specs.Runs.{IsStore}
-use Rattle.txn_core.specs.Transactions.{IsQuietKept, space_of}
+use Rattle.txn_core.specs.Transactions.{IsQuietState, space_of}
 use Rattle.txn_core.proofs.OpenBlocks.{rows_shown}
 use Rattle.txn_core.proofs.SoundBases.{base-sound, store-sound}
 use Rattle.engine_core.specs.RepresentsWorld.{IsEvent, Serves}
@@ -54,21 +54,21 @@ module _ (history : History) (entry : Entry) (before : State) (event : IsEvent b
   base-event = base-sound before.version sound-event
 
   pub store-event : IsStore before.version
-  store-event = store-sound before.version sound-event (views_there-created before.version sound-event.kept.created)
+  store-event = store-sound before.version sound-event (views_there-created before.version sound-event.well_formed.created)
 
   -- where a transaction is open
-  module _ (opened : is_open (kept_by before.txns.kept entry.session.0) ≡ true) where
-    abbrev own : Kept
-    own = kept_by before.txns.kept entry.session.0
+  module _ (opened : is_open (state_by before.txns.states entry.session.0) ≡ true) where
+    abbrev own : SessionState
+    own = state_by before.txns.states entry.session.0
 
     is : IsOpenTxn now.flat own (now.standing entry.session.0)
-    is = stood-open now.flat own (now.standing entry.session.0) (event.stands.kept entry.session.0) opened
+    is = stood-open now.flat own (now.standing entry.session.0) (event.stands.states entry.session.0) opened
 
     space_is : is.txn.space ≡ space_of own
     space_is = sym (ap space_of is.is_kept)
 
     -- its changes are of the tables that are there
-    pub space-event : IsSpaceOf before.version.schema.tables (space_of (kept_by before.txns.kept entry.session.0))
+    pub space-event : IsSpaceOf before.version.schema.tables (space_of (state_by before.txns.states entry.session.0))
     space-event =
         subst (λ space. IsSpaceOf before.version.schema.tables space) space_is
         (subst (λ (db : Db). IsSpaceOf db.schema.tables is.txn.space) (sym event.stands.flat) is.kept_as.0.sound)
@@ -78,11 +78,11 @@ module _ (history : History) (entry : Entry) (before : State) (event : IsEvent b
     shown = rows_shown empty history sound-empty event.entries entry.session.0 is.begun is.block is.stands is.txn.space is.kept_as.0
 
     -- the rows that they show may stand there
-    pub rows-event : AreRowsOf before.version.schema.tables (changed_rows before.version.schema.tables before.version.rows (space_of (kept_by before.txns.kept entry.session.0)))
+    pub rows-event : AreRowsOf before.version.schema.tables (changed_rows before.version.schema.tables before.version.rows (space_of (state_by before.txns.states entry.session.0)))
     rows-event =
         subst (λ space. AreRowsOf before.version.schema.tables (changed_rows before.version.schema.tables before.version.rows space)) space_is
         (subst (λ (db : Db). AreRowsOf db.schema.tables (changed_rows db.schema.tables db.rows is.txn.space)) (sym event.stands.flat) shown)
 
     -- and they are none where it has run no write
-    pub quiet-event : IsQuietKept (kept_by before.txns.kept entry.session.0)
-    quiet-event = subst IsQuietKept (sym is.is_kept) is.kept_as.1
+    pub quiet-event : IsQuietState (state_by before.txns.states entry.session.0)
+    quiet-event = subst IsQuietState (sym is.is_kept) is.kept_as.1

@@ -23,7 +23,7 @@ use Rattle.history_model.specs.Held.{lowest_other, others}
 use Rattle.history_model.specs.History.{forgotten}
 use Rattle.history_model.specs.Reply.{create_reply, reply_outside, unless_busy}
 use Rattle.history_model.specs.World.{World}
-use Rattle.txn_core.specs.Kept.{is_open, kept_by}
+use Rattle.txn_core.specs.SessionStates.{is_open, state_by}
 use Rattle.txn_core.proofs.RepresentsSteps.{represents_lowest}
 use Rattle.engine_core.specs.declared.answer.Answer.{Answer}
 use Rattle.engine_core.specs.Answered.{Tells, bound_reply}
@@ -94,9 +94,9 @@ module _ (state : State) (world : World) (stands : RepresentsWorld state world) 
   tells-explain asked answer is told stays = rw (is, reply-explain) (explain_step answer told stays)
 
   -- who keeps a CREATE waiting
-  pub lowest-in : (given : Option SessionNo) → option_map (λ (other : SessionNo). other.0) given ≡ find (λ other. is_open (kept_by state.txns.kept other)) (others session)
+  pub lowest-in : (given : Option SessionNo) → option_map (λ (other : SessionNo). other.0) given ≡ find (λ other. is_open (state_by state.txns.states other)) (others session)
       → option_map (λ (other : SessionNo). other.0) given ≡ lowest_other world session
-  lowest-in given is = is ∙ represents_lowest world state.txns.kept stands.kept session
+  lowest-in given is = is ∙ represents_lowest world state.txns.states stands.states session
 
   busy_step : (asked : Statement) → IsCreate asked → reply_outside world session Took asked ≡ unless_busy (lowest_other world session) (create_reply Took (run world.flat asked))
   busy_step (CreateTable table) create = refl
@@ -104,14 +104,14 @@ module _ (state : State) (world : World) (stands : RepresentsWorld state world) 
   busy_step _ create = absurd create
 
   pub reply-busy : (asked : Statement) → IsCreate asked → (other : SessionNo) (given : Option SessionNo) → given ≡ Some other
-      → option_map (λ (other : SessionNo). other.0) given ≡ find (λ other. is_open (kept_by state.txns.kept other)) (others session)
+      → option_map (λ (other : SessionNo). other.0) given ≡ find (λ other. is_open (state_by state.txns.states other)) (others session)
       → reply_outside world session Took asked ≡ Refused (Busy other)
   reply-busy asked create other given is lowest =
       let found : lowest_other world session ≡ Some other.0 = sym (lowest-in given lowest) ∙ ap (option_map (λ (other : SessionNo). other.0)) is in
       busy_step asked create ∙ ap (λ found. unless_busy found (create_reply Took (run world.flat asked))) found
 
   pub reply-create : (asked : Statement) → IsCreate asked → (given : Option SessionNo) → given ≡ None
-      → option_map (λ (other : SessionNo). other.0) given ≡ find (λ other. is_open (kept_by state.txns.kept other)) (others session)
+      → option_map (λ (other : SessionNo). other.0) given ≡ find (λ other. is_open (state_by state.txns.states other)) (others session)
       → reply_outside world session Took asked ≡ create_reply Took (run state.version asked)
   reply-create asked create given is lowest =
       let none : lowest_other world session ≡ None = sym (lowest-in given lowest) ∙ ap (option_map (λ (other : SessionNo). other.0)) is in

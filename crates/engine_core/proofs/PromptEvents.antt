@@ -22,12 +22,12 @@ use Rattle.history_model.specs.Reply.{answer, is_refusal, reply_in}
 use Rattle.history_model.specs.World.{Block, SessionStanding, Outside, Open, Doomed, World}
 use Rattle.history_model.proofs.BlockLemmas.{items-nil}
 use Rattle.history_model.proofs.DoomLemmas.{undoomed}
-use Rattle.row_locks.specs.Kept.{kept_by as held_by}
+use Rattle.row_locks.specs.SessionItems.{items_by as held_by}
 use Rattle.row_locks.specs.RepresentsItems.{RepresentsItems}
 use Rattle.row_locks.proofs.Holders.{stand-same}
-use Rattle.txn_core.specs.declared.kept.Kept.{Kept}
-use Rattle.txn_core.specs.declared.kept.Kept.TheVariants as kept
-use Rattle.txn_core.specs.Kept.{RepresentsSession, doom_of, is_open, kept_by, told as told_of}
+use Rattle.txn_core.specs.declared.session_state.SessionState.{SessionState}
+use Rattle.txn_core.specs.declared.session_state.SessionState.TheVariants as kept
+use Rattle.txn_core.specs.SessionStates.{RepresentsSession, doom_of, is_open, state_by, told as told_of}
 use Rattle.txn_core.specs.Transactions.{AreOthersSame, AreSame}
 use Rattle.txn_core.proofs.RepresentsSteps.{represents_begun}
 use Rattle.engine_core.specs.Asked.{has_place_inside}
@@ -71,8 +71,8 @@ module _ (history : History) (entry : Entry) (before after : State) (event : IsE
   abbrev told : Reply
   told = answer now entry
 
-  abbrev own : Kept
-  own = kept_by before.txns.kept session
+  abbrev own : SessionState
+  own = state_by before.txns.states session
 
   -- by how the session stands and what it asks
   told_by : (stood : SessionStanding) (request : Request) → now.standing session ≡ stood → entry.request ≡ request → told ≡ reply_in now session Took stood request
@@ -104,12 +104,12 @@ module _ (history : History) (entry : Entry) (before after : State) (event : IsE
       subst (λ stood. RepresentsItems (held_by before.txns.held session) (items_held now.flat.schema stood)) stands (event.stands.held session)
 
   -- a doom is told, and nothing else done
-  pub serves-doomed : (place : Place) → doom_of (kept_by before.txns.kept entry.session.0) ≡ Some place → AreOthersSame entry.session.0 before.txns after.txns
-      → kept_by after.txns.kept entry.session.0 ≡ told_of (kept_by before.txns.kept entry.session.0)
+  pub serves-doomed : (place : Place) → doom_of (state_by before.txns.states entry.session.0) ≡ Some place → AreOthersSame entry.session.0 before.txns after.txns
+      → state_by after.txns.states entry.session.0 ≡ told_of (state_by before.txns.states entry.session.0)
       → held_by after.txns.held entry.session.0 ≡ held_by before.txns.held entry.session.0
       → Serves {E = ℕ} after history entry (Ok (Refused (refusal.Doomed place)))
   serves-doomed place doom others keeps holds =
-      let stood = stood-doomed now.flat own (now.standing session) place (event.stands.kept session) doom in
+      let stood = stood-doomed now.flat own (now.standing session) place (event.stands.states session) doom in
       let is : told ≡ Refused (refusal.Doomed place) = told_by (Doomed place.0) entry.request stood refl in (
         is,
         stands-refused history entry before after event (refusal.Doomed place) is Outside version weighs others
@@ -139,9 +139,9 @@ module _ (history : History) (entry : Entry) (before after : State) (event : IsE
   limit_stays limit (Open begun block) conflicts free = refl
   limit_stays limit (Doomed by) conflicts free = absurd free
 
-  module _ (none : doom_of (kept_by before.txns.kept entry.session.0) ≡ None) where
+  module _ (none : doom_of (state_by before.txns.states entry.session.0) ≡ None) where
     free : IsUndoomed (now.standing session)
-    free = stood-undoomed now.flat own (now.standing session) (event.stands.kept session) none
+    free = stood-undoomed now.flat own (now.standing session) (event.stands.states session) none
 
     pub serves-syntax : (byte : ℕ) → entry.request ≡ Syntax byte → AreSame before.txns after.txns → Serves {E = ℕ} after history entry (Ok (Refused (refusal.Syntax byte)))
     serves-syntax byte asks same =
@@ -175,7 +175,7 @@ module _ (history : History) (entry : Entry) (before after : State) (event : IsE
     end_left (Open begun block) = refl
     end_left (Doomed by) = refl
 
-    pub serves-end : entry.request ≡ End → AreOthersSame entry.session.0 before.txns after.txns → kept_by after.txns.kept entry.session.0 ≡ kept.Nothing
+    pub serves-end : entry.request ≡ End → AreOthersSame entry.session.0 before.txns after.txns → state_by after.txns.states entry.session.0 ≡ kept.Nothing
         → held_by after.txns.held entry.session.0 ≡ [] → Serves {E = ℕ} after history entry (Ok Ended)
     serves-end asks others keeps holds = (
       told_by (now.standing session) End refl asks ∙ end_told (now.standing session) free,
@@ -188,9 +188,9 @@ module _ (history : History) (entry : Entry) (before after : State) (event : IsE
     )
 
   -- outside a transaction
-  module _ (nothing : kept_by before.txns.kept entry.session.0 ≡ kept.Nothing) where
+  module _ (nothing : state_by before.txns.states entry.session.0 ≡ kept.Nothing) where
     outside : now.standing session ≡ Outside
-    outside = stood-outside now.flat own (now.standing session) (event.stands.kept session) nothing
+    outside = stood-outside now.flat own (now.standing session) (event.stands.states session) nothing
 
     begin_left : left_by now.flat Outside (Run Begin) ≡ now.flat
     unfolding run
@@ -201,7 +201,7 @@ module _ (history : History) (entry : Entry) (before after : State) (event : IsE
     begin_told = refl
 
     pub serves-begin : entry.request ≡ Run Begin → AreOthersSame entry.session.0 before.txns after.txns
-        → kept_by after.txns.kept entry.session.0 ≡ kept.Open (record { space = []; wrote = false })
+        → state_by after.txns.states entry.session.0 ≡ kept.Open (record { space = []; wrote = false })
         → held_by after.txns.held entry.session.0 ≡ held_by before.txns.held entry.session.0 → Serves {E = ℕ} after history entry (Ok Done)
     serves-begin asks others keeps holds = (
       told_by Outside (Run Begin) outside asks ∙ begin_told,
@@ -210,7 +210,7 @@ module _ (history : History) (entry : Entry) (before after : State) (event : IsE
           (λ other. undoomed now entry told other (rw asks refl))
           (own_by Outside (Run Begin) outside asks)
           (subst (λ one. RepresentsSession now.flat one (Open now.place [])) (sym keeps)
-          (represents_begun now.flat now.place (sound-now history entry event.entries event.is_entry event.took before event.stands).kept))
+          (represents_begun now.flat now.place (sound-now history entry event.entries event.is_entry event.took before event.stands).well_formed))
           (subst (λ items. RepresentsItems items (items_held now.flat.schema (Open now.place []))) (sym holds)
           (subst (λ items. RepresentsItems (held_by before.txns.held session) items) (sym (items-nil now.flat.schema)) (held_by_standing Outside outside))),
     )
@@ -232,12 +232,12 @@ module _ (history : History) (entry : Entry) (before after : State) (event : IsE
     serves-rollback_outside asks same = refused_outside (Run Rollback) asks refl (λ conflicts. refl) same
 
   -- in a transaction
-  module _ (opened : is_open (kept_by before.txns.kept entry.session.0) ≡ true) where
+  module _ (opened : is_open (state_by before.txns.states entry.session.0) ≡ true) where
     is : IsOpenTxn now.flat own (now.standing session)
-    is = stood-open now.flat own (now.standing session) (event.stands.kept session) opened
+    is = stood-open now.flat own (now.standing session) (event.stands.states session) opened
 
     -- ROLLBACK forgets it
-    pub serves-rollback : entry.request ≡ Run Rollback → AreOthersSame entry.session.0 before.txns after.txns → kept_by after.txns.kept entry.session.0 ≡ kept.Nothing
+    pub serves-rollback : entry.request ≡ Run Rollback → AreOthersSame entry.session.0 before.txns after.txns → state_by after.txns.states entry.session.0 ≡ kept.Nothing
         → held_by after.txns.held entry.session.0 ≡ [] → Serves {E = ℕ} after history entry (Ok Done)
     serves-rollback asks others keeps holds = (
       told_by (Open is.begun is.block) (Run Rollback) is.stands asks,

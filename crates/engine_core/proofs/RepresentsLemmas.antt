@@ -18,11 +18,11 @@ use Rattle.history_model.specs.Serial.{IsEntry, IsHistory}
 use Rattle.history_model.specs.World.{Outside}
 use Rattle.history_model.proofs.BuiltRequests.{is_built-of}
 use Rattle.history_model.proofs.HistoryLemmas.{reply-last, world-append, world-empty}
-use Rattle.row_locks.specs.Kept.{kept_by as held_by}
+use Rattle.row_locks.specs.SessionItems.{items_by as held_by}
 use Rattle.row_locks.specs.RepresentsItems.{RepresentsItems}
 use Rattle.row_locks.proofs.Holders.{stand-same}
-use Rattle.txn_core.specs.declared.kept.Kept.TheVariants as kept
-use Rattle.txn_core.specs.Kept.{RepresentsSession, kept_by}
+use Rattle.txn_core.specs.declared.session_state.SessionState.TheVariants as kept
+use Rattle.txn_core.specs.SessionStates.{RepresentsSession, state_by}
 use Rattle.engine_core.specs.Asked.{IsBuiltRequest}
 use Rattle.engine_core.specs.Made.{IsMade}
 use Rattle.engine_core.specs.Seen.{LeavesUnmade, Makes, Seen}
@@ -30,7 +30,7 @@ use Rattle.engine_core.specs.RepresentsWorld.{RepresentsWorld}
 use Rattle.engine_core.specs.declared.state.State.{State}
 
 -- before any entry
-pub stands-none : (state : State) → state.version ≡ empty → weight state.version ≡ state.weighs → ((session : ℕ) → kept_by state.txns.kept session ≡ kept.Nothing)
+pub stands-none : (state : State) → state.version ≡ empty → weight state.version ≡ state.weighs → ((session : ℕ) → state_by state.txns.states session ≡ kept.Nothing)
     → ((session : ℕ) → held_by state.txns.held session ≡ []) → RepresentsWorld state (world empty [])
 unfolding held
 stands-none state version weighs nothing free =
@@ -38,7 +38,7 @@ stands-none state version weighs nothing free =
       flat = version;
       weighs = weighs;
       up = refl;
-      kept = λ session. subst (λ one. RepresentsSession empty one Outside) (sym (nothing session)) tt;
+      states = λ session. subst (λ one. RepresentsSession empty one Outside) (sym (nothing session)) tt;
       held = λ session. subst (λ items. RepresentsItems items []) (sym (free session)) (stand-same []);
     })
 

@@ -2,6 +2,7 @@
 use Rattle.std.proofs.Common.{◌≡◌, ◌∙◌, ◌||◌, ℕ, List, [], ◌∷◌, ◌++◌, length, Bool, true, false, None, Some, ap, append-nil, refl, subst, sym}
 use Rattle.std.specs.Prelude.{Option, Ok, Err, not, if◌then◌else◌}
 use Rattle.std.proofs.lemmas.List.Folds.{list_any-append}
+use Rattle.std.proofs.Math.Bool.{or-true}
 use Rattle.own_model.specs.declared.bound.Bound.{Bound}
 use Rattle.own_model.specs.declared.bound.Bound.TheVariants as bound_as
 use Rattle.own_model.specs.declared.history.Entry.{Entry}
@@ -18,6 +19,7 @@ use Rattle.query_model.specs.BoundStatement.{bound_statement}
 use Rattle.query_model.specs.Footprints.{footprint_of}
 use Rattle.state_model.proofs.WellFormedLemmas.{sound-empty}
 use Rattle.run_model.specs.Items.{TakesRows, items_of, items_of_all}
+use Rattle.run_model.proofs.StatementFootprints.{items_bound}
 use Rattle.history_model.specs.HasWritten.{has_written, is_bound_write, is_write}
 use Rattle.history_model.specs.Held.{Holding, held, holder, items_held}
 use Rattle.history_model.specs.History.{History, after_request, flat, flat_after, forgotten, is_conflict, left_by, own_after, standing, with_stated, world}
@@ -27,14 +29,14 @@ use Rattle.history_model.proofs.BlockLemmas.{items-push}
 use Rattle.history_model.proofs.EveryHistory.{serial-world}
 use Rattle.history_model.proofs.Within.{held-within, not_conflict-granted, refused-within}
 use Rattle.history_model.proofs.Worlds.{IsOpenBlock, open-block}
-use Rattle.row_locks.specs.Kept.{kept_by as held_by}
+use Rattle.row_locks.specs.SessionItems.{items_by as held_by}
 use Rattle.row_locks.specs.RepresentsItems.{RepresentsItems, holder_among}
 use Rattle.row_locks.proofs.Holders.{holder-alike, holder-of_world}
 use Rattle.txn_space.specs.declared.entry.Entry.{Entry as Change}
-use Rattle.txn_core.specs.declared.kept.Kept.{Kept}
-use Rattle.txn_core.specs.declared.kept.Kept.TheVariants as kept
+use Rattle.txn_core.specs.declared.session_state.SessionState.{SessionState}
+use Rattle.txn_core.specs.declared.session_state.SessionState.TheVariants as kept
 use Rattle.txn_core.specs.declared.txn.Txn.{Txn}
-use Rattle.txn_core.specs.Kept.{RepresentsSession, is_open, is_select, kept_by}
+use Rattle.txn_core.specs.SessionStates.{RepresentsSession, is_open, is_select, state_by}
 use Rattle.txn_core.specs.Runs.{HasRun, IsRowStatement}
 use Rattle.txn_core.specs.RepresentsBlock.{RepresentsBlock}
 use Rattle.txn_core.specs.Transactions.{AreSame, HasStated, Stated, conflict_of, space_of, wrote_of}
@@ -79,10 +81,6 @@ nobody_within schema (Update table sets cond) takes = refl
 nobody_within schema (Delete table cond) takes = refl
 nobody_within schema _ takes = absurd takes
 
-items_bound : (schema : Schema) (asked : Statement) (bound : Bound) → bound_statement schema asked ≡ Ok bound → items_of schema asked ≡ footprint_of schema bound
-unfolding items_of
-items_bound schema asked bound is = rw is refl
-
 items_unbound : (schema : Schema) (asked : Statement) (why : Refusal) → bound_statement schema asked ≡ Err why → items_of schema asked ≡ []
 unfolding items_of
 items_unbound schema asked why is = rw is refl
@@ -92,10 +90,6 @@ written_more : (schema : Schema) (block : Block) (last : StatedAt)
     → has_written schema (block ++ last ∷ []) ≡ (has_written schema block || (is_bound_write (bound_statement schema last.statement) || false))
 unfolding has_written
 written_more schema block last = list_any-append (λ (stated : StatedAt). is_bound_write (bound_statement schema stated.statement)) block (last ∷ [])
-
-or_true : (b : Bool) → (b || true) ≡ true
-or_true true = refl
-or_true false = refl
 
 -- a statement of rows that is no select is a write
 write_of : (schema : Schema) (bound : Bound) → IsRowStatement schema bound → not (is_select bound) ≡ true → is_write bound ≡ true
@@ -111,13 +105,13 @@ written_by : (schema : Schema) (block : Block) (last : StatedAt) (bound : Bound)
     → (wrote : Bool) → (wrote ≡ true → has_written schema block ≡ true) → (wrote || not (is_select bound)) ≡ true → has_written schema (block ++ last ∷ []) ≡ true
 written_by schema block last bound is row true before now = written_more schema block last ∙ rw (before refl) refl
 written_by schema block last bound is row false before now =
-    written_more schema block last ∙ rw (is, write_of schema bound row now) (or_true (has_written schema block))
+    written_more schema block last ∙ rw (is, write_of schema bound row now) (or-true (has_written schema block))
 
 written_still : (schema : Schema) (block : Block) (last : StatedAt) → has_written schema block ≡ true → has_written schema (block ++ last ∷ []) ≡ true
 written_still schema block last before = written_more schema block last ∙ rw before refl
 
 module _ (history : History) (entry : Entry) (before after : State) (event : IsEvent before history entry)
-    (version : after.version ≡ before.version) (weighs : after.weighs ≡ before.weighs) (opened : is_open (kept_by before.txns.kept entry.session.0) ≡ true)
+    (version : after.version ≡ before.version) (weighs : after.weighs ≡ before.weighs) (opened : is_open (state_by before.txns.states entry.session.0) ≡ true)
     (asked : Statement) (asks : entry.request ≡ Run asked) (takes : TakesRows asked) where
   abbrev now : World
   now = world empty history
@@ -128,11 +122,11 @@ module _ (history : History) (entry : Entry) (before after : State) (event : IsE
   abbrev told : Reply
   told = answer now entry
 
-  abbrev own : Kept
-  own = kept_by before.txns.kept session
+  abbrev own : SessionState
+  own = state_by before.txns.states session
 
   is : IsOpenTxn now.flat own (now.standing session)
-  is = stood-open now.flat own (now.standing session) (event.stands.kept session) opened
+  is = stood-open now.flat own (now.standing session) (event.stands.states session) opened
 
   abbrev block : Block
   block = is.block
@@ -197,7 +191,7 @@ module _ (history : History) (entry : Entry) (before after : State) (event : IsE
       open-block empty history now (serial-world empty history sound-empty event.entries) session is.begun block is.stands in
       let stands : RepresentsBlock now.flat longer is.txn.space =
       represents_unbound (length history) now.flat block is.txn.space opens.stated is.kept_as.0 last takes why refused in
-      let keeps : kept_by after.txns.kept session ≡ kept.Open is.txn = same.kept session ∙ is.is_kept in
+      let keeps : state_by after.txns.states session ≡ kept.Open is.txn = same.states session ∙ is.is_kept in
       let items : items_of_all now.flat.schema (statements_of longer) ≡ items_of_all now.flat.schema (statements_of block) =
       items-push now.flat.schema block last
       ∙ (ap (λ more. items_of_all now.flat.schema (statements_of block) ++ more) (items_unbound now.flat.schema asked why refused) ∙ append-nil (items_of_all now.flat.schema (statements_of block))) in (

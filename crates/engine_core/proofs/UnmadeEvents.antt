@@ -11,8 +11,8 @@ use Rattle.run_model.specs.Items.{TakesRows}
 use Rattle.history_model.specs.History.{History, world}
 use Rattle.history_model.specs.MayBeUnmade.{MayBeUnmadeFrom, MayBeUnmadeInside}
 use Rattle.history_model.specs.World.{Block, SessionStanding, Outside, Open, World}
-use Rattle.txn_core.specs.declared.kept.Kept.TheVariants as kept
-use Rattle.txn_core.specs.Kept.{is_open, kept_by}
+use Rattle.txn_core.specs.declared.session_state.SessionState.TheVariants as kept
+use Rattle.txn_core.specs.SessionStates.{is_open, state_by}
 use Rattle.txn_core.specs.Transactions.{wrote_of}
 use Rattle.engine_core.specs.Asked.{RunsByItself}
 use Rattle.engine_core.specs.RepresentsWorld.{IsEvent}
@@ -55,15 +55,15 @@ module _ (history : History) (entry : Entry) (before : State) (event : IsEvent b
       (subst (λ request. MayBeUnmadeFrom now.flat.schema stood request) (sym asks) may)
 
   -- outside a transaction a statement that runs by itself
-  pub unmade-outside : kept_by before.txns.kept entry.session.0 ≡ kept.Nothing → (asked : Statement) → entry.request ≡ Run asked → RunsByItself asked
+  pub unmade-outside : state_by before.txns.states entry.session.0 ≡ kept.Nothing → (asked : Statement) → entry.request ≡ Run asked → RunsByItself asked
       → MayBeUnmadeFrom (world empty history).flat.schema ((world empty history).standing entry.session.0) entry.request
   unmade-outside nothing asked asks itself =
-      may_from Outside (Run asked) (stood-outside now.flat (kept_by before.txns.kept session) (now.standing session) (event.stands.kept session) nothing) asks
+      may_from Outside (Run asked) (stood-outside now.flat (state_by before.txns.states session) (now.standing session) (event.stands.states session) nothing) asks
       (outside_may now.flat.schema asked itself)
 
-  module _ (opened : is_open (kept_by before.txns.kept entry.session.0) ≡ true) where
-    is : IsOpenTxn now.flat (kept_by before.txns.kept session) (now.standing session)
-    is = stood-open now.flat (kept_by before.txns.kept session) (now.standing session) (event.stands.kept session) opened
+  module _ (opened : is_open (state_by before.txns.states entry.session.0) ≡ true) where
+    is : IsOpenTxn now.flat (state_by before.txns.states session) (now.standing session)
+    is = stood-open now.flat (state_by before.txns.states session) (now.standing session) (event.stands.states session) opened
 
     -- in one a statement that takes rows
     pub unmade-within : (asked : Statement) → entry.request ≡ Run asked → TakesRows asked
@@ -71,7 +71,7 @@ module _ (history : History) (entry : Entry) (before : State) (event : IsEvent b
     unmade-within asked asks takes = may_from (Open is.begun is.block) (Run asked) is.stands asks (within_may now.flat.schema is.block asked takes)
 
     -- and a COMMIT where it has run a write
-    pub unmade-commit : entry.request ≡ Run of.Commit → wrote_of (kept_by before.txns.kept entry.session.0) ≡ true
+    pub unmade-commit : entry.request ≡ Run of.Commit → wrote_of (state_by before.txns.states entry.session.0) ≡ true
         → MayBeUnmadeFrom (world empty history).flat.schema ((world empty history).standing entry.session.0) entry.request
     unmade-commit asks wrote =
         may_from (Open is.begun is.block) (Run of.Commit) is.stands asks (is.kept_as.2 (sym (ap wrote_of is.is_kept) ∙ wrote))

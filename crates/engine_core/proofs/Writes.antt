@@ -18,7 +18,7 @@ use Rattle.run_model.proofs.SameSchema.{same_schema-bound}
 use Rattle.history_model.specs.Held.{Holding, held, holder}
 use Rattle.history_model.specs.Reply.{unless_held, write_reply}
 use Rattle.history_model.specs.World.{World}
-use Rattle.row_locks.specs.Kept.{kept_by as held_by}
+use Rattle.row_locks.specs.SessionItems.{items_by as held_by}
 use Rattle.row_locks.specs.RepresentsItems.{holder_among}
 use Rattle.row_locks.proofs.Holders.{holder-alike, holder-of_world}
 use Rattle.write_eval.specs.Write.{IsWrite}

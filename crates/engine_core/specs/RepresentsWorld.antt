@@ -12,17 +12,17 @@ use Rattle.history_model.specs.Reply.{answer}
 use Rattle.history_model.specs.Serial.{IsEntry, IsHistory}
 use Rattle.history_model.specs.World.{World}
 use Rattle.row_locks.specs.RepresentsItems.{AreHeld}
-use Rattle.txn_core.specs.Kept.{RepresentsSession, kept_by}
+use Rattle.txn_core.specs.SessionStates.{RepresentsSession, state_by}
 use Rattle.engine_core.specs.Asked.{IsBuiltRequest}
 use Rattle.engine_core.specs.declared.state.State.{State}
 
--- The state is the world's flat database, and the disk hasn't failed; what is kept of each session represents how it stands, and
--- the items that are kept for what it holds.
+-- The state is the world's flat database, and the disk hasn't failed; the state of each session represents how it stands, and
+-- the items of its locks what it holds.
 pub record RepresentsWorld (state : State) (world : World) : Type 0 where
   pub flat : state.version ≡ world.flat
   pub weighs : weight state.version ≡ state.weighs
   pub up : world.down ≡ None
-  pub kept : (session : ℕ) → RepresentsSession world.flat (kept_by state.txns.kept session) (world.standing session)
+  pub states : (session : ℕ) → RepresentsSession world.flat (state_by state.txns.states session) (world.standing session)
   pub held : AreHeld state.txns.held (held world)
 
 -- An entry may come behind a history for which the state stands: of one of the sessions, of a request that can be read and is

@@ -57,7 +57,7 @@ fn judged_by(
     requires sound { Sound version.now }
     requires weighs { weight version.now ≡ weighs }
     requires net { changes.now ≡ net version.now (put version.now changes.now) }
-    requires kept { IsWellFormed next.now }
+    requires well_formed { IsWellFormed next.now }
     requires next { next.now ≡ put version.now changes.now }
     ensures { IfOk result (IsJudged next.now) }
 {
@@ -131,7 +131,7 @@ fn too_big(changes: &[Change]) -> Option<Refusal>
 /// Why a commit without a fault is refused: the length of its changes.
 fn cause_of(version: &Version, next: &Next, judged: &Judged, changes: &[Change]) -> Option<Refusal>
     requires sound { Sound version.now }
-    requires kept { IsWellFormed next.now }
+    requires well_formed { IsWellFormed next.now }
     requires schema { version.now.schema ≡ next.now.schema }
     requires net { changes.now ≡ net version.now next.now }
     requires judged { IsJudged next.now judged.now }
@@ -157,7 +157,7 @@ pub(crate) fn commit(
     requires sound { Sound version.now }
     requires weighs { weight version.now ≡ weighs }
     requires net { changes.now ≡ net version.now (put version.now changes.now) }
-    requires kept { IsWellFormed (put version.now changes.now) }
+    requires well_formed { IsWellFormed (put version.now changes.now) }
     ensures tells { IfOk result (Tells version.now (committing Took (spec_of.changes version.now (put version.now changes.now))
         (spec.commit_refusal version.now (put version.now changes.now)) reply) (put version.now changes.now)) }
     ensures nothing { IfOk result (λ answer. answer.erased ≡ []) }

@@ -4,7 +4,7 @@ ghost use Rattle.own_model.specs.declared.reply.Reply.TheVariants.{Refused};
 ghost use Rattle.own_model.specs.declared.request.Request.TheVariants.{Run};
 ghost use Rattle.own_model.specs.declared.statement.Statement.TheVariants.{Commit};
 ghost use Rattle.run_model.specs.Items.{TakesRows};
-ghost use Rattle.txn_core.specs.Kept.{is_open, kept_by};
+ghost use Rattle.txn_core.specs.SessionStates.{is_open, state_by};
 ghost use Rattle.engine_core.specs.Asked as spec;
 ghost use Rattle.engine_core.specs.RepresentsWorld.{IsEvent, Serves};
 
@@ -53,7 +53,7 @@ fn serve_stated(
     statement: &Statement,
 ) -> Result<Reply, AllocError>
     requires event { IsEvent state.old history.now entry.now }
-    requires open { is_open (kept_by state.old.txns.kept entry.now.session.0) ≡ true }
+    requires open { is_open (state_by state.old.txns.states entry.now.session.0) ≡ true }
     requires asks { entry.now.request ≡ Run statement.now }
     requires takes { TakesRows statement.now }
     ensures { Serves state.new history.now entry.now result }
@@ -83,7 +83,7 @@ fn serve_commit(
     entry: &Entry,
 ) -> Result<Reply, AllocError>
     requires event { IsEvent state.old history.now entry.now }
-    requires open { is_open (kept_by state.old.txns.kept entry.now.session.0) ≡ true }
+    requires open { is_open (state_by state.old.txns.states entry.now.session.0) ≡ true }
     requires asks { entry.now.request ≡ Run Commit }
     ensures { Serves state.new history.now entry.now result }
 {
@@ -114,7 +114,7 @@ pub(crate) fn serve_inside(
     statement: &Statement,
 ) -> Result<Reply, AllocError>
     requires event { IsEvent state.old history.now entry.now }
-    requires open { is_open (kept_by state.old.txns.kept entry.now.session.0) ≡ true }
+    requires open { is_open (state_by state.old.txns.states entry.now.session.0) ≡ true }
     requires asks { entry.now.request ≡ Run statement.now }
     ensures { Serves state.new history.now entry.now result }
 {

@@ -9,8 +9,8 @@ ghost use Rattle.run_model.specs.Run.{run, run_bound};
 ghost use Rattle.history_model.specs.Built.{is_built};
 ghost use Rattle.history_model.specs.History.{world};
 ghost use Rattle.history_model.specs.Reply.{reply_outside};
-ghost use Rattle.txn_core.specs.Kept.{kept_by};
-ghost use Rattle.txn_core.specs.declared.kept.Kept.TheVariants.{Nothing};
+ghost use Rattle.txn_core.specs.SessionStates.{state_by};
+ghost use Rattle.txn_core.specs.declared.session_state.SessionState.TheVariants.{Nothing};
 ghost use Rattle.engine_core.specs.Answered.{Erases, ErasesBound, Tells, bound_reply};
 ghost use Rattle.engine_core.specs.Asked.{IsBound, IsCreate, IsMeant, RunsByItself};
 ghost use Rattle.engine_core.specs.RepresentsWorld.{IsEvent, Serves, RepresentsWorld};
@@ -25,10 +25,10 @@ use crate::writing::write;
 use own_base::Place;
 use own_model::{Bound, Entry, Refusal, Reply, Statement};
 use plan_bind::bind;
+use query_eval::select_reply;
 use std::alloc::{AllocError, Global};
 use std::mem::drop;
 use store_version::Shown;
-use txn_core::select_reply;
 
 /// The answer to a bound statement outside a transaction.
 #[tactic(auto, unfolding(run_model::specs::Run::run_bound))]
@@ -36,7 +36,7 @@ fn answer_meant(alloc: Global, asker: &Asker<'_>, bound: &Bound) -> Result<Answe
     requires sound { Sound asker.now.state.now.version }
     requires stands { RepresentsWorld asker.now.state.now (world empty asker.now.history.now) }
     requires meant { IsMeant asker.now.state.now.version.schema bound.now }
-    requires kept { IsWellFormed (run_bound asker.now.state.now.version bound.now).db }
+    requires well_formed { IsWellFormed (run_bound asker.now.state.now.version bound.now).db }
     ensures tells { IfOk result (Tells asker.now.state.now.version (bound_reply (world empty asker.now.history.now) asker.now.state.now.version asker.now.session.0 bound.now) (run_bound asker.now.state.now.version bound.now).db) }
     ensures erases { IfOk result (ErasesBound asker.now.state.now.version bound.now) }
 {
@@ -133,7 +133,7 @@ pub(crate) fn serve_outside(
     statement: &Statement,
 ) -> Result<Reply, AllocError>
     requires event { IsEvent state.old history.now entry.now }
-    requires outside { kept_by state.old.txns.kept entry.now.session.0 ≡ Nothing }
+    requires outside { state_by state.old.txns.states entry.now.session.0 ≡ Nothing }
     requires asks { entry.now.request ≡ Run statement.now }
     requires built { is_built statement.now ≡ true }
     ensures { Serves state.new history.now entry.now result }

@@ -1,6 +1,6 @@
 ghost use Rattle.std.specs.Prelude.{◌≡◌, None};
 ghost use Rattle.own_model.specs.declared.request.Request.TheVariants.{Run};
-ghost use Rattle.txn_core.specs.Kept.{doom_of, kept_by};
+ghost use Rattle.txn_core.specs.SessionStates.{doom_of, state_by};
 ghost use Rattle.engine_core.specs.RepresentsWorld.{IsEvent, Serves};
 
 use crate::inside::serve_inside;
@@ -18,7 +18,7 @@ fn serve_statement(
     statement: &Statement,
 ) -> Result<Reply, AllocError>
     requires event { IsEvent state.old history.now entry.now }
-    requires undoomed { doom_of (kept_by state.old.txns.kept entry.now.session.0) ≡ None }
+    requires undoomed { doom_of (state_by state.old.txns.states entry.now.session.0) ≡ None }
     requires asks { entry.now.request ≡ Run statement.now }
     ensures { Serves state.new history.now entry.now result }
 {
@@ -37,7 +37,7 @@ fn serve_undoomed(
     entry: &Entry,
 ) -> Result<Reply, AllocError>
     requires event { IsEvent state.old history.now entry.now }
-    requires undoomed { doom_of (kept_by state.old.txns.kept entry.now.session.0) ≡ None }
+    requires undoomed { doom_of (state_by state.old.txns.states entry.now.session.0) ≡ None }
     ensures { Serves state.new history.now entry.now result }
 {
     match &entry.request {

@@ -25,7 +25,7 @@ pub(crate) fn get_reply(
     version: &Version,
     subject: &Subject,
 ) -> Result<Reply, AllocError>
-    requires kept { IsWellFormed version.now }
+    requires well_formed { IsWellFormed version.now }
     requires subject { IsTrue (is_subject version.now.schema subject.now.0.table.0) }
     ensures { IfOk result (λ reply. reply ≡ (show_subject version.now subject.now.0).reply) }
 {

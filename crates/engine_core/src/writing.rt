@@ -52,7 +52,7 @@ pub(crate) fn write(alloc: Global, asker: &Asker<'_>, bound: &Bound) -> Result<A
     requires write { IsWrite asker.now.state.now.version.schema bound.now }
     requires sound { Sound asker.now.state.now.version }
     requires stands { RepresentsWorld asker.now.state.now (world empty asker.now.history.now) }
-    requires kept { IsWellFormed (run_bound asker.now.state.now.version bound.now).db }
+    requires well_formed { IsWellFormed (run_bound asker.now.state.now.version bound.now).db }
     ensures tells { IfOk result (Tells asker.now.state.now.version (unless_held (world empty asker.now.history.now) (holder (world empty asker.now.history.now) asker.now.session.0 (footprint_of asker.now.state.now.version.schema bound.now))
         (write_reply Took asker.now.state.now.version (run_bound asker.now.state.now.version bound.now))) (run_bound asker.now.state.now.version bound.now).db) }
     ensures nothing { IfOk result (λ answer. answer.erased ≡ []) }

@@ -4,14 +4,14 @@ use Rattle.std.specs.Prelude.{◌&&◌, slice_get, slice_set}
 use Rattle.std.specs.List.{list_any}
 use Rattle.std.specs.Option.{option_map_or}
 use Rattle.std.proofs.lemmas.Bool.{eqb-false, eqb-true}
+use Rattle.std.proofs.Math.Bool.{or-false}
 use Rattle.own_base.specs.declared.value.Key.{Key}
 use Rattle.own_model.specs.declared.footprint.FootItem.{FootItem}
 use Rattle.run_model.specs.Agree.{keys_meet, overlaps}
 use Rattle.row_locks.specs.declared.table_locks.TableLocks.{TableLocks}
-use Rattle.row_locks.specs.Kept.{has_place_in, items_from, tables_meet}
+use Rattle.row_locks.specs.SessionItems.{has_place_in, items_from, tables_meet}
 use Rattle.row_locks.specs.Locks.{has_place, meet, table_items}
-use Rattle.row_locks.proofs.KeptItems.{tables_any}
-use Rattle.row_locks.proofs.TestLemmas.{or_false}
+use Rattle.row_locks.proofs.TableItems.{tables_any}
 
 -- what is asked of the locks at a place
 abbrev at : (TableLocks → Bool) → List TableLocks → ℕ → Bool
@@ -121,7 +121,7 @@ module _ (tables : List TableLocks) (item : FootItem) (old new : TableLocks) (wi
           both.0 ∙ (more asked.key asked.write ∙ rw (both.1 refl, own) refl)
       by false apart =
           (at_by (λ locks. meet locks.whole locks.rows.entries asked.key asked.write) tables item.table.0 asked.table.0 old new within is false apart).0
-          ∙ rw apart (sym (or_false (tables_meet tables asked)))
+          ∙ rw apart (sym (or-false (tables_meet tables asked)))
 
 -- so that it has a place it is one of so many tables
 pub place_within : (tables : List TableLocks) (item : FootItem) → has_place_in tables item ≡ true → item.table.0 < length tables

@@ -11,8 +11,8 @@ use Rattle.history_model.specs.Held.{first_holding, first_overlap, held, holder,
 use Rattle.history_model.specs.History.{lie_on}
 use Rattle.history_model.specs.World.{World}
 use Rattle.row_locks.specs.RepresentsItems.{AreHeld, RepresentsItems, holder_among, holding_among}
-use Rattle.row_locks.specs.Kept.{kept_by}
-use Rattle.row_locks.proofs.KeptItems.{lies_any, named}
+use Rattle.row_locks.specs.SessionItems.{items_by}
+use Rattle.row_locks.proofs.TableItems.{lies_any, named}
 
 -- items represent themselves
 pub stand-same : (items : List FootItem) → RepresentsItems items items
@@ -39,12 +39,12 @@ lie-alike kept items [] stands = refl
 lie-alike kept items (name ∷ names) stands = rw (stands.lie name, lie-alike kept items names stands) refl
 
 module _ (kept : List (List FootItem)) (held : ℕ → List FootItem) (are : AreHeld kept held) (footprint : List FootItem) where
-  holdings-alike : (sessions : List ℕ) → filter_map (holding_among (kept_by kept) footprint) sessions ≡ filter_map (holding_among held footprint) sessions
+  holdings-alike : (sessions : List ℕ) → filter_map (holding_among (items_by kept) footprint) sessions ≡ filter_map (holding_among held footprint) sessions
   holdings-alike [] = refl
-  holdings-alike (session ∷ sessions) = rw (overlap-alike (kept_by kept session) (held session) footprint (are session), holdings-alike sessions) refl
+  holdings-alike (session ∷ sessions) = rw (overlap-alike (items_by kept session) (held session) footprint (are session), holdings-alike sessions) refl
 
   -- the holder is the same
-  pub holder-alike : (session : ℕ) → holder_among (kept_by kept) session footprint ≡ holder_among held session footprint
+  pub holder-alike : (session : ℕ) → holder_among (items_by kept) session footprint ≡ holder_among held session footprint
   unfolding holder_among
   holder-alike session = ap first_holding (holdings-alike (others session))
 
@@ -54,7 +54,7 @@ unfolding holder_among holder
 holder-of_world world session footprint = refl
 
 -- no name lies on nothing
-none_lie : (names : List RowName) → lie_on names [] ≡ false
+pub none_lie : (names : List RowName) → lie_on names [] ≡ false
 none_lie [] = refl
 none_lie (name ∷ names) = none_lie names
 
@@ -66,21 +66,21 @@ pub held-none : AreHeld [] (λ session. [])
 held-none = λ session. stand-same []
 
 -- where what is kept is as it was it represents what it represented, as after a refused grant
-pub held-unchanged : (before after : List (List FootItem)) (held : ℕ → List FootItem) → ((number : ℕ) → kept_by after number ≡ kept_by before number) → AreHeld before held → AreHeld after held
+pub held-unchanged : (before after : List (List FootItem)) (held : ℕ → List FootItem) → ((number : ℕ) → items_by after number ≡ items_by before number) → AreHeld before held → AreHeld after held
 held-unchanged before after held same are = λ session. subst (λ some. RepresentsItems some (held session)) (sym (same session)) (are session)
 
 -- A session that is granted a footprint holds it besides, and one that is released holds nothing; the others hold what they held.
-module _ (before after : List (List FootItem)) (held : ℕ → List FootItem) (are : AreHeld before held) (session : ℕ) (others : (other : ℕ) → other ≢ session → kept_by after other ≡ kept_by before other) where
-  held-with : (items : List FootItem) → RepresentsItems (kept_by after session) items → AreHeld after (λ other. if other == session then items else held other)
+module _ (before after : List (List FootItem)) (held : ℕ → List FootItem) (are : AreHeld before held) (session : ℕ) (others : (other : ℕ) → other ≢ session → items_by after other ≡ items_by before other) where
+  held-with : (items : List FootItem) → RepresentsItems (items_by after session) items → AreHeld after (λ other. if other == session then items else held other)
   held-with items own other = by (other == session) refl
     where
-      by : (b : Bool) → (other == session) ≡ b → RepresentsItems (kept_by after other) (if b then items else held other)
-      by true same = subst (λ n. RepresentsItems (kept_by after n) items) (sym (eqb-true other session same)) own
+      by : (b : Bool) → (other == session) ≡ b → RepresentsItems (items_by after other) (if b then items else held other)
+      by true same = subst (λ n. RepresentsItems (items_by after n) items) (sym (eqb-true other session same)) own
       by false apart = subst (λ some. RepresentsItems some (held other)) (sym (others other (eqb-false other session apart))) (are other)
 
-  pub held-granted : (footprint : List FootItem) → ((items : List FootItem) → RepresentsItems (kept_by before session) items → RepresentsItems (kept_by after session) (items ++ footprint))
+  pub held-granted : (footprint : List FootItem) → ((items : List FootItem) → RepresentsItems (items_by before session) items → RepresentsItems (items_by after session) (items ++ footprint))
       → AreHeld after (λ other. if other == session then held session ++ footprint else held other)
   held-granted footprint grants = held-with (held session ++ footprint) (grants (held session) (are session))
 
-  pub held-released : kept_by after session ≡ [] → AreHeld after (λ other. if other == session then [] else held other)
+  pub held-released : items_by after session ≡ [] → AreHeld after (λ other. if other == session then [] else held other)
   held-released nothing = held-with [] (subst (λ some. RepresentsItems some []) (sym nothing) (stand-same []))

@@ -1,7 +1,7 @@
 mod HeldTables
 pub mod Holders
-mod KeptItems
-mod KeptSessions
+mod TableItems
+mod SessionItems
 mod RowLemmas
 mod Searched
 mod TestLemmas

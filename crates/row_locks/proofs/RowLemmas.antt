@@ -8,38 +8,27 @@ use Rattle.std.specs.List.Sorted.{IsStrictlySortedBy}
 use Rattle.std.specs.Map.{keys_of, lookup, set_value}
 use Rattle.std.specs.Option.{is_some, option_map_or}
 use Rattle.std.specs.Ordering.{is_eq, match_ordering, ordering_reverse}
+use Rattle.std.proofs.Math.Bool.{and-false, or-false, or_assoc}
 use Rattle.own_base.specs.Key.{key_cmp}
 use Rattle.own_base.specs.contracts.value.KeyOrd.TheImpl as order
 use Rattle.own_base.specs.declared.value.Key.{Key}
 use Rattle.own_base.specs.declared.value.Key.TheVariants.{Int, Text}
 use Rattle.own_model.specs.Stored.{is_equal}
 use Rattle.own_model.proofs.KeyOrder.{key_order}
+use Rattle.query_model.proofs.RowOfKey.{equal_from}
 use Rattle.run_model.specs.Agree.{keys_meet}
+use Rattle.run_model.proofs.Overlaps.{at_key}
 use Rattle.row_locks.specs.declared.hold.Hold.{Hold}
 use Rattle.row_locks.specs.declared.hold.Hold.TheVariants.{Free}
 use Rattle.row_locks.specs.Hold.{blocks}
-use Rattle.row_locks.proofs.TestLemmas.{and_false, joined, or_assoc, or_false}
+use Rattle.row_locks.proofs.TestLemmas.{joined}
 use Rattle.row_locks.specs.Locks.{AreRising, Rows, has_row, held_item, row_items, rows_meet}
-
--- a test for a key, from either side
-turned : (o : Ordering) → is_eq (ordering_reverse o) ≡ is_equal o
-turned Less = refl
-turned Equal = refl
-turned Greater = refl
-
-pub at_key : (key other : Key) → is_at (key_cmp key) other ≡ is_equal (key_cmp other key)
-at_key key other = ap is_eq (key_order.antisymm key other) ∙ turned (key_cmp other key)
-
-tied : (o : Ordering) → is_equal o ≡ true → o ≡ Equal
-tied Less is = cc
-tied Equal is = refl
-tied Greater is = cc
 
 -- a key that one key is at tests as that one does
 pub alike : (asked : Option Key) (key other : Key) → is_at (key_cmp key) other ≡ true → keys_meet asked (Some other) ≡ keys_meet asked (Some key)
 alike None key other is = refl
 alike (Some asked) key other is =
-    let same : key_cmp other key ≡ Equal = tied _ (sym (at_key key other) ∙ is) in
+    let same : key_cmp other key ≡ Equal = equal_from _ (sym (at_key key other) ∙ is) in
     ap is_equal (key_order.congr other key asked same)
 
 -- the order of keys, as a map takes it
@@ -72,7 +61,7 @@ module _ (order : Key → Key → Ordering) (same : (left right : Key) → order
 none_above : (key low : Key) (rows : Rows) (write : Bool) → is_equal (key_cmp low key) ≡ true → Each (λ other. key_cmp low other ≡ Less) (keys_of rows) → rows_meet rows (Some key) write ≡ false
 none_above key low [] write is all = refl
 none_above key low (row ∷ rows) write is all =
-    let first : key_cmp row.0 key ≡ key_cmp row.0 low = key_order.antisymm row.0 key ∙ (ap ordering_reverse (sym (key_order.congr low key row.0 (tied _ is))) ∙ sym (key_order.antisymm row.0 low)) in
+    let first : key_cmp row.0 key ≡ key_cmp row.0 low = key_order.antisymm row.0 key ∙ (ap ordering_reverse (sym (key_order.congr low key row.0 (equal_from _ is))) ∙ sym (key_order.antisymm row.0 low)) in
     let above : key_cmp row.0 low ≡ Greater = key_order.antisymm row.0 low ∙ ap ordering_reverse all.0 in
     let apart : is_equal (key_cmp row.0 key) ≡ false = ap is_equal (first ∙ above) in
     rw apart (none_above key low rows write is all.1)
@@ -85,7 +74,7 @@ found (row ∷ rows) key write rising = by (is_equal (key_cmp row.0 key)) refl (
   where
     by : (b : Bool) → is_equal (key_cmp row.0 key) ≡ b → rows_meet rows (Some key) write ≡ option_map_or (λ hold. blocks hold write) (lookup (is_at (key_cmp key)) rows) false
         → rows_meet (row ∷ rows) (Some key) write ≡ option_map_or (λ hold. blocks hold write) (lookup (is_at (key_cmp key)) (row ∷ rows)) false
-    by true is later = rw (at_key key row.0, is, none_above key row.0 rows write is rising.0) (or_false (blocks row.1 write))
+    by true is later = rw (at_key key row.0, is, none_above key row.0 rows write is rising.0) (or-false (blocks row.1 write))
     by false is later = rw (at_key key row.0, is) later
 
 module _ (key : Key) where
@@ -101,13 +90,13 @@ module _ (key : Key) where
       by Greater none later = ap (λ items. held_item table (Some row.0) row.1 ++ items) (later none)
 
   pub added-meet : (asked : Option Key) (write : Bool) (rows : Rows) → lookup (is_at (key_cmp key)) rows ≡ None → rows_meet (insert_entry key_cmp rows key Free) asked write ≡ rows_meet rows asked write
-  added-meet asked write [] none = rw (and_false (keys_meet asked (Some key))) refl
+  added-meet asked write [] none = rw (and-false (keys_meet asked (Some key))) refl
   added-meet asked write (row ∷ rows) none = by (key_cmp key row.0) none (added-meet asked write rows)
     where
       by : (o : Ordering) → cond (is_eq o) (Some row.1) (lookup (is_at (key_cmp key)) rows) ≡ None
           → (lookup (is_at (key_cmp key)) rows ≡ None → rows_meet (insert_entry key_cmp rows key Free) asked write ≡ rows_meet rows asked write)
           → rows_meet (match_ordering o ((key, Free) ∷ row ∷ rows) ((row.0, Free) ∷ rows) (row ∷ insert_entry key_cmp rows key Free)) asked write ≡ rows_meet (row ∷ rows) asked write
-      by Less none later = rw (and_false (keys_meet asked (Some key))) refl
+      by Less none later = rw (and-false (keys_meet asked (Some key))) refl
       by Equal none later = cc
       by Greater none later = ap (λ rest. (keys_meet asked (Some row.0) && blocks row.1 write) || rest) (later none)
 
@@ -131,7 +120,7 @@ module _ (key : Key) (new : Hold) where
           let own : blocks new asked_write ≡ (blocks row.1 asked_write || more) = rw same stronger in
           rw (own, alike asked key row.0 here) (joined (keys_meet asked (Some key)) (blocks row.1 asked_write) more (rows_meet rows asked asked_write))
       by false other is later =
-          rw (later is stronger) (or_assoc (keys_meet asked (Some row.0) && blocks row.1 asked_write) (rows_meet rows asked asked_write) (keys_meet asked (Some key) && more))
+          rw (later is stronger) (sym (or_assoc (keys_meet asked (Some row.0) && blocks row.1 asked_write) (rows_meet rows asked asked_write) (keys_meet asked (Some key) && more)))
 
   pub held-places : (other : Key) (rows : Rows) → has_row (set_value (is_at (key_cmp key)) rows new) other ≡ has_row rows other
   held-places other [] = refl

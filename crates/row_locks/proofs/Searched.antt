@@ -7,7 +7,7 @@ use Rattle.own_model.specs.declared.footprint.FootItem.{FootItem}
 use Rattle.own_model.specs.declared.limit.TheConstants.{SESSIONS}
 use Rattle.history_model.specs.Held.{Holding, first_holding, first_overlap}
 use Rattle.row_locks.specs.declared.held_item.HeldItem.{HeldItem}
-use Rattle.row_locks.specs.Kept.{kept_by}
+use Rattle.row_locks.specs.SessionItems.{items_by}
 use Rattle.row_locks.specs.RepresentsItems.{AreHeld, holder_among, holding_among, holding_of_other, told}
 use Rattle.row_locks.proofs.Holders.{holder-alike}
 
@@ -60,20 +60,20 @@ module _ (held : ℕ → List FootItem) (session : ℕ) (footprint : List FootIt
 
 -- what is told is the first
 pub told_first : (kept : List (List FootItem)) (session : ℕ) (footprint : List FootItem) (from : ℕ) (found : Option HeldItem) → from < SESSIONS + 1
-    → holder_among (kept_by kept) session footprint ≡ search (kept_by kept) session footprint from (SESSIONS + 1 - from)
-    → option_map told found ≡ holding_of_other (kept_by kept) session footprint from → is_some found ≡ true
+    → holder_among (items_by kept) session footprint ≡ search (items_by kept) session footprint from (SESSIONS + 1 - from)
+    → option_map told found ≡ holding_of_other (items_by kept) session footprint from → is_some found ≡ true
     → (held : ℕ → List FootItem) → AreHeld kept held → option_map told found ≡ holder_among held session footprint
 told_first kept session footprint from None within so_far is some held are = cc
 told_first kept session footprint from (Some found) within so_far is some held are =
-    sym (search-found (kept_by kept) session footprint from (told found) within (sym is)) ∙ (sym so_far ∙ holder-alike kept held are footprint session)
+    sym (search-found (items_by kept) session footprint from (told found) within (sym is)) ∙ (sym so_far ∙ holder-alike kept held are footprint session)
 
 pub none_told : (kept : List (List FootItem)) (session : ℕ) (footprint : List FootItem) (from : ℕ) → SESSIONS + 1 ≤ from
-    → holder_among (kept_by kept) session footprint ≡ search (kept_by kept) session footprint from (SESSIONS + 1 - from)
+    → holder_among (items_by kept) session footprint ≡ search (items_by kept) session footprint from (SESSIONS + 1 - from)
     → (held : ℕ → List FootItem) → AreHeld kept held → None ≡ holder_among held session footprint
 none_told kept session footprint from past so_far held are =
-    sym (search-past (kept_by kept) session footprint from past) ∙ (sym so_far ∙ holder-alike kept held are footprint session)
+    sym (search-past (items_by kept) session footprint from past) ∙ (sym so_far ∙ holder-alike kept held are footprint session)
 
 pub none_here : (kept : List (List FootItem)) (session : ℕ) (footprint : List FootItem) (from : ℕ) (found : Option HeldItem)
-    → option_map told found ≡ holding_of_other (kept_by kept) session footprint from → is_some found ≡ false → holding_of_other (kept_by kept) session footprint from ≡ None
+    → option_map told found ≡ holding_of_other (items_by kept) session footprint from → is_some found ≡ false → holding_of_other (items_by kept) session footprint from ≡ None
 none_here kept session footprint from None is none = sym is
 none_here kept session footprint from (Some found) is none = cc

@@ -3,22 +3,7 @@ use Rattle.std.proofs.Common.{◌≡◌, ◌∙◌, ℕ, ◌+◌, ◌<◌, List,
 use Rattle.std.specs.Prelude.{◌&&◌}
 use Rattle.std.specs.List.{list_all, list_any}
 use Rattle.std.proofs.lemmas.List.Folds.{list_all_more, list_any_more}
-
-pub and_false : (b : Bool) → (b && false) ≡ false
-and_false true = refl
-and_false false = refl
-
-pub and_true : (b : Bool) → (b && true) ≡ b
-and_true true = refl
-and_true false = refl
-
-pub or_false : (b : Bool) → (b || false) ≡ b
-or_false true = refl
-or_false false = refl
-
-pub or_assoc : (a b c : Bool) → (a || (b || c)) ≡ ((a || b) || c)
-or_assoc true b c = refl
-or_assoc false b c = refl
+use Rattle.std.proofs.Math.Bool.{or_assoc}
 
 -- who reads, and who writes
 pub read : (x w : Bool) → ((x && (w || false)) || false) ≡ (x && w)
@@ -63,4 +48,4 @@ module _ {X : Type 0} (items : List X) (place : ℕ) (item : X) (within : place 
 
   pub any_more : (p : X → Bool) (b : Bool) → ((b || list_any p (take place items)) || p item) ≡ (b || list_any p (take (place + 1) items))
   any_more p b =
-      sym (ap (λ (rest : Bool). b || rest) (list_any_more p items place item within ∙ ap (λ x. list_any p (take place items) || p x) (sym is)) ∙ or_assoc b (list_any p (take place items)) (p item))
+      sym (ap (λ (rest : Bool). b || rest) (list_any_more p items place item within ∙ ap (λ x. list_any p (take place items) || p x) (sym is)) ∙ sym (or_assoc b (list_any p (take place items)) (p item)))

@@ -1,4 +1,4 @@
 pub mod Hold
-pub mod Kept
+pub mod SessionItems
 pub mod Locks
 pub mod RepresentsItems

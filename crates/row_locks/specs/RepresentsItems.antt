@@ -6,7 +6,7 @@ use Rattle.own_model.specs.declared.footprint.FootItem.{FootItem}
 use Rattle.run_model.specs.Agree.{lies_on, overlaps}
 use Rattle.history_model.specs.Held.{Holding, first_holding, first_overlap, others}
 use Rattle.row_locks.specs.declared.held_item.HeldItem.{HeldItem}
-use Rattle.row_locks.specs.Kept.{kept_by}
+use Rattle.row_locks.specs.SessionItems.{items_by}
 
 -- Whether items represent others: each item overlaps one of these where it overlaps one of those, and likewise each row lies on one.
 pub record RepresentsItems (kept items : List FootItem) : Type 0 where
@@ -15,7 +15,7 @@ pub record RepresentsItems (kept items : List FootItem) : Type 0 where
 
 -- for each session what is kept represents the items that it holds
 abbrev pub AreHeld : List (List FootItem) → (ℕ → List FootItem) → Type 0
-AreHeld kept held = (session : ℕ) → RepresentsItems (kept_by kept session) (held session)
+AreHeld kept held = (session : ℕ) → RepresentsItems (items_by kept session) (held session)
 
 -- a session that holds an item which overlaps one of the footprint, with the first such item of the footprint
 abbrev pub holding_among : (ℕ → List FootItem) → List FootItem → ℕ → Option Holding

@@ -1,7 +1,7 @@
 ghost use Rattle.std.specs.Prelude.{◌≡◌, ◌≢◌, ◌++◌, ℕ, List as Seq, [], MatchOption, OnErr, OnOk, option_map};
 ghost use Rattle.own_model.specs.declared.footprint.FootItem.{FootItem as Item};
 ghost use Rattle.history_model.specs.History.{lie_on};
-ghost use Rattle.row_locks.specs.Kept.{items_of, kept_by};
+ghost use Rattle.row_locks.specs.SessionItems.{items_of, items_by};
 ghost use Rattle.row_locks.specs.RepresentsItems.{AreHeld, RepresentsItems, holder_among, holding_among, holding_of_other, told};
 
 use crate::held_item::HeldItem;
@@ -21,12 +21,12 @@ pub struct LockTable {
 
 impl Model for LockTable {
     ghost use Rattle.std.specs.Prelude.{List};
-    ghost use Rattle.own_model.specs.declared.footprint.FootItem.{FootItem as Item};
-    ghost use Rattle.row_locks.specs.Kept.{kept};
+    ghost use Rattle.own_model.specs.declared.footprint.FootItem.{FootItem as Seen};
+    ghost use Rattle.row_locks.specs.SessionItems.{all_items};
 
-    ghost Value = { List (List Item) };
+    ghost Value = { List (List Seen) };
 
-    ghost view = { λ table. kept table.sessions.items };
+    ghost view = { λ table. all_items table.sessions.items };
 }
 
 impl LockTable {
@@ -41,14 +41,14 @@ impl LockTable {
 
     /// What a session holds, where it has held something. Takes no memory.
     fn locks(&self, session: SessionNo) -> Option<&SessionLocks>
-        ensures { MatchOption result (kept_by self.now session.0 ≡ []) (λ locks. items_of locks.now ≡ kept_by self.now session.0) }
+        ensures { MatchOption result (items_by self.now session.0 ≡ []) (λ locks. items_of locks.now ≡ items_by self.now session.0) }
     {
         self.sessions.get(session.0 as usize)
     }
 
     /// Whether a session stands in the way, and the first item in whose way it stands. Takes no memory.
     fn holding<'f>(&self, session: SessionNo, footprint: &'f Footprint) -> Option<HeldItem<'f>>
-        ensures { option_map told result ≡ holding_among (kept_by self.now) footprint.now session.0 }
+        ensures { option_map told result ≡ holding_among (items_by self.now) footprint.now session.0 }
     {
         match self.locks(session) {
             None => None,
@@ -66,7 +66,7 @@ impl LockTable {
         other: SessionNo,
         footprint: &'f Footprint,
     ) -> Option<HeldItem<'f>>
-        ensures { option_map told result ≡ holding_of_other (kept_by self.now) session.0 footprint.now other.0 }
+        ensures { option_map told result ≡ holding_of_other (items_by self.now) session.0 footprint.now other.0 }
     {
         if other == session {
             None
@@ -102,24 +102,24 @@ impl LockTable {
         session: SessionNo,
         footprint: Footprint,
     ) -> Result<(), AllocError>
-        ensures held { OnOk result ((items : Seq Item) → RepresentsItems (kept_by self.old session.0) items → RepresentsItems (kept_by self.new session.0) (items ++ footprint)) }
-        ensures others { (other : ℕ) → other ≢ session.0 → kept_by self.new other ≡ kept_by self.old other }
-        ensures unchanged { OnErr result ((number : ℕ) → kept_by self.new number ≡ kept_by self.old number) }
+        ensures held { OnOk result ((items : Seq Item) → RepresentsItems (items_by self.old session.0) items → RepresentsItems (items_by self.new session.0) (items ++ footprint)) }
+        ensures others { (other : ℕ) → other ≢ session.0 → items_by self.new other ≡ items_by self.old other }
+        ensures unchanged { OnErr result ((number : ℕ) → items_by self.new number ≡ items_by self.old number) }
     {
         grant(alloc, &mut self.sessions, session, footprint.items())
     }
 
     /// Lets a session hold nothing. Takes no memory.
     pub fn release(&mut self, session: SessionNo)
-        ensures nothing { kept_by self.new session.0 ≡ [] }
-        ensures others { (other : ℕ) → other ≢ session.0 → kept_by self.new other ≡ kept_by self.old other }
+        ensures nothing { items_by self.new session.0 ≡ [] }
+        ensures others { (other : ℕ) → other ≢ session.0 → items_by self.new other ≡ items_by self.old other }
     {
         release(&mut self.sessions, session);
     }
 
     /// Whether one of the names lies on an item that a session holds. Takes no memory.
     pub fn overlaps(&self, session: SessionNo, names: &[RowName]) -> bool
-        ensures { (items : Seq Item) → RepresentsItems (kept_by self.now session.0) items → result ≡ lie_on names.now items }
+        ensures { (items : Seq Item) → RepresentsItems (items_by self.now session.0) items → result ≡ lie_on names.now items }
     {
         match self.locks(session) {
             None => false,

@@ -5,7 +5,7 @@ ghost use Rattle.own_model.specs.declared.footprint.FootItem.{FootItem as Item};
 ghost use Rattle.run_model.specs.Agree.{lies_on, overlaps};
 ghost use Rattle.history_model.specs.Held.{first_overlap};
 ghost use Rattle.history_model.specs.History.{lie_on};
-ghost use Rattle.row_locks.specs.Kept.{has_place_in, items_of};
+ghost use Rattle.row_locks.specs.SessionItems.{has_place_in, items_of};
 
 use crate::table_locks::TableLocks;
 use own_base::{RowName, TableNo};
@@ -143,7 +143,7 @@ impl SessionLocks {
     }
 
     /// Holds nothing. Takes no memory.
-    #[tactic(auto, using(crate::proofs::KeptItems::items_none))]
+    #[tactic(auto, using(crate::proofs::TableItems::items_none))]
     pub(crate) fn clear(&mut self)
         ensures { items_of self.new ≡ [] }
     {

@@ -7,11 +7,12 @@ use Rattle.own_base.specs.declared.row_name.RowName.{RowName}
 use Rattle.own_model.specs.declared.schema.Schema.{Schema}
 use Rattle.own_model.specs.Stored.{row_named}
 use Rattle.page_model.specs.Found.{found}
+use Rattle.schema_model.proofs.Places.{at-place}
 use Rattle.table_part.specs.KeyIn.{key_in}
 use Rattle.table_part.specs.Part.{Part, rows_of}
 use Rattle.table_part.proofs.KeyLemmas.{found-has_key}
 use Rattle.store_version.specs.Parts.{AreTheirParts}
-use Rattle.store_version.proofs.TheirParts.{part-key, part-rows, parts-count, some-table}
+use Rattle.store_version.proofs.TheirParts.{part-key, part-rows, parts-count}
 
 -- it is the one that the table's part finds
 pub row-named : (schema : Schema) (parts : List Part) (name : RowName) (part : Part) → AreTheirParts schema.tables parts
@@ -19,7 +20,7 @@ pub row-named : (schema : Schema) (parts : List Part) (name : RowName) (part : P
     → found (key_in part.key) key_cmp name.key (rows_of part) ≡ row_named schema (map rows_of parts) name
 unfolding row_named
 row-named schema parts name part are within own =
-    let table = some-table schema.tables name.table.0 within in
+    let table = at-place schema.tables name.table.0 within in
     let key = part-key schema.tables parts name.table.0 table.0 part are table.1 own in
     let rows = part-rows parts name.table.0 part (subst (λ count. name.table.0 < count) (sym (parts-count schema.tables parts are)) within) own in
     ap (λ (column : ColNo). found (key_in column) key_cmp name.key (rows_of part)) key

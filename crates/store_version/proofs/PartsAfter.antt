@@ -1,11 +1,11 @@
 -- Parts after changes.
-use Rattle.std.proofs.Common.{◌≡◌, ◌∙◌, ℕ, ◌+◌, ◌<◌, ◌≤◌, List, [], ◌∷◌, ◌++◌, Bool, true, false, cond, ap, append_assoc, append-nil, arith, drop, filter, length, map, refl, sym, subst, take}
-use Rattle.std.proofs.lemmas.Bool.{and_parts, eqb-true, or_parts}
-use Rattle.std.proofs.lemmas.List.{drop_more, drop-map, take_more}
+use Rattle.std.proofs.Common.{◌≡◌, ◌∙◌, ℕ, ◌+◌, ◌<◌, ◌≤◌, List, [], ◌∷◌, ◌++◌, Bool, true, false, cond, ap, append_assoc, append-nil, drop, filter, length, map, refl, sym, subst, take}
+use Rattle.std.proofs.lemmas.Bool.{and_parts, or_parts}
+use Rattle.std.proofs.lemmas.List.{drop_more, take_more}
 use Rattle.std.proofs.lemmas.List.Elements.{filter-append}
 use Rattle.std.proofs.Math.ListN.{drop_of_length-le}
-use Rattle.std.specs.Prelude.{Option, Some, slice_get, slice_index_or}
-use Rattle.std.specs.List.{AllByRecursion, list_all, list_any}
+use Rattle.std.specs.Prelude.{slice_index_or}
+use Rattle.std.specs.List.{list_all, list_any}
 use Rattle.own_base.specs.Key.{key_cmp}
 use Rattle.own_base.specs.declared.change.Change.{Change}
 use Rattle.own_base.specs.declared.number.ColNo.{ColNo}
@@ -13,10 +13,8 @@ use Rattle.own_base.specs.declared.value.Key.{Key}
 use Rattle.own_model.specs.declared.schema.TableDef.{TableDef}
 use Rattle.own_model.specs.Db.{Row, key_of}
 use Rattle.page_model.specs.Changed.{AreKeyed, with_changes}
-use Rattle.state_model.specs.MayBePut.{IsPutIn}
 use Rattle.state_model.specs.Put.{changed_key, is_of_table, put_from, row_after, rows_put}
 use Rattle.table_part.specs.KeyIn.{key_in}
-use Rattle.table_part.specs.Part.{Part, rows_of}
 use Rattle.table_part.proofs.KeyLemmas.{key_in-table}
 
 -- where all pass a test, none is filtered out; where none does, all are
@@ -50,18 +48,6 @@ pub with_changes_in : (table : TableDef) (key : ColNo) (changes : List Change) (
     → with_changes (key_in key) key_cmp changed_key row_after changes rows ≡ with_changes (key_of table) key_cmp changed_key row_after changes rows
 with_changes_in table key changes rows is =
     ap (λ (key_of : Row → Key). with_changes key_of key_cmp changed_key row_after changes rows) (keys_same table key is)
-
--- the changes of a table put rows of their keys
-pub changes_keyed : (tables : List TableDef) (number : ℕ) (table : TableDef) (changes : List Change) → slice_get tables number ≡ Some table → AllByRecursion (IsPutIn tables) changes
-    → AreKeyed (key_of table) changed_key row_after (filter (is_of_table number) changes)
-changes_keyed tables number table [] at all = tt
-changes_keyed tables number table (change ∷ changes) at all = by (changes_keyed tables number table changes at all.1) (is_of_table number change) refl
-  where
-    by : AreKeyed (key_of table) changed_key row_after (filter (is_of_table number) changes) → (b : Bool) → is_of_table number change ≡ b
-        → AreKeyed (key_of table) changed_key row_after (cond b (change ∷ filter (is_of_table number) changes) (filter (is_of_table number) changes))
-    by more true of =
-        let here : slice_get tables change.name.table.0 ≡ Some table = ap (slice_get tables) (eqb-true change.name.table.0 number of) ∙ at in (rw here at all.0, more)
-    by more false other = more
 
 -- no change changes nothing
 pub rows_put_none : (number : ℕ) (table : TableDef) (changes : List Change) (rows : List Row) → list_any (is_of_table number) changes ≡ false

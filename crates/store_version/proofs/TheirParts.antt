@@ -1,5 +1,5 @@
 -- The parts of a version are those of its tables.
-use Rattle.std.proofs.Common.{◌≡◌, ◌<◌, ◌∙◌, ℕ, zero, suc, List, [], ◌∷◌, ◌++◌, length, map, refl, ap, sym, arith}
+use Rattle.std.proofs.Common.{◌≡◌, ◌<◌, ◌∙◌, ℕ, zero, suc, List, [], ◌∷◌, ◌++◌, length, map, ap, sym}
 use Rattle.std.proofs.lemmas.List.{get_or-map, length-map, map-append}
 use Rattle.std.specs.Prelude.{Some, slice_get, slice_index_or, slice_set}
 use Rattle.own_model.specs.declared.schema.TableDef.{TableDef}
@@ -44,9 +44,3 @@ parts-append tables parts table part are same =
     map-append (λ (part : Part). part.key) parts (part ∷ [])
     ∙ (ap (λ keys. keys ++ part.key ∷ []) are
     ∙ (ap (λ key. map (λ (table : TableDef). table.key) tables ++ key ∷ []) same ∙ sym (map-append (λ (table : TableDef). table.key) tables (table ∷ []))))
-
--- the table of a number that is one's
-pub some-table : (tables : List TableDef) (number : ℕ) → number < length tables → (table : TableDef) × (slice_get tables number ≡ Some table)
-some-table [] number within = absurd (omega arith)
-some-table (table ∷ tables) zero within = (table, refl)
-some-table (table ∷ tables) (suc number) within = some-table tables number (omega arith)

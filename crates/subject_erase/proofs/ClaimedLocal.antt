@@ -12,15 +12,15 @@ use Rattle.subject_model.specs.Staying.{Claimed, IsFree}
 use Rattle.subject_model.specs.Stays.{struck}
 use Rattle.subject_erase.proofs.SubjectRows.{owner_path-ends}
 
--- an owner edge joins the row to one that is held
+-- an owner edge joins the row to one that is claimed
 pub record ClaimedAbove (db : Db) (subject name : RowName) : Type 0 where
   pub edge : Edge
   pub upper : RowName
   pub joined : Joins db name edge upper
   pub owner : IsTrue edge.owner
-  pub held : Claimed db subject upper
+  pub claimed : Claimed db subject upper
 
--- A row is held where it isn't struck, and is another subject's own row or joined to a row that is held.
+-- A row is claimed where it isn't struck, and is another subject's own row or joined to a row that is claimed.
 abbrev pub IsClaimedLocally : Db → RowName → RowName → Type 0
 IsClaimedLocally db subject name = IsFalse (struck db subject name) × ((IsTrue (is_subject_row db name) × (name ≢ subject)) ⊎ ClaimedAbove db subject name)
 
@@ -34,25 +34,25 @@ module _ (db : Db) (subject name : RowName) where
       upper = step.upper;
       joined = leads.0;
       owner = owner.0;
-      held = record { other = other; differs = differs; path = rest; leads = leads.1.1; owner = owner.1; free = (free.1.0, free.1.1) };
+      claimed = record { other = other; differs = differs; path = rest; leads = leads.1.1; owner = owner.1; free = (free.1.0, free.1.1) };
     }),
   )
 
-  -- a row that is held is held so
+  -- a row that is claimed is claimed so
   pub locally_held : Claimed db subject name → IsClaimedLocally db subject name
   locally_held is = by_path is.other is.path is.differs is.leads is.owner is.free
 
-  -- and one that is held so is held
+  -- and one that is claimed so is claimed
   pub held_locally : IsOwnerSchema db.schema → IsClaimedLocally db subject name → Claimed db subject name
   held_locally schema (unstruck, inl own) =
       record { other = name; differs = own.1; path = []; leads = (own.0, refl); owner = tt; free = (unstruck, tt) }
   held_locally schema (unstruck, inr above) =
-      let held = above.held in
+      let claimed = above.claimed in
       record {
-        other = held.other;
-        differs = held.differs;
-        path = record { edge = above.edge; upper = above.upper } ∷ held.path;
-        leads = (above.joined, ((λ is. owner_path-ends db schema above.upper held.path held.other is held.leads held.owner), held.leads));
-        owner = (above.owner, held.owner);
-        free = (unstruck, (held.free.0, held.free.1));
+        other = claimed.other;
+        differs = claimed.differs;
+        path = record { edge = above.edge; upper = above.upper } ∷ claimed.path;
+        leads = (above.joined, ((λ is. owner_path-ends db schema above.upper claimed.path claimed.other is claimed.leads claimed.owner), claimed.leads));
+        owner = (above.owner, claimed.owner);
+        free = (unstruck, (claimed.free.0, claimed.free.1));
       }

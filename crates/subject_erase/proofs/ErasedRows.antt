@@ -1,20 +1,20 @@
 -- What becomes of the rows by flags is what becomes of them.
-use Rattle.std.proofs.Common.{◌≡◌, ℕ, zero, suc, ◌+◌, ◌≤◌, List, [], ◌∷◌, ◌++◌, length, drop, refl, ap, sym, ◌∙◌, subst, append_assoc, append-nil, filter_map, flat_map, arith}
+use Rattle.std.proofs.Common.{◌≡◌, ℕ, suc, ◌+◌, ◌≤◌, List, [], ◌∷◌, ◌++◌, length, drop, refl, ap, sym, ◌∙◌, append_assoc, append-nil, filter_map, flat_map, arith}
 use Rattle.std.specs.Prelude.{Option, Some, None, slice_get}
 use Rattle.std.specs.List.{cons_option, enumerate_from}
 use Rattle.std.specs.Option.{option_to_list}
 use Rattle.std.proofs.lemmas.List.{drop_all, drop_more}
 use Rattle.std.proofs.lemmas.Option.{get_or_from_slice_get}
 use Rattle.own_base.specs.declared.row_name.RowName.{RowName}
-use Rattle.own_model.specs.declared.schema.Column.{Column}
 use Rattle.own_model.specs.declared.schema.TableDef.{TableDef}
 use Rattle.own_model.specs.Db.{AreRising, Db, IsOrdered, Row}
 use Rattle.own_model.specs.Stored.{rows_at}
 use Rattle.owner_sets.specs.ByEdges.{AreEdgesOf, EdgeLists, edges_at}
 use Rattle.schema_model.specs.OwnerSchema.{ColumnsRefer, IsOwnerSchema}
-use Rattle.schema_model.specs.WithinLimits.{IsTableWithin, IsWithinLimits}
+use Rattle.schema_model.specs.WithinLimits.{IsWithinLimits}
 use Rattle.schema_model.proofs.Places.{all-at, place-lt}
-use Rattle.state_model.specs.Rows.{AreOfKinds, AreRowsOf, IsRowOf}
+use Rattle.state_model.specs.Rows.{AreRowsOf}
+use Rattle.state_model.proofs.StoredRows.{row-within}
 use Rattle.subject_model.specs.Stays.{stays}
 use Rattle.subject_model.proofs.ForgetRows.{named_in}
 use Rattle.subject_erase.specs.Erasures.{erased, erased_from, erased_in, erasures}
@@ -22,30 +22,6 @@ use Rattle.subject_erase.specs.Flags.{AreFlagsOf, Flags, flag_at}
 use Rattle.subject_erase.specs.Losing.{erased_at, erased_rows, erased_table}
 use Rattle.subject_erase.proofs.ErasureLemmas.{made_images}
 use Rattle.subject_erase.proofs.LoseLemmas.{erased-by}
-
--- a row that may stand in a table has a value for each column
-of_kinds-length : (columns : List Column) (row : Row) → AreOfKinds columns row → length row ≡ length columns
-of_kinds-length [] [] are = refl
-of_kinds-length [] (value ∷ row) are = absurd are
-of_kinds-length (column ∷ columns) [] are = absurd are
-of_kinds-length (column ∷ columns) (value ∷ row) are = ap suc (of_kinds-length columns row are.1)
-
-rows-of : (tables : List TableDef) (rows : List (List Row)) → AreRowsOf tables rows → (number : ℕ) (table : TableDef) → slice_get tables number ≡ Some table → (place : ℕ) (row : Row)
-    → slice_get (rows_at rows number) place ≡ Some row → IsRowOf table row
-rows-of [] [] are number table is place row row_is = cc
-rows-of [] (one ∷ rows) are number table is place row row_is = absurd are
-rows-of (first ∷ tables) [] are number table is place row row_is = absurd are
-rows-of (first ∷ tables) (one ∷ rows) are zero table is place row row_is =
-    let same : first ≡ table = cc in
-    subst (λ t. IsRowOf t row) same (all-at (IsRowOf first) one are.0 place row row_is)
-rows-of (first ∷ tables) (one ∷ rows) are (suc number) table is place row row_is = rows-of tables rows are.1 number table is place row row_is
-
--- so it has no more values than a table may have columns
-pub row-few : (db : Db) → IsWithinLimits db.schema → AreRowsOf db.schema.tables db.rows → (number : ℕ) (table : TableDef) → slice_get db.schema.tables number ≡ Some table → (place : ℕ) (row : Row)
-    → slice_get (rows_at db.rows number) place ≡ Some row → length row ≤ 32
-row-few db limits rows number table is place row row_is =
-    let within : IsTableWithin table = all-at IsTableWithin db.schema.tables limits.each number table is in
-    omega (arith, within.columns, of_kinds-length table.columns row (rows-of db.schema.tables db.rows rows number table is place row row_is).kinds)
 
 -- what is made of numbered items
 numbered_made : {X Y : Type 0} (f : ℕ × X → Option Y) (g : X → Option Y) (number : ℕ) (xs : List X) → ((place : ℕ) (x : X) → slice_get xs place ≡ Some x → f (number + place, x) ≡ g x)
@@ -94,7 +70,7 @@ module _ (db : Db) (subject : RowName) (ordered : IsOrdered db) (owner : IsOwner
       let refer : ColumnsRefer db.schema table = all-at (ColumnsRefer db.schema) db.schema.tables owner.columns number table is in
       erased-by db ordered subject staying stay table
       (λ column_number column link column_is refers. let key = (refer column_number column link column_is refers).1 in (key.table, key.table_is)) (named_in number table row)
-      (flag_at staying number place) (edges_at by number place) (row-few db limits rows_are number table is place row row_is)
+      (flag_at staying number place) (edges_at by number place) (row-within db.schema db.rows number place table row limits rows_are is row_is)
       ((stay.each number).at place table row is row_is) ((reach.each number).at place table row is row_is)
 
   -- of the rows of a table

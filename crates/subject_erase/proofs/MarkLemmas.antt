@@ -5,6 +5,7 @@ use Rattle.std.specs.List.{list_any, range_with_len}
 use Rattle.std.proofs.lemmas.Bool.{and_from, and_parts, eqb-true}
 use Rattle.std.proofs.lemmas.List.Folds.{list_any_more}
 use Rattle.std.proofs.lemmas.List.FromFn.{length-map-range_with_len}
+use Rattle.std.proofs.Math.Bool.{or-false, or_assoc}
 use Rattle.own_base.specs.declared.number.TableNo.{TableNo}
 use Rattle.own_base.specs.declared.row_name.RowName.{RowName}
 use Rattle.own_model.specs.declared.schema.Edge.{Edge}
@@ -12,6 +13,7 @@ use Rattle.own_model.specs.Db.{Db, IsOrdered}
 use Rattle.owner_model.specs.Joins.{Joins}
 use Rattle.schema_model.specs.OwnerSchema.{IsOwnerSchema}
 use Rattle.subject_model.proofs.Members.{any_contained, contains_any, contains_filter, contains_of_filter}
+use Rattle.subject_model.proofs.JoinsLemmas.{same_table}
 use Rattle.owner_sets.specs.declared.link.Link.{Link}
 use Rattle.owner_sets.specs.Links.{links}
 use Rattle.owner_sets.proofs.GatheredLemmas.{edge_held, edge_within, same_standing}
@@ -23,17 +25,9 @@ use Rattle.subject_erase.specs.Followed.{counts}
 use Rattle.subject_erase.specs.Marked.{HaveMore, is_marked, over_edge, over_followed, over_link}
 use Rattle.subject_erase.proofs.FlagLemmas.{flag-standing}
 
-or_assoc : (a b c : Bool) → ((a || b) || c) ≡ (a || (b || c))
-or_assoc true b c = refl
-or_assoc false b c = refl
-
-or_none : (b : Bool) → b ≡ (b || false)
-or_none true = refl
-or_none false = refl
-
 -- marks to which nothing is added
 pub HaveMore-none : (more : ℕ → Bool) (marks : List Bool) → ((place : ℕ) → more place ≡ false) → HaveMore more marks marks
-HaveMore-none more marks none = record { same_length = refl; at = λ place within. or_none (get_or marks place false) ∙ ap (λ b. get_or marks place false || b) (sym (none place)) }
+HaveMore-none more marks none = record { same_length = refl; at = λ place within. sym (or-false (get_or marks place false)) ∙ ap (λ b. get_or marks place false || b) (sym (none place)) }
 
 -- what one item more adds
 pub HaveMore-more : {X : Type 0} (adds : ℕ → X → Bool) (items : List X) (index : ℕ) (d : X) (first before after : List Bool) → index < length items
@@ -61,13 +55,10 @@ pub record JoinsPassing (followed : Followed) (db : Db) (test : RowName → Bool
 module _ (followed : Followed) (db : Db) (test : RowName → Bool) (flags : Flags) (ordered : IsOrdered db) (owner : IsOwnerSchema db.schema) (name : RowName) (place : ℕ) (stands : StandsAt db name place)
     (edges : List Edge) (out : edges ≡ filter (λ edge. edge.lower.0 == name.table.0) db.schema.edges)
     (above : (edge : Edge) → Contains edges edge → AreFlagsOfTable db test edge.upper.0 (get_or flags edge.upper.0 [])) where
-  same_number : (one other : TableNo) → one.0 ≡ other.0 → one ≡ other
-  same_number one other same = ap (λ (n : ℕ). record { 0 = n }) same
-
   out_of : (edge : Edge) → Contains edges edge → Contains db.schema.edges edge × (name.table ≡ edge.lower)
   out_of edge among =
       let kept = contains_of_filter (λ (e : Edge). e.lower.0 == name.table.0) db.schema.edges edge (subst (λ list. Contains list edge) out among) in
-      (kept.0, sym (same_number edge.lower name.table (eqb-true edge.lower.0 name.table.0 kept.1)))
+      (kept.0, sym (same_table edge.lower name.table (eqb-true edge.lower.0 name.table.0 kept.1)))
 
   -- the flag of an upper row is what the test says of it
   flag_is : (edge : Edge) → Contains edges edge → (upper : RowName) (at : ℕ) → upper.table ≡ edge.upper → StandsAt db upper at → get_or (get_or flags edge.upper.0 []) at false ≡ test upper

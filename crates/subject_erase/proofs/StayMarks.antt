@@ -43,19 +43,19 @@ module _ (db : Db) (subject : RowName) (ordered : IsOrdered db) (owner : IsOwner
       ap (λ b. not b && (not (is_private db.schema name.table.0) || is_claimed db subject name)) (own-owned name place stands)
 
   -- and so it is told by their flags
-  pub map-stays : (table : TableNo) (owned held : Flags) (flags : List Bool) → AreFlagsOf db (owns db subject) owned → AreFlagsOf db (is_claimed db subject) held
-      → flags ≡ map (λ place. stays_by db.schema table.0 (flag_at owned table.0 place) (flag_at held table.0 place)) (range_with_len 0 (length (rows_at db.rows table.0)))
+  pub map-stays : (table : TableNo) (owned claimed : Flags) (flags : List Bool) → AreFlagsOf db (owns db subject) owned → AreFlagsOf db (is_claimed db subject) claimed
+      → flags ≡ map (λ place. stays_by db.schema table.0 (flag_at owned table.0 place) (flag_at claimed table.0 place)) (range_with_len 0 (length (rows_at db.rows table.0)))
       → AreFlagsOfTable db (stays db subject) table.0 flags
-  map-stays table owned held flags are held_are is =
+  map-stays table owned claimed flags are held_are is =
       record {
         at = λ place definition row table_is row_is.
             let name : RowName = name_of table.0 definition row in
-            let test : ℕ → Bool = λ place. stays_by db.schema table.0 (flag_at owned table.0 place) (flag_at held table.0 place) in
+            let test : ℕ → Bool = λ place. stays_by db.schema table.0 (flag_at owned table.0 place) (flag_at claimed table.0 place) in
             let count = length (rows_at db.rows table.0) in
             let within : place < count = place-lt (rows_at db.rows table.0) place row row_is in
             ap (λ all. get_or all place false) is
             ∙ (get_or-map-range_with_len test 0 count place place false within (omega arith)
-            ∙ (ap (λ b. stays_by db.schema table.0 b (flag_at held table.0 place)) ((are.each table.0).at place definition row table_is row_is)
+            ∙ (ap (λ b. stays_by db.schema table.0 b (flag_at claimed table.0 place)) ((are.each table.0).at place definition row table_is row_is)
             ∙ (ap (λ b. stays_by db.schema table.0 (owns db subject name) b) ((held_are.each table.0).at place definition row table_is row_is)
             ∙ stays-by name place (standing_at db table place definition row table_is row_is))));
       }

@@ -19,4 +19,4 @@ is_other_subject schema table owned = is_subject schema table && not owned
 -- whether a row stays that the subject owns or not, and that another holds or not: none but the subject itself owns a
 -- subject row
 abbrev pub stays_by : Schema → ℕ → Bool → Bool → Bool
-stays_by schema table owned held = not (is_subject schema table && owned) && (not (is_private schema table) || held)
+stays_by schema table owned claimed = not (is_subject schema table && owned) && (not (is_private schema table) || claimed)

@@ -37,7 +37,7 @@ fn other_subjects<V: StoreView>(
     ensures { IfOk result (λ marks. marks.items ≡ map (λ place. is_other_subject (V.db view.now).schema table.0 (slice_index_or owned.now place false))
         (range_with_len 0 (length (rows_at (V.db view.now).rows table.0)))) }
 {
-    let subjects = is_subject(view.schema(), table);
+    let subjects = is_subject(view.schema(), table.0 as usize);
     let mut marks = Vec::new(alloc);
     for at in 0..view.count(table) {
         marks.push(without(subjects, flag(owned, at)))?;
@@ -62,13 +62,13 @@ fn unflagged(
 }
 
 /// Which rows of a table another subject holds, given those of the tables above: a row that isn't struck, and that is
-/// another subject's own or that an owner edge joins to one that is held.
+/// another subject's own or that an owner edge joins to one that is claimed.
 fn table_claimed<V: StoreView>(
     alloc: Global,
     view: &V,
     owned: &[List<bool>],
     struck: &[List<bool>],
-    held: &[List<bool>],
+    claimed: &[List<bool>],
     table: TableNo,
     edges: &[Edge],
 ) -> Result<List<bool>, AllocError>
@@ -78,11 +78,11 @@ fn table_claimed<V: StoreView>(
     ensures { IfOk result (λ flags. (subject : RowName)
         → AreFlagsOf (V.db view.now) (owns (V.db view.now) subject) owned.now
         → AreFlagsOf (V.db view.now) (is_struck (V.db view.now) subject) struck.now
-        → ((edge : Joined) → Contains edges.now edge → AreFlagsOfTable (V.db view.now) (is_claimed (V.db view.now) subject) edge.upper.0 (slice_index_or held.now edge.upper.0 []))
+        → ((edge : Joined) → Contains edges.now edge → AreFlagsOfTable (V.db view.now) (is_claimed (V.db view.now) subject) edge.upper.0 (slice_index_or claimed.now edge.upper.0 []))
         → AreFlagsOfTable (V.db view.now) (is_claimed (V.db view.now) subject) table.0 flags) }
 {
     let mut marks = other_subjects(alloc, view, flags_of(owned, table), table)?;
-    mark(alloc, view, Followed::Owners, held, edges, &mut marks)?;
+    mark(alloc, view, Followed::Owners, claimed, edges, &mut marks)?;
     unflagged(alloc, &marks, flags_of(struck, table), view.count(table))
 }
 
@@ -109,11 +109,19 @@ pub(crate) fn claimed_flags<V: StoreView>(
         → AreFlagsOf (V.db view.now) (is_struck (V.db view.now) subject) struck.now
         → AreFlagsOf (V.db view.now) (is_claimed (V.db view.now) subject) flags) }
 {
-    let mut held = none_yet(alloc, view.schema().tables.items().len())?;
+    let mut claimed = none_yet(alloc, view.schema().tables.items().len())?;
     for table in graph.order() {
         let edges = graph.edges_of(*table);
-        let done = table_claimed(alloc, view, owned, struck, held.as_slice(), *table, edges)?;
-        held[table.0 as usize] = done;
+        let done = table_claimed(
+            alloc,
+            view,
+            owned,
+            struck,
+            claimed.as_slice(),
+            *table,
+            edges,
+        )?;
+        claimed[table.0 as usize] = done;
     }
-    Ok(List::from_vec(held))
+    Ok(List::from_vec(claimed))
 }

@@ -2,33 +2,16 @@ ghost use Rattle.std.specs.Prelude.{◌≡◌, ◌<◌, ◌&&◌, IfOk, Some, le
 ghost use Rattle.std.specs.Option.{option_copied};
 ghost use Rattle.own_base.specs.declared.number.TableNo.{TableNo as Number};
 ghost use Rattle.own_model.specs.declared.schema.RefKind.{RefKind as By};
-ghost use Rattle.owner_model.specs.ColumnSets as columns;
-ghost use Rattle.query_model.specs.Truth.{is_null};
 ghost use Rattle.schema_model.specs.OwnerSchema.{ColumnsRefer};
+ghost use Rattle.query_model.specs.Truth.{is_null};
 ghost use Rattle.subject_erase.specs.Losing.{dangles_by, left_by, loses_by, loses_some_by};
 
 use crate::flags::flag_at;
 use own_base::{ColumnSet, List, MakeCopy, Row, Value};
 use own_model::{Column, StoreView, TableDef};
 use owner_sets::place_named;
+use row_reading::{has_column, is_null};
 use std::alloc::{AllocError, Global};
-
-/// Whether a column is in a set.
-fn has_column(set: ColumnSet, column: usize) -> bool
-    ensures { result ≡ columns.has_column set column }
-{
-    column < u32::BITS as usize && (set.0 >> column) % 2 == 1
-}
-
-/// Whether a value is NULL.
-fn is_null(value: &Value) -> bool
-    ensures { result ≡ is_null value.now }
-{
-    match value {
-        Value::Null => true,
-        Value::Int(_) | Value::Text(_) | Value::Sum(_) => false,
-    }
-}
 
 /// Whether a value, in a column, refers to a row that doesn't stay. Takes no memory.
 fn dangles<V: StoreView>(view: &V, staying: &[List<bool>], column: &Column, value: &Value) -> bool

@@ -25,10 +25,10 @@ use std::alloc::{AllocError, Global};
 
 /// Whether a row stays: not the subject's own row, which is the only subject row that it owns, and of a private table only
 /// a row that another subject holds.
-fn stays(subjects: bool, private: bool, owned: bool, held: bool) -> bool
-    ensures { result ≡ (not (subjects && owned) && (not private || held)) }
+fn stays(subjects: bool, private: bool, owned: bool, claimed: bool) -> bool
+    ensures { result ≡ (not (subjects && owned) && (not private || claimed)) }
 {
-    !(subjects && owned) && (!private || held)
+    !(subjects && owned) && (!private || claimed)
 }
 
 /// Which rows of a table stay, given those that the subject owns and those that another holds.
@@ -36,20 +36,20 @@ fn table_staying<V: StoreView>(
     alloc: Global,
     view: &V,
     owned: &[List<bool>],
-    held: &[List<bool>],
+    claimed: &[List<bool>],
     table: TableNo,
 ) -> Result<List<bool>, AllocError>
     requires { table.0 < length (V.db view.now).schema.tables }
-    ensures { IfOk result (λ flags. flags ≡ map (λ place. stays_by (V.db view.now).schema table.0 (flag_at owned.now table.0 place) (flag_at held.now table.0 place))
+    ensures { IfOk result (λ flags. flags ≡ map (λ place. stays_by (V.db view.now).schema table.0 (flag_at owned.now table.0 place) (flag_at claimed.now table.0 place))
         (range_with_len 0 (length (rows_at (V.db view.now).rows table.0)))) }
 {
-    let subjects = is_subject(view.schema(), table);
-    let private = is_private(view.schema(), table);
+    let subjects = is_subject(view.schema(), table.0 as usize);
+    let private = is_private(view.schema(), table.0 as usize);
     let mut staying = List::new(alloc);
     for at in 0..view.count(table) {
         let owned = flag_at(owned, table, at);
-        let held = flag_at(held, table, at);
-        staying.add(stays(subjects, private, owned, held))?;
+        let claimed = flag_at(claimed, table, at);
+        staying.add(stays(subjects, private, owned, claimed))?;
     }
     Ok(staying)
 }
@@ -59,19 +59,19 @@ fn staying_given<V: StoreView>(
     alloc: Global,
     view: &V,
     owned: &[List<bool>],
-    held: &[List<bool>],
+    claimed: &[List<bool>],
 ) -> Result<Flags, AllocError>
     requires limits { IsWithinLimits (V.db view.now).schema }
     requires owner { IsOwnerSchema (V.db view.now).schema }
     ensures { IfOk result (λ flags. (subject : RowName) → IsTrue (spec.is_subject (V.db view.now).schema subject.table.0)
         → AreFlagsOf (V.db view.now) (owns (V.db view.now) subject) owned.now
-        → AreFlagsOf (V.db view.now) (is_claimed (V.db view.now) subject) held.now
+        → AreFlagsOf (V.db view.now) (is_claimed (V.db view.now) subject) claimed.now
         → AreFlagsOf (V.db view.now) (stays (V.db view.now) subject) flags) }
 {
     let mut staying = List::new(alloc);
     for number in 0..view.schema().tables.items().len() {
         let table = TableNo(number as u32);
-        staying.add(table_staying(alloc, view, owned, held, table)?)?;
+        staying.add(table_staying(alloc, view, owned, claimed, table)?)?;
     }
     Ok(staying)
 }
@@ -93,6 +93,6 @@ pub(crate) fn staying_flags<V: StoreView>(
 {
     let owned = owned_flags(alloc, view, sets, subject)?;
     let struck = struck_flags(alloc, view, graph, owned.items())?;
-    let held = claimed_flags(alloc, view, graph, owned.items(), struck.items())?;
-    staying_given(alloc, view, owned.items(), held.items())
+    let claimed = claimed_flags(alloc, view, graph, owned.items(), struck.items())?;
+    staying_given(alloc, view, owned.items(), claimed.items())
 }

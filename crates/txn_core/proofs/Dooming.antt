@@ -6,10 +6,10 @@ use Rattle.own_base.specs.declared.number.Place.{Place}
 use Rattle.own_base.specs.declared.row_name.RowName.{RowName}
 use Rattle.own_model.specs.declared.footprint.FootItem.{FootItem}
 use Rattle.history_model.specs.History.{lie_on}
-use Rattle.row_locks.specs.Kept.{kept_by as held_by}
+use Rattle.row_locks.specs.SessionItems.{items_by as held_by}
 use Rattle.row_locks.specs.RepresentsItems.{AreHeld, RepresentsItems}
-use Rattle.txn_core.specs.declared.kept.Kept.{Kept}
-use Rattle.txn_core.specs.Kept.{once_doomed}
+use Rattle.txn_core.specs.declared.session_state.SessionState.{SessionState}
+use Rattle.txn_core.specs.SessionStates.{once_doomed}
 use Rattle.txn_core.specs.Transactions.{AreOthersSame, IsSameOf, IsDoomedIf, Transactions}
 
 -- each session below a number is as the FORGET leaves it, and the others are as they were
@@ -37,7 +37,7 @@ module _ (names : List RowName) (place : Place) (before mid after : Transactions
       let same : IsSameOf number before mid = below.others number (inr (omega arith)) in
       let stands : RepresentsItems (held_by mid.held number) (held number) = subst (λ some. RepresentsItems some (held number)) (sym same.1) (are number) in
       let gives : IsDoomedIf (lie_on names (held number)) place number mid after = dooms (held number) stands in (
-        gives.0 ∙ ap (λ (one : Kept). if lie_on names (held number) then once_doomed place one else one) same.0,
+        gives.0 ∙ ap (λ (one : SessionState). if lie_on names (held number) then once_doomed place one else one) same.0,
         gives.1 ∙ ap (λ (items : List FootItem). if lie_on names (held number) then [] else items) same.1,
       )
 
@@ -48,7 +48,7 @@ module _ (names : List RowName) (place : Place) (before mid after : Transactions
       let other : session ≢ number = eqb-false session number apart in
       let under : session < number = omega arith in
       let gives : IsDoomedIf (lie_on names (held session)) place session before mid = below.doomed held are session first under in
-      (others.kept session other ∙ gives.0, others.held session other ∙ gives.1)
+      (others.states session other ∙ gives.0, others.held session other ∙ gives.1)
 
   pub next_doomed : AreDoomedBelow (number + 1) names place before after
   next_doomed = record {
@@ -56,5 +56,5 @@ module _ (names : List RowName) (place : Place) (before mid after : Transactions
     others = λ session outside.
         let other : session ≢ number = outside_apart number session from outside in
         let same : IsSameOf session before mid = below.others session (outside_before number session outside) in
-        (others.kept session other ∙ same.0, others.held session other ∙ same.1);
+        (others.states session other ∙ same.0, others.held session other ∙ same.1);
   }

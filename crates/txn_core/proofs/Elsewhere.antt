@@ -1,68 +1,34 @@
 -- What an open transaction has changed represents its block on each database that is the same on the rows of its items.
-use Rattle.std.proofs.Common.{◌≡◌, ◌∙◌, ◌<◌, ℕ, suc, List, [], ◌∷◌, Bool, true, false, Option, None, Some, ap, inl, inr, length, refl, subst, sym}
-use Rattle.std.specs.Prelude.{◌⊎◌, find, is_some, slice_get}
-use Rattle.std.specs.List.{AllByRecursion as Each}
-use Rattle.std.specs.Option.{option_and_then, option_map_or}
-use Rattle.std.proofs.lemmas.Bool.{and_parts, eqb-true, or_cases}
+use Rattle.std.proofs.Common.{◌≡◌, ◌∙◌, ◌<◌, ℕ, suc, List, [], ◌∷◌, Bool, true, false, Option, None, Some, ap, length, refl, subst, sym}
+use Rattle.std.specs.Prelude.{is_some, slice_get}
+use Rattle.std.specs.Option.{option_map_or}
 use Rattle.std.proofs.lemmas.Option.{slice_get_within}
 use Rattle.own_base.specs.Key.{key_cmp}
-use Rattle.own_base.specs.declared.number.TableNo.{TableNo}
 use Rattle.own_base.specs.declared.row_name.RowName.{RowName}
-use Rattle.own_base.specs.declared.value.Key.{Key}
 use Rattle.own_model.specs.declared.footprint.FootItem.{FootItem}
 use Rattle.own_model.specs.declared.schema.Schema.{Schema}
 use Rattle.own_model.specs.declared.schema.TableDef.{TableDef}
 use Rattle.own_model.specs.Db.{AreRising, Db, Row, key_of}
-use Rattle.own_model.specs.Stored.{has_key, row_named, rows_at}
+use Rattle.own_model.specs.Stored.{row_named, rows_at}
 use Rattle.own_model.proofs.KeyOrder.{key_order}
 use Rattle.owner_model.specs.Joins.{row_of}
 use Rattle.page_model.specs.Found.{found}
 use Rattle.page_model.proofs.SameFound.{same_found}
 use Rattle.query_model.specs.Footprints.{item}
 use Rattle.state_model.specs.Sound.{IsWellFormed}
-use Rattle.run_model.specs.Agree.{Agree, AgreeOn, overlaps}
+use Rattle.state_model.proofs.PutRows.{named_in, rising_at}
+use Rattle.run_model.specs.Agree.{Agree}
 use Rattle.run_model.specs.Items.{items_of_all}
-use Rattle.subject_model.proofs.NamedLemmas.{one_key}
+use Rattle.run_model.proofs.AgreedRows.{row_of-agreed}
 use Rattle.txn_space.specs.declared.entry.Entry.{Entry}
 use Rattle.txn_space.specs.Changed.{changed_rows}
 use Rattle.txn_space.specs.Entries.{entries_at, entry_key, entry_row}
 use Rattle.txn_space.specs.Sound.{IsBase, IsSpaceOf}
-use Rattle.txn_space.proofs.OverLemmas.{changed_rise, named_entry, named_in, named_unchanged, rising_at}
+use Rattle.txn_space.proofs.OverLemmas.{changed_rise, named_changed}
 use Rattle.history_model.specs.World.{Block, after_block, statements_of}
 use Rattle.history_model.proofs.BlockLemmas.{AreOfBlock, carries-block, kept-block, schema-block, still-block}
 use Rattle.txn_core.specs.Runs.{is_entered, is_written}
 use Rattle.txn_core.specs.RepresentsBlock.{RepresentsBlock}
-
--- databases that agree on an item agree on the row of each name on it
-module _ (db other : Db) (schema : db.schema ≡ other.schema) (name : RowName) where
-  on_table : (table : TableNo) → table.0 ≡ name.table.0 → rows_at db.rows table.0 ≡ rows_at other.rows table.0 → row_of db name ≡ row_of other name
-  unfolding row_named
-  on_table table is same =
-      let rows : rows_at db.rows name.table.0 ≡ rows_at other.rows name.table.0 = subst (λ n. rows_at db.rows n ≡ rows_at other.rows n) is same in
-      ap (λ (schema : Schema). option_and_then (λ table. find (has_key table name.key) (rows_at db.rows name.table.0)) (slice_get schema.tables name.table.0)) schema
-      ∙ ap (λ (rows : List Row). option_and_then (λ table. find (has_key table name.key) rows) (slice_get other.schema.tables name.table.0)) rows
-
-  on_item : (table : TableNo) (key : Option Key) (write : Bool) → overlaps (record { table = table; key = key; write = write }) (item name.table (Some name.key) false) ≡ true
-      → AgreeOn db other (record { table = table; key = key; write = write }) → row_of db name ≡ row_of other name
-  on_item table None write meets agree =
-      let both = and_parts _ _ (and_parts _ _ meets).0 in
-      on_table table (eqb-true table.0 name.table.0 both.0) agree
-  on_item table (Some key) write meets agree =
-      let both = and_parts _ _ (and_parts _ _ meets).0 in
-      let same_key : key ≡ name.key = sym (one_key name.key key both.1) in
-      let same_table : table.0 ≡ name.table.0 = eqb-true table.0 name.table.0 both.0 in
-      let named : ℕ → Key → RowName = λ number key. record { table = record { 0 = number }; key = key } in
-      let same : named table.0 key ≡ name = ap (λ number. named number key) same_table ∙ ap (named name.table.0) same_key in
-      subst (λ name. row_of db name ≡ row_of other name) same agree
-
-  on_some : (items : List FootItem) → Each (AgreeOn db other) items → is_written items name ≡ true → row_of db name ≡ row_of other name
-  on_some [] agree meets = let never : false ≡ true = meets in absurd (cc)
-  on_some (own ∷ items) agree meets = by (or_cases _ _ meets) (on_some items agree.1)
-    where
-      by : (overlaps own (item name.table (Some name.key) false) ≡ true) ⊎ (is_written items name ≡ true)
-          → (is_written items name ≡ true → row_of db name ≡ row_of other name) → row_of db name ≡ row_of other name
-      by (inl here) more = on_item own.table own.key own.write here agree.0
-      by (inr later) more = more later
 
 -- lists of rows are those of others where the rows of each table are
 rows_same : (tables : List TableDef) (rows others : List (List Row)) → AreRising tables rows → AreRising tables others
@@ -75,16 +41,6 @@ rows_same (table ∷ tables) (one ∷ rows) [] rise rises each = absurd rises
 rows_same (table ∷ tables) (one ∷ rows) (other ∷ others) rise rises each =
     let here : one ≡ other = each 0 table refl in
     ap (λ first. first ∷ rows) here ∙ ap (λ rest. other ∷ rest) (rows_same tables rows others rise.1 rises.1 (λ place next is. each (suc place) next is))
-
--- the row of a name as changed, by its entry
-module _ (schema : Schema) (rows : List (List Row)) (space : List (List Entry)) (name : RowName) (base : IsBase schema.tables rows) (sound : IsSpaceOf schema.tables space) (within : name.table.0 < length schema.tables) where
-  by_entry : (entry : Option Entry) → found entry_key key_cmp name.key (entries_at space name.table.0) ≡ entry
-      → row_named schema (changed_rows schema.tables rows space) name ≡ option_map_or entry_row entry (row_named schema rows name)
-  by_entry None is = named_unchanged schema rows space name base sound within (entries_at space name.table.0) refl is
-  by_entry (Some entry) is = named_entry schema rows space name base sound within (entries_at space name.table.0) entry refl is
-
-  named_changed : row_named schema (changed_rows schema.tables rows space) name ≡ option_map_or entry_row (found entry_key key_cmp name.key (entries_at space name.table.0)) (row_named schema rows name)
-  named_changed = by_entry (found entry_key key_cmp name.key (entries_at space name.table.0)) refl
 
 -- A block on another database that agrees on the rows of its items
 module _ (places : ℕ) (flat other : Db) (block : Block) (kept : IsWellFormed flat) (kept_other : IsWellFormed other) (base : IsBase flat.schema.tables flat.rows) (base_other : IsBase other.schema.tables other.rows)
@@ -129,7 +85,7 @@ module _ (places : ℕ) (flat other : Db) (block : Block) (kept : IsWellFormed f
     -- a row that the block may write is the same on both, before it and behind it
     on_written : is_written items name ≡ true → row_named other.schema changed name ≡ row_named other.schema left name
     on_written meets =
-        let before = on_some flat other agree.schema name items agree.on meets in
+        let before = row_of-agreed flat other agree.schema name items agree.on meets in
         let behind : row_of (after_block flat block) name ≡ row_of (after_block other block) name =
         carries-block places flat other block kept kept_other are agree (item name.table (Some name.key) false) before in
         here ∙ (ap (option_map_or entry_row entry) (sym before) ∙ (first ∙ (behind ∙ sym there)))

@@ -24,7 +24,7 @@ use Rattle.schema_model.proofs.Places.{all-at}
 use Rattle.write_eval.specs.Write.{IsWrite}
 use Rattle.txn_core.specs.Runs.{IsRowStatement}
 use Rattle.txn_core.specs.Transactions.{AreItemsOf}
-use Rattle.txn_core.specs.Views.{AreViewsThere, ReadsTables}
+use Rattle.query_eval.specs.Views.{AreViewsThere, ReadsTables}
 
 module _ (schema : Schema) where
   both_there : (left right : TableNo) → left.0 < length schema.tables → right.0 < length schema.tables → AreItemsOf schema (both left right)

@@ -1,4 +1,3 @@
-mod BoundSelects
 mod Dooming
 pub mod Elsewhere
 mod ItemsThere
@@ -13,5 +12,4 @@ mod Quiet
 pub mod Runs
 pub mod SoundBases
 pub mod RepresentsLemmas
-mod Statements
-mod StoredRows
+pub mod Statements

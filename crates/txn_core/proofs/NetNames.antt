@@ -1,59 +1,22 @@
 -- A net names no row that is the same before and after.
 use Rattle.std.proofs.Common.{◌≡◌, ◌∙◌, ℕ, suc, ◌+◌, List, [], ◌∷◌, ◌++◌, Bool, true, false, ap, refl, subst, sym, arith}
-use Rattle.std.specs.Prelude.{Option, None, Some, IfSome, bytes_eq, cond, filter_map, find, slice_get}
-use Rattle.std.specs.List.{AllByRecursion as Each, IsDistinct, cons_option}
-use Rattle.std.proofs.lemmas.Bool.{eq-eqb}
-use Rattle.std.proofs.lemmas.Cmp.{int_cmp_total, tied_itself}
+use Rattle.std.specs.Prelude.{Option, None, Some, IfSome, cond, filter_map, find, slice_get}
+use Rattle.std.specs.List.{AllByRecursion as Each}
 use Rattle.own_base.specs.declared.change.Change.{Change}
 use Rattle.own_base.specs.declared.value.Key.{Key}
-use Rattle.own_base.specs.declared.value.Value.{Value}
-use Rattle.own_base.specs.declared.value.Value.TheVariants.{Null, Int, Text, Sum}
-use Rattle.own_model.specs.declared.schema.Schema.{Schema}
 use Rattle.own_model.specs.declared.schema.TableDef.{TableDef}
-use Rattle.own_model.specs.Db.{AreRising, Db, Row}
+use Rattle.own_model.specs.Db.{Db, Row}
 use Rattle.own_model.specs.Stored.{has_key, row_named, rows_at}
-use Rattle.page_model.specs.Changed.{with_changes}
+use Rattle.schema_model.proofs.Places.{all-append}
 use Rattle.state_model.specs.Net.{change_at, keys_in, net, net_from, net_in}
-use Rattle.state_model.specs.Same.{is_same_row, is_same_state, is_same_value}
+use Rattle.state_model.specs.Same.{is_same_state}
+use Rattle.state_model.proofs.Made.{all-filter_map}
+use Rattle.state_model.proofs.NetRows.{named_at}
+use Rattle.state_model.proofs.SameLemmas.{state_same}
 use Rattle.txn_space.specs.declared.entry.Entry.{Entry}
 use Rattle.txn_space.specs.Changed.{changed_db, changed_rows}
 use Rattle.txn_space.specs.Sound.{IsBase}
-use Rattle.txn_space.proofs.OverLemmas.{next, same}
-use Rattle.txn_core.proofs.NetTo.{changed_none}
-
--- a row that is there or not is the same as itself
-same_bytes : (bytes : List ℕ) → bytes_eq bytes bytes ≡ true
-same_bytes [] = refl
-same_bytes (byte ∷ bytes) = rw (eq-eqb byte byte refl, same_bytes bytes) refl
-
-same_value : (value : Value) → is_same_value value value ≡ true
-unfolding is_same_value
-same_value Null = refl
-same_value (Int number) = rw (tied_itself int_cmp_total number) refl
-same_value (Text bytes) = same_bytes bytes
-same_value (Sum number) = rw (tied_itself int_cmp_total number) refl
-
-same_row : (row : Row) → is_same_row row row ≡ true
-unfolding is_same_row
-same_row [] = refl
-same_row (value ∷ row) = rw (same_value value, same_row row) refl
-
-pub same_state : (row : Option Row) → is_same_state row row ≡ true
-same_state None = refl
-same_state (Some row) = same_row row
-
-each_append : {X : Type 0} (P : X → Type 0) (xs ys : List X) → Each P xs → Each P ys → Each P (xs ++ ys)
-each_append P [] ys all more = more
-each_append P (x ∷ xs) ys all more = (all.0, each_append P xs ys all.1 more)
-
--- what is so of each that is given is so of all
-each_given : {X Y : Type 0} (P : Y → Type 0) (give : X → Option Y) → ((x : X) → IfSome (give x) P) → (xs : List X) → Each P (filter_map give xs)
-each_given P give all [] = tt
-each_given {X} {Y} P give all (x ∷ xs) = by (give x) (all x) (each_given P give all xs)
-  where
-    by : (given : Option Y) → IfSome given P → Each P (filter_map give xs) → Each P (cons_option given (filter_map give xs))
-    by None is more = more
-    by (Some y) is more = (is, more)
+use Rattle.txn_space.proofs.OverLemmas.{changed_none, next, same}
 
 -- a name and what becomes of its row
 abbrev changed : ℕ → Key → Option Row → Option Row → Change
@@ -65,7 +28,7 @@ differ table key before after = is_same_state (find (has_key table key) before) 
 net_in-each : (P : Change → Type 0) (number : ℕ) (table : TableDef) (before after : List Row)
     → ((key : Key) → differ table key before after → (was is : Option Row) → P (changed number key was is)) → Each P (net_in number table before after)
 net_in-each P number table before after all =
-    each_given P (change_at number table before after) (λ key. by key (is_same_state (find (has_key table key) before) (find (has_key table key) after)) refl) (keys_in table (before ++ after))
+    all-filter_map P (change_at number table before after) (λ key. by key (is_same_state (find (has_key table key) before) (find (has_key table key) after)) refl) (keys_in table (before ++ after))
   where
     by : (key : Key) (b : Bool) → is_same_state (find (has_key table key) before) (find (has_key table key) after) ≡ b
         → IfSome (cond b None (Some (changed number key (find (has_key table key) before) (find (has_key table key) after)))) P
@@ -81,16 +44,10 @@ net_from-each P number [] befores afters all = tt
 net_from-each P number (table ∷ tables) [] afters all = tt
 net_from-each P number (table ∷ tables) (before ∷ befores) [] all = tt
 net_from-each P number (table ∷ tables) (before ∷ befores) (after ∷ afters) all =
-    each_append P (net_in number table before after) (net_from (number + 1) tables befores afters)
+    all-append P (net_in number table before after) (net_from (number + 1) tables befores afters)
     (net_in-each P number table before after (λ key others was is. subst (λ n. P (changed n key was is)) (same number) (all 0 table key refl others was is)))
     (net_from-each P (number + 1) tables befores afters
     (λ place other key at others was is. subst (λ n. P (changed n key was is)) (sym (next number place)) (all (suc place) other key at others was is)))
-
--- the row of a name, by the table of its number
-named_at : (db : Db) (number : ℕ) (table : TableDef) (key : Key) → slice_get db.schema.tables number ≡ Some table
-    → row_named db.schema db.rows (record { table = record { 0 = number }; key = key }) ≡ find (has_key table key) (rows_at db.rows number)
-unfolding row_named
-named_at db number table key at = rw at refl
 
 -- whether a change is of a row that is not the same in both
 abbrev pub IsOfOther : Db → Db → Change → Type 0
@@ -103,8 +60,8 @@ net_others before after schema =
     (λ place table key at others was is.
     let here : 0 + place ≡ place = omega arith in
     let at_before : slice_get before.schema.tables place ≡ Some table = subst (λ schema. slice_get schema.tables place ≡ Some table) schema at in
-    let first = named_at before place table key at_before in
-    let second = named_at after place table key at in
+    let first = named_at before (record { table = record { 0 = place }; key = key }) table at_before in
+    let second = named_at after (record { table = record { 0 = place }; key = key }) table at in
     let own : IsOfOther before after (changed place key was is) = rw (first, second) others in
     subst (λ n. IsOfOther before after (changed n key was is)) (sym here) own)
 
@@ -114,7 +71,7 @@ none_given give none [] = refl
 none_given give none (x ∷ xs) = rw (none x) (none_given give none xs)
 
 net_in-same : (number : ℕ) (table : TableDef) (rows : List Row) → net_in number table rows rows ≡ []
-net_in-same number table rows = none_given (change_at number table rows rows) (λ key. rw (same_state (find (has_key table key) rows)) refl) (keys_in table (rows ++ rows))
+net_in-same number table rows = none_given (change_at number table rows rows) (λ key. rw (state_same (find (has_key table key) rows)) refl) (keys_in table (rows ++ rows))
 
 net_from-same : (number : ℕ) (tables : List TableDef) (rows : List (List Row)) → net_from number tables rows rows ≡ []
 unfolding net_from

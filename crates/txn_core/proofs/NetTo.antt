@@ -1,5 +1,5 @@
 -- From what a write comes to, to the net of it.
-use Rattle.std.proofs.Common.{◌≡◌, ◌∙◌, ℕ, ◌+◌, List, [], ◌∷◌, ap, refl}
+use Rattle.std.proofs.Common.{◌≡◌, ◌∙◌, List, [], ◌∷◌, ap, refl}
 use Rattle.std.specs.Prelude.{Some, slice_get}
 use Rattle.std.specs.List.{AllByRecursion as Each}
 use Rattle.own_base.specs.declared.change.Change.{Change}
@@ -9,9 +9,9 @@ use Rattle.own_model.specs.declared.reply.Reply.TheVariants.{Counted}
 use Rattle.own_model.specs.declared.schema.Schema.{Schema}
 use Rattle.own_model.specs.declared.schema.TableDef.{TableDef}
 use Rattle.own_base.specs.declared.number.TableNo.{TableNo}
-use Rattle.own_model.specs.Db.{AreRising, Db, IsOrdered, Row}
+use Rattle.own_model.specs.Db.{AreRising, Db, IsOrdered}
 use Rattle.own_model.specs.Stored.{row_named}
-use Rattle.page_model.specs.Changed.{with_changes}
+use Rattle.schema_model.proofs.Places.{at-place}
 use Rattle.state_model.specs.ChangeOf.{TellsRows}
 use Rattle.state_model.specs.MayBePut.{IsPutIn}
 use Rattle.state_model.specs.Net.{net}
@@ -20,21 +20,11 @@ use Rattle.state_model.proofs.PutLeads.{put_leads}
 use Rattle.state_model.proofs.PutRows.{put_in}
 use Rattle.run_model.specs.Run.{run_bound}
 use Rattle.run_model.proofs.SameSchema.{same_schema-bound}
-use Rattle.txn_space.specs.Changed.{changed_from}
-use Rattle.txn_space.proofs.OverLemmas.{table_there}
 use Rattle.write_eval.specs.declared.written.Written.{Written}
 use Rattle.write_eval.specs.Write.{IsThere, IsWrite, table_of}
 use Rattle.write_eval.specs.Writes.{Writes}
 use Rattle.txn_core.specs.Single.{NetTo}
 use Rattle.txn_core.proofs.OrderedWrites.{ordered-write}
-
--- no entry changes nothing
-pub changed_none : (number : ℕ) (tables : List TableDef) (rows : List (List Row)) → AreRising tables rows → changed_from number tables rows [] ≡ rows
-unfolding changed_from with_changes
-changed_none number [] [] rising = refl
-changed_none number [] (one ∷ rows) rising = absurd rising
-changed_none number (table ∷ tables) [] rising = absurd rising
-changed_none number (table ∷ tables) (one ∷ rows) rising = ap (λ rest. one ∷ rest) (changed_none (number + 1) tables rows rising.1)
 
 -- the table of a write is there
 write_there : (schema : Schema) (bound : Bound) → IsWrite schema bound → IsThere schema (table_of bound)
@@ -73,7 +63,7 @@ module _ (db : Db) (bound : Bound) (rising : AreRising db.schema.tables db.rows)
 
   pub writes_theirs : Each (IsPutIn db.schema.tables) written.changes
   writes_theirs =
-      let there = table_there db.schema.tables (table_of bound).0 (write_there db.schema bound write) in
+      let there = at-place db.schema.tables (table_of bound).0 (write_there db.schema bound write) in
       theirs there.0 there.1 written.changes writes.of writes.leads.each
 
   -- so their net is that of the write

@@ -1,13 +1,13 @@
 -- What the open transactions of a history changed represents their blocks.
 use Rattle.std.proofs.Common.{◌≡◌, ℕ, List, [], ◌∷◌, ◌++◌, length, ap, subst, sym, true, ◌∙◌}
 use Rattle.std.specs.Prelude.{Ok}
-use Rattle.std.specs.List.{AllByRecursion as Each}
 use Rattle.own_base.specs.declared.change.Change.{Change}
 use Rattle.own_model.specs.declared.bound.Bound.{Bound}
 use Rattle.own_model.specs.declared.history.Entry.{Entry as Event}
 use Rattle.own_model.specs.declared.reply.Reply.{Reply}
 use Rattle.own_model.specs.declared.schema.Schema.{Schema}
 use Rattle.own_model.specs.Db.{Db, IsOrdered}
+use Rattle.schema_model.proofs.Places.{all-append}
 use Rattle.query_model.specs.BoundStatement.{bound_statement}
 use Rattle.state_model.specs.Net.{net, net_from}
 use Rattle.state_model.specs.Put.{put}
@@ -32,10 +32,6 @@ use Rattle.txn_core.proofs.Elsewhere.{represents_there}
 use Rattle.txn_core.proofs.SoundBases.{base-sound}
 use Rattle.txn_core.proofs.RepresentsLemmas.{reply_ran, represents_ran}
 
-each_append : {X : Type 0} (P : X → Type 0) (xs ys : List X) → Each P xs → Each P ys → Each P (xs ++ ys)
-each_append P [] ys all more = more
-each_append P (x ∷ xs) ys all more = (all.0, each_append P xs ys all.1 more)
-
 module _ (base : Db) (history : History) (sound : Sound base) (entered : IsHistory history) where
   -- the flat database is sound
   pub sound_flat : Sound (flat base history)
@@ -54,7 +50,7 @@ module _ (base : Db) (history : History) (sound : Sound base) (entered : IsHisto
     -- on each sound database that is the same on the rows that the transaction holds
     pub represents_elsewhere : (other : Db) → Sound other → Agree (held (world base history) session) (flat base history) other → RepresentsBlock other block space
     represents_elsewhere other sound_other agree =
-        represents_there (length history) (flat base history) other block sound_flat.kept sound_other.kept (base-sound (flat base history) sound_flat) (base-sound other sound_other)
+        represents_there (length history) (flat base history) other block sound_flat.well_formed sound_other.well_formed (base-sound (flat base history) sound_flat) (base-sound other sound_other)
         own.stated (on_items other agree) space stands
 
     -- and with a statement more
@@ -75,7 +71,7 @@ module _ (base : Db) (history : History) (sound : Sound base) (entered : IsHisto
     rows_shown =
         subst (λ rows. AreRowsOf (flat base history).schema.tables rows) (sym stands.rows)
         (subst (λ (schema : Schema). AreRowsOf schema.tables (after_block (flat base history) block).rows) schema_left
-        (kept-block (length history) (flat base history) block sound_flat.kept own.stated).rows)
+        (kept-block (length history) (flat base history) block sound_flat.well_formed own.stated).rows)
 
     net_same : net (flat base history) (changed_db (flat base history) space) ≡ net (flat base history) (after_block (flat base history) block)
     unfolding net
@@ -84,7 +80,7 @@ module _ (base : Db) (history : History) (sound : Sound base) (entered : IsHisto
         ∙ ap (λ (schema : Schema). net_from 0 schema.tables (flat base history).rows (after_block (flat base history) block).rows) (sym schema_left)
 
     left_ordered : IsOrdered (after_block (flat base history) block)
-    left_ordered = (kept-block (length history) (flat base history) block sound_flat.kept own.stated).ordered
+    left_ordered = (kept-block (length history) (flat base history) block sound_flat.well_formed own.stated).ordered
 
     -- and their net is that of the block
     pub net_block : (changes : List Change)
@@ -92,7 +88,7 @@ module _ (base : Db) (history : History) (sound : Sound base) (entered : IsHisto
         → (changes ≡ net (flat base history) (after_block (flat base history) block)) × ((put (flat base history) changes).rows ≡ (after_block (flat base history) block).rows)
     net_block changes is =
         let all = is ∙ net_same in
-        (all, ap (λ changes. (put (flat base history) changes).rows) all ∙ net_put (flat base history) (after_block (flat base history) block) sound_flat.kept.ordered left_ordered schema_left)
+        (all, ap (λ changes. (put (flat base history) changes).rows) all ∙ net_put (flat base history) (after_block (flat base history) block) sound_flat.well_formed.ordered left_ordered schema_left)
 
 -- so behind each entry that leaves the transaction open
 pub represents_behind : (base : Db) (history : History) (event : Event) (session begun : ℕ) (block : Block) (space : List (List Entry)) → Sound base → IsHistory history → IsEntry event
@@ -100,5 +96,5 @@ pub represents_behind : (base : Db) (history : History) (event : Event) (session
     → RepresentsBlock (flat base history) block space → RepresentsBlock (flat base (history ++ event ∷ [])) block space
 represents_behind base history event session begun block space sound entered is_entry opened stays stands =
     represents_elsewhere base history sound entered session begun block opened space stands (flat base (history ++ event ∷ []))
-    (sound_flat base (history ++ event ∷ []) sound (each_append IsEntry history (event ∷ []) entered (is_entry, tt)))
+    (sound_flat base (history ++ event ∷ []) sound (all-append IsEntry history (event ∷ []) entered (is_entry, tt)))
     (held-history base history event sound entered is_entry session stays)

@@ -6,7 +6,7 @@ use Rattle.own_model.specs.declared.bound.Bound.TheVariants.{Select}
 use Rattle.own_model.specs.declared.reply.Reply.{Reply}
 use Rattle.own_model.specs.Db.{Db}
 use Rattle.txn_space.specs.declared.entry.Entry.{Entry}
-use Rattle.txn_core.specs.Kept.{is_select}
+use Rattle.txn_core.specs.SessionStates.{is_select}
 use Rattle.txn_core.specs.Runs.{HasRun}
 
 module _ (db : Db) (before after : List (List Entry)) where

@@ -1,74 +1,46 @@
 -- What an open transaction has changed represents its block, and for it with one statement more.
 use Rattle.std.proofs.Common.{◌≡◌, ◌∙◌, ℕ, List, [], ◌∷◌, ◌++◌, Bool, true, false, Some, ap, inl, inr, refl, sym}
-use Rattle.std.specs.Prelude.{◌||◌, Ok, Err}
+use Rattle.std.specs.Prelude.{Ok, Err}
 use Rattle.std.specs.List.{list_any}
-use Rattle.std.proofs.lemmas.Bool.{or_cases}
+use Rattle.std.proofs.lemmas.Bool.{or_left, or_right}
+use Rattle.std.proofs.lemmas.List.Folds.{list_any-append}
 use Rattle.own_base.specs.declared.row_name.RowName.{RowName}
 use Rattle.own_model.specs.declared.bound.Bound.{Bound}
 use Rattle.own_model.specs.declared.footprint.FootItem.{FootItem}
 use Rattle.own_model.specs.declared.refusal.Refusal.{Refusal}
 use Rattle.own_model.specs.declared.reply.Reply.{Reply}
-use Rattle.own_model.specs.declared.schema.Schema.{Schema}
 use Rattle.own_model.specs.declared.statement.Statement.{Statement}
-use Rattle.own_model.specs.declared.statement.Statement.TheVariants.{Delete, Insert, Select, Update}
 use Rattle.own_model.specs.Db.{Db}
 use Rattle.page_model.specs.Found.{found}
 use Rattle.query_model.specs.BoundStatement.{bound_statement}
 use Rattle.query_model.specs.Footprints.{footprint_of, item}
 use Rattle.run_model.specs.Agree.{overlaps}
 use Rattle.run_model.specs.Items.{TakesRows, items_of, items_of_all}
-use Rattle.run_model.specs.Run.{Outcome, run, run_bound}
+use Rattle.run_model.specs.Run.{Outcome, run, run_bound, run_unless}
+use Rattle.run_model.proofs.StatementFootprints.{items_bound, run_bound_of}
 use Rattle.state_model.specs.Sound.{IsWellFormed}
 use Rattle.txn_space.specs.declared.entry.Entry.{Entry}
 use Rattle.txn_space.proofs.SoundLemmas.{none_sound}
 use Rattle.history_model.specs.World.{Block, Stated, after_all, after_block, statements_of}
 use Rattle.history_model.proofs.BlockLemmas.{AreOfBlock, after-push, creates-block, items-push, schema-block}
 use Rattle.txn_space.specs.Changed.{changed_db}
+use Rattle.txn_space.proofs.OverLemmas.{changed_none}
 use Rattle.txn_core.specs.Runs.{HasRun, is_entered, is_written}
 use Rattle.txn_core.specs.RepresentsBlock.{RepresentsBlock}
-use Rattle.txn_core.proofs.NetTo.{changed_none}
 
 -- what passes in one part of a list, passes in it
 any_front : {X : Type 0} (p : X → Bool) (xs ys : List X) → list_any p xs ≡ true → list_any p (xs ++ ys) ≡ true
-any_front p [] ys some = let never : false ≡ true = some in absurd (cc)
-any_front p (x ∷ xs) ys some = elim (or_cases (p x) (list_any p xs) some) [
-  | inl here ↦ rw here refl
-  | inr later ↦ rw (any_front p xs ys later) (or_true (p x))
-]
-  where
-    or_true : (b : Bool) → (b || true) ≡ true
-    or_true true = refl
-    or_true false = refl
+any_front p xs ys some = list_any-append p xs ys ∙ or_left (list_any p xs) (list_any p ys) some
 
 any_back : {X : Type 0} (p : X → Bool) (xs ys : List X) → list_any p ys ≡ true → list_any p (xs ++ ys) ≡ true
-any_back p [] ys some = some
-any_back p (x ∷ xs) ys some = rw (any_back p xs ys some) (or_true (p x))
-  where
-    or_true : (b : Bool) → (b || true) ≡ true
-    or_true true = refl
-    or_true false = refl
+any_back p xs ys some = list_any-append p xs ys ∙ or_right (list_any p xs) (list_any p ys) some
 
--- one of the four does what it means
+-- one of the four does what it means, and nothing where binding refuses it
 run_meant : (db : Db) (asked : Statement) (bound : Bound) → TakesRows asked → bound_statement db.schema asked ≡ Ok bound → run db asked ≡ run_bound db bound
-unfolding run
-run_meant db (Select select) bound takes is = rw is refl
-run_meant db (Insert table columns rows) bound takes is = rw is refl
-run_meant db (Update table sets cond) bound takes is = rw is refl
-run_meant db (Delete table cond) bound takes is = rw is refl
-run_meant db asked bound takes is = absurd takes
+run_meant db asked bound takes is = run_bound_of db asked takes ∙ ap (run_unless db) is
 
--- and nothing where binding refuses it
 run_unbound : (db : Db) (asked : Statement) (why : Refusal) → TakesRows asked → bound_statement db.schema asked ≡ Err why → (run db asked).db ≡ db
-unfolding run
-run_unbound db (Select select) why takes is = rw is refl
-run_unbound db (Insert table columns rows) why takes is = rw is refl
-run_unbound db (Update table sets cond) why takes is = rw is refl
-run_unbound db (Delete table cond) why takes is = rw is refl
-run_unbound db asked why takes is = absurd takes
-
-items_meant : (schema : Schema) (asked : Statement) (bound : Bound) → bound_statement schema asked ≡ Ok bound → items_of schema asked ≡ footprint_of schema bound
-unfolding items_of
-items_meant schema asked bound is = rw is refl
+run_unbound db asked why takes is = ap (λ (outcome : Outcome). outcome.db) (run_bound_of db asked takes ∙ ap (run_unless db) is)
 
 -- One statement more of an open transaction
 module _ (places : ℕ) (flat : Db) (block : Block) (space : List (List Entry)) (are : AreOfBlock places block) (stands : RepresentsBlock flat block space) (last : Stated) (takes : TakesRows last.statement) where
@@ -108,7 +80,7 @@ module _ (places : ℕ) (flat : Db) (block : Block) (space : List (List Entry)) 
     now_written name meets =
         ap (λ items. is_written items name) (items-push flat.schema block last)
         ∙ any_back (λ own. overlaps own (item name.table (Some name.key) false)) items (items_of flat.schema last.statement)
-        (ap (λ items. is_written items name) (items_meant flat.schema last.statement bound is) ∙ meets)
+        (ap (λ items. is_written items name) (items_bound flat.schema last.statement bound is) ∙ meets)
 
     -- and what was changed represents the block with it
     pub represents_ran : RepresentsBlock flat (block ++ last ∷ []) after

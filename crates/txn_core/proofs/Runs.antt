@@ -33,6 +33,8 @@ use Rattle.state_model.specs.Rows.{AreRowsOf}
 use Rattle.state_model.specs.Same.{is_same_state}
 use Rattle.state_model.proofs.NetLeads.{net_may, net_put}
 use Rattle.state_model.proofs.PutRows.{equal_is}
+use Rattle.state_model.proofs.SameLemmas.{state_same}
+use Rattle.state_model.proofs.StoredRows.{all_stored}
 use Rattle.query_eval.specs.Tables.{AreTables}
 use Rattle.run_model.specs.Agree.{AgreeOn, overlaps}
 use Rattle.run_model.specs.Run.{run_bound}
@@ -49,11 +51,11 @@ use Rattle.txn_space.specs.Sound.{IsBase, IsSpaceOf}
 use Rattle.txn_space.proofs.OverLemmas.{changed_rise, rows_of_table}
 use Rattle.write_eval.specs.Write.{IsWrite}
 use Rattle.write_eval.proofs.Kept.{each_passing}
+use Rattle.write_eval.proofs.Replacements.{keyless_sets}
 use Rattle.txn_core.specs.Runs.{HasRun, IsRowStatement, IsSelect, IsStore, is_entered, is_written}
 use Rattle.txn_core.specs.Single.{NetTo}
-use Rattle.txn_core.proofs.NetNames.{IsOfOther, net_others, same_state}
-use Rattle.txn_core.proofs.OrderedWrites.{keyless_sets, ordered-write}
-use Rattle.txn_core.proofs.StoredRows.{all_stored}
+use Rattle.txn_core.proofs.NetNames.{IsOfOther, net_others}
+use Rattle.txn_core.proofs.OrderedWrites.{ordered-write}
 
 -- rows that transactions may stand on, as one of them changed them
 module _ (db : Db) (space : List (List Entry)) (store : IsStore db) (sound : IsSpaceOf db.schema.tables space) where
@@ -123,7 +125,7 @@ module _ (seen left : Db) (items : List FootItem) (before after : List (List Ent
       let one : change.name ≡ name = one_name change.name name (and_from (change.name.table.0 == name.table.0) (is_equal (key_cmp change.name.key name.key)) has.1.1 tied) in
       let agree : row_of seen name ≡ row_of left name = still (item name.table (Some name.key) false) none in
       let differ : is_same_state (row_of seen name) (row_of left name) ≡ false = subst (λ name. is_same_state (row_of seen name) (row_of left name) ≡ false) one has.1.0 in
-      let never : true ≡ false = sym (same_state (row_of left name)) ∙ (ap (λ row. is_same_state row (row_of left name)) (sym agree) ∙ differ) in
+      let never : true ≡ false = sym (state_same (row_of left name)) ∙ (ap (λ row. is_same_state row (row_of left name)) (sym agree) ∙ differ) in
       absurd (cc)
 
   by : (change : Option Change) → find (is_of key_cmp changed_key name.key) own ≡ change

@@ -14,15 +14,15 @@ pub after_error : {A E : Type 0} (result : Result A E) (P : Type 0) → P → On
 after_error (Ok a) P holds = tt
 after_error (Err e) P holds = holds
 
--- where nothing changed
-pub all_same : (before : Transactions) → AreSame before before
-all_same before = record { kept = λ session. refl; held = λ session. refl }
+-- what isn't touched is the same
+pub none_moved : (before : Transactions) → AreSame before before
+none_moved before = record { states = λ session. refl; held = λ session. refl }
 
 -- one that is refused with the conflict
 pub stated_conflict : (holder : Option Holding) (db : Db) (bound : Bound) (session : ℕ) (before : Transactions) (why : Refusal) → Some why ≡ option_map (conflict_of db.schema) holder
     → Stated holder db bound session before before (Refused why)
 stated_conflict None db bound session before why is = absurd (cc)
-stated_conflict (Some holding) db bound session before why is = let same : why ≡ conflict_of db.schema holding = cc in (ap Refused same, all_same before)
+stated_conflict (Some holding) db bound session before why is = let same : why ≡ conflict_of db.schema holding = cc in (ap Refused same, none_moved before)
 
 -- and one in whose way nobody stands
 pub stated_free : (holder : Option Holding) (db : Db) (bound : Bound) (session : ℕ) (before after : Transactions) (reply : Reply) (conflict : Option Refusal)

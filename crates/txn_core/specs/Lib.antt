@@ -1,6 +1,5 @@
-pub mod Kept
+pub mod SessionStates
 pub mod Runs
 pub mod Single
 pub mod RepresentsBlock
 pub mod Transactions
-pub mod Views

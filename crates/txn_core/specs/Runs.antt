@@ -20,7 +20,7 @@ use Rattle.txn_space.specs.Changed.{changed_db, changed_rows}
 use Rattle.txn_space.specs.Entries.{entries_at, entry_key}
 use Rattle.txn_space.specs.Sound.{IsSpaceOf}
 use Rattle.write_eval.specs.Write.{IsWrite}
-use Rattle.txn_core.specs.Views.{AreViewsThere}
+use Rattle.query_eval.specs.Views.{AreViewsThere}
 
 -- rows that transactions may stand on: by rising key, few enough for those of a transaction beside them, and views of tables
 -- that are there

@@ -2,16 +2,14 @@
 #![tactic(auto)]
 
 mod conflict;
-mod kept;
 pub mod laws;
-mod reading;
 mod running;
+mod session_state;
 mod sessions;
 mod single_write;
 mod txn;
 mod txns;
 
-pub use kept::Kept;
-pub use reading::select_reply;
+pub use session_state::SessionState;
 pub use txn::Txn;
 pub use txns::Txns;

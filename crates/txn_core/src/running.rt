@@ -11,10 +11,10 @@ ghost use Rattle.write_eval.specs.Write.{IsWrite};
 ghost use Rattle.txn_core.specs.Runs.{HasRun, IsRowStatement, IsStore};
 ghost use Rattle.txn_core.specs.Single.{NetTo};
 
-use crate::reading::select_reply;
 use crate::single_write::single;
 use own_base::{Change, List};
 use own_model::{Bound, BoundSelect, Refusal, Reply, StoreView};
+use query_eval::select_reply;
 use std::alloc::{AllocError, Global};
 use std::mem::drop;
 use txn_space::Space;

@@ -5,7 +5,7 @@ ghost use Rattle.state_model.specs.Net.{net};
 ghost use Rattle.state_model.specs.Rows.{AreRowsOf};
 ghost use Rattle.txn_space.specs.Changed.{changed_db};
 ghost use Rattle.txn_space.specs.Sound.{IsBase, IsSpaceOf};
-ghost use Rattle.txn_core.specs.Kept.{IsQuiet, is_select};
+ghost use Rattle.txn_core.specs.SessionStates.{IsQuiet, is_select};
 ghost use Rattle.txn_core.specs.Runs.{HasRun, IsRowStatement, IsStore};
 
 use crate::running::run_in;

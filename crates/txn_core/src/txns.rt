@@ -12,19 +12,19 @@ ghost use Rattle.run_model.specs.Run.{run_bound};
 ghost use Rattle.history_model.specs.Held.{others};
 ghost use Rattle.history_model.specs.History.{lie_on};
 ghost use Rattle.history_model.specs.Reply.{is_refusal};
-ghost use Rattle.row_locks.specs.Kept.{kept_by as held_by};
+ghost use Rattle.row_locks.specs.SessionItems.{items_by as held_by};
 ghost use Rattle.row_locks.specs.RepresentsItems.{AreHeld, RepresentsItems, holder_among};
 ghost use Rattle.txn_space.specs.Changed.{changed_db};
 ghost use Rattle.txn_space.specs.Sound.{IsBase, IsSpaceOf};
 ghost use Rattle.write_eval.specs.Write.{IsWrite};
-ghost use Rattle.txn_core.specs.declared.kept.Kept.TheVariants.{Nothing, Open};
-ghost use Rattle.txn_core.specs.Kept.{doom_of, is_open, kept_by, told};
+ghost use Rattle.txn_core.specs.declared.session_state.SessionState.TheVariants.{Nothing, Open};
+ghost use Rattle.txn_core.specs.SessionStates.{doom_of, is_open, state_by, told};
 ghost use Rattle.txn_core.specs.Runs.{IsRowStatement, IsStore};
 ghost use Rattle.txn_core.specs.Single.{NetTo};
-ghost use Rattle.txn_core.specs.Transactions.{AreItemsOf, AreOthersSame, AreSame, IsQuietKept, IsSameOf, IsSingleRefusal, IsDoomedIf, Stated, conflict_of, space_of, wrote_of};
+ghost use Rattle.txn_core.specs.Transactions.{AreItemsOf, AreOthersSame, AreSame, IsQuietState, IsSameOf, IsSingleRefusal, IsDoomedIf, Stated, conflict_of, space_of, wrote_of};
 
 use crate::conflict::conflict;
-use crate::kept::Kept;
+use crate::session_state::SessionState;
 use crate::sessions::Sessions;
 use crate::single_write::single;
 use own_base::{Change, List, Place, RowName, SessionNo};
@@ -46,13 +46,13 @@ impl Model for Txns {
 
     ghost Value = { Transactions };
 
-    ghost view = { λ txns. record { kept = txns.sessions; held = txns.locks } };
+    ghost view = { λ txns. record { states = txns.sessions; held = txns.locks } };
 }
 
 impl Txns {
     /// No session is in a transaction, and none holds anything.
     pub fn new(alloc: Global) -> Result<Txns, AllocError>
-        ensures outside { IfOk result (λ txns. (session : ℕ) → kept_by txns.kept session ≡ Nothing) }
+        ensures outside { IfOk result (λ txns. (session : ℕ) → state_by txns.states session ≡ Nothing) }
         ensures free { IfOk result (λ txns. (session : ℕ) → held_by txns.held session ≡ []) }
     {
         let sessions = Sessions::new(alloc)?;
@@ -65,14 +65,14 @@ impl Txns {
     /// Whether a transaction of a session is open. Takes no memory.
     pub fn is_open(&self, session: SessionNo) -> bool
         requires { session.0 ≤ COUNT }
-        ensures { result ≡ is_open (kept_by self.now.kept session.0) }
+        ensures { result ≡ is_open (state_by self.now.states session.0) }
     {
         self.sessions.is_open(session)
     }
 
     /// The lowest other session with an open transaction. Takes no memory.
     pub fn lowest_other(&self, session: SessionNo) -> Option<SessionNo>
-        ensures { option_map (λ other. other.0) result ≡ find (λ other. is_open (kept_by self.now.kept other)) (others session.0) }
+        ensures { option_map (λ other. other.0) result ≡ find (λ other. is_open (state_by self.now.states other)) (others session.0) }
     {
         self.sessions.lowest_other(session)
     }
@@ -80,8 +80,8 @@ impl Txns {
     /// Opens a transaction of a session that is outside one. Takes no memory.
     pub fn begin(&mut self, alloc: Global, session: SessionNo)
         requires session { session.0 ≤ COUNT }
-        requires outside { kept_by self.old.kept session.0 ≡ Nothing }
-        ensures begun { kept_by self.new.kept session.0 ≡ Open (record { space = []; wrote = false }) }
+        requires outside { state_by self.old.states session.0 ≡ Nothing }
+        ensures begun { state_by self.new.states session.0 ≡ Open (record { space = []; wrote = false }) }
         ensures held { held_by self.new.held session.0 ≡ held_by self.old.held session.0 }
         ensures others { AreOthersSame session.0 self.old self.new }
     {
@@ -116,11 +116,11 @@ impl Txns {
         bound: &Bound,
     ) -> Result<Reply, AllocError>
         requires session { session.0 ≤ COUNT }
-        requires open { is_open (kept_by self.old.kept session.0) ≡ true }
+        requires open { is_open (state_by self.old.states session.0) ≡ true }
         requires store { IsStore (V.db version.now) }
-        requires space { IsSpaceOf (V.db version.now).schema.tables (space_of (kept_by self.old.kept session.0)) }
-        requires rows { AreRowsOf (V.db version.now).schema.tables (changed_db (V.db version.now) (space_of (kept_by self.old.kept session.0))).rows }
-        requires quiet { IsQuietKept (kept_by self.old.kept session.0) }
+        requires space { IsSpaceOf (V.db version.now).schema.tables (space_of (state_by self.old.states session.0)) }
+        requires rows { AreRowsOf (V.db version.now).schema.tables (changed_db (V.db version.now) (space_of (state_by self.old.states session.0))).rows }
+        requires quiet { IsQuietState (state_by self.old.states session.0) }
         requires bound { IsRowStatement (V.db version.now).schema bound.now }
         ensures stated { IfOk result (λ reply. Stated (holder_among (held_by self.old.held) session.0 (footprint_of (V.db version.now).schema bound.now)) (V.db version.now) bound.now session.0 self.old self.new reply) }
         ensures told { IfOk result (λ reply. reply ≢ Refused Memory) }
@@ -136,7 +136,7 @@ impl Txns {
             .txn(session)
             .run_in_copy(alloc, version, bound)?;
         self.locks.grant(alloc, session, footprint)?;
-        let _ = self.sessions.put(session, Kept::Open(txn));
+        let _ = self.sessions.put(session, SessionState::Open(txn));
         Ok(reply)
     }
 
@@ -151,11 +151,11 @@ impl Txns {
         bound: &Bound,
     ) -> Result<Reply, Refusal>
         requires session { session.0 ≤ COUNT }
-        requires open { is_open (kept_by self.old.kept session.0) ≡ true }
+        requires open { is_open (state_by self.old.states session.0) ≡ true }
         requires store { IsStore (V.db version.now) }
-        requires space { IsSpaceOf (V.db version.now).schema.tables (space_of (kept_by self.old.kept session.0)) }
-        requires rows { AreRowsOf (V.db version.now).schema.tables (changed_db (V.db version.now) (space_of (kept_by self.old.kept session.0))).rows }
-        requires quiet { IsQuietKept (kept_by self.old.kept session.0) }
+        requires space { IsSpaceOf (V.db version.now).schema.tables (space_of (state_by self.old.states session.0)) }
+        requires rows { AreRowsOf (V.db version.now).schema.tables (changed_db (V.db version.now) (space_of (state_by self.old.states session.0))).rows }
+        requires quiet { IsQuietState (state_by self.old.states session.0) }
         requires bound { IsRowStatement (V.db version.now).schema bound.now }
         ensures ok { IfOk result (λ reply. Stated (holder_among (held_by self.old.held) session.0 (footprint_of (V.db version.now).schema bound.now)) (V.db version.now) bound.now session.0 self.old self.new reply) }
         ensures accepted { IfOk result (λ reply. is_refusal reply ≡ false) }
@@ -216,13 +216,13 @@ impl Txns {
         session: SessionNo,
     ) -> Result<List<Change>, AllocError>
         requires session { session.0 ≤ COUNT }
-        requires open { is_open (kept_by self.now.kept session.0) ≡ true }
+        requires open { is_open (state_by self.now.states session.0) ≡ true }
         requires base { IsBase (V.db version.now).schema.tables (V.db version.now).rows }
-        requires space { IsSpaceOf (V.db version.now).schema.tables (space_of (kept_by self.now.kept session.0)) }
-        requires quiet { IsQuietKept (kept_by self.now.kept session.0) }
-        ensures net { IfOk result (λ changes. changes ≡ net (V.db version.now) (changed_db (V.db version.now) (space_of (kept_by self.now.kept session.0)))) }
-        ensures spared { wrote_of (kept_by self.now.kept session.0) ≡ false → IfOk result (λ changes. changes ≡ []) }
-        ensures given { OnErr result (wrote_of (kept_by self.now.kept session.0) ≡ true) }
+        requires space { IsSpaceOf (V.db version.now).schema.tables (space_of (state_by self.now.states session.0)) }
+        requires quiet { IsQuietState (state_by self.now.states session.0) }
+        ensures net { IfOk result (λ changes. changes ≡ net (V.db version.now) (changed_db (V.db version.now) (space_of (state_by self.now.states session.0)))) }
+        ensures spared { wrote_of (state_by self.now.states session.0) ≡ false → IfOk result (λ changes. changes ≡ []) }
+        ensures given { OnErr result (wrote_of (state_by self.now.states session.0) ≡ true) }
     {
         self.sessions.txn(session).changes(alloc, version)
     }
@@ -230,7 +230,7 @@ impl Txns {
     /// Ends the transaction of a session: what it changed is forgotten, and it holds nothing. Takes no memory.
     pub fn finish(&mut self, session: SessionNo)
         requires { session.0 ≤ COUNT }
-        ensures outside { kept_by self.new.kept session.0 ≡ Nothing }
+        ensures outside { state_by self.new.states session.0 ≡ Nothing }
         ensures free { held_by self.new.held session.0 ≡ [] }
         ensures others { AreOthersSame session.0 self.old self.new }
     {
@@ -265,8 +265,8 @@ impl Txns {
     /// Gives the place of a session's doom, once. Takes no memory.
     pub fn tell_doom(&mut self, session: SessionNo) -> Option<Place>
         requires { session.0 ≤ COUNT }
-        ensures told { result ≡ doom_of (kept_by self.old.kept session.0) }
-        ensures once { kept_by self.new.kept session.0 ≡ told (kept_by self.old.kept session.0) }
+        ensures told { result ≡ doom_of (state_by self.old.states session.0) }
+        ensures once { state_by self.new.states session.0 ≡ told (state_by self.old.states session.0) }
         ensures held { held_by self.new.held session.0 ≡ held_by self.old.held session.0 }
         ensures others { AreOthersSame session.0 self.old self.new }
     {

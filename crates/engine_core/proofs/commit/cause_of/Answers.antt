@@ -5,7 +5,7 @@ use Rattle.engine_core.proofs.commit.cause_of.Goals as goal
 pub too_big-requires : goal.too_big-requires
 too_big-requires c =
     let judged = rw c.in-Weighs.is at c.requires.judged in
-    sound-net c.args.version.now c.args.next.now c.args.changes.now c.requires.sound c.requires.kept judged.0 c.requires.schema c.requires.net
+    sound-net c.args.version.now c.args.next.now c.args.changes.now c.requires.sound c.requires.well_formed judged.0 c.requires.schema c.requires.net
 
 pub returns-in-Fault : goal.returns-in-Fault
 returns-in-Fault c =

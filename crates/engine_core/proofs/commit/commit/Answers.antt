@@ -23,7 +23,7 @@ returns-then-is_empty-clause-tells c =
 -- a net may be put
 pub prepare-requires : goal.prepare-requires
 prepare-requires c =
-    may-net c.args.version.now c.args.changes.now c.requires.sound.kept.ordered c.requires.kept.ordered c.requires.net
+    may-net c.args.version.now c.args.changes.now c.requires.sound.well_formed.ordered c.requires.well_formed.ordered c.requires.net
 
 -- what refuses the next version refuses the changes that lead to it
 pub returns-in-Ok-clause-tells : goal.returns-in-Ok-clause-tells

@@ -8,10 +8,10 @@ pub judge_unlinked-requires-clause-schema : goal.judge_unlinked-requires-clause-
 judge_unlinked-requires-clause-schema c = ap (λ (db : Db). db.schema) (c.version.ensures ∙ c.requires.next)
 
 pub judge_unlinked-requires-clause-limits : goal.judge_unlinked-requires-clause-limits
-judge_unlinked-requires-clause-limits c = within-created c.args.version.now c.requires.sound.kept.created
+judge_unlinked-requires-clause-limits c = within-created c.args.version.now c.requires.sound.well_formed.created
 
 pub judge_unlinked-requires-clause-owner : goal.judge_unlinked-requires-clause-owner
-judge_unlinked-requires-clause-owner c = owner_schema-created c.args.version.now c.requires.sound.kept.created
+judge_unlinked-requires-clause-owner c = owner_schema-created c.args.version.now c.requires.sound.well_formed.created
 
 pub judge_unlinked-requires-clause-faultless : goal.judge_unlinked-requires-clause-faultless
 judge_unlinked-requires-clause-faultless c = c.requires.sound.faultless

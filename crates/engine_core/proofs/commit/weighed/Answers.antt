@@ -6,10 +6,10 @@ use Rattle.state_model.proofs.CreatedSchema.{owner_schema-created, within-create
 use Rattle.engine_core.proofs.commit.weighed.Goals as goal
 
 pub weigh-requires-clause-limits : goal.weigh-requires-clause-limits
-weigh-requires-clause-limits c = rw c.version-after.ensures (within-created c.args.next.now c.requires.kept.created)
+weigh-requires-clause-limits c = rw c.version-after.ensures (within-created c.args.next.now c.requires.well_formed.created)
 
 pub weigh-requires-clause-owner : goal.weigh-requires-clause-owner
-weigh-requires-clause-owner c = rw c.version-after.ensures (owner_schema-created c.args.next.now c.requires.kept.created)
+weigh-requires-clause-owner c = rw c.version-after.ensures (owner_schema-created c.args.next.now c.requires.well_formed.created)
 
 pub weigh-requires-clause-faultless : goal.weigh-requires-clause-faultless
 weigh-requires-clause-faultless c = ap fault c.version-after.ensures ∙ c.requires.faultless

@@ -11,7 +11,7 @@ use Rattle.engine_core.proofs.JudgedCreates.{judged-view}
 use Rattle.engine_core.proofs.creating.create_view.Goals as goal
 
 pub bind_view-requires-clause-views : goal.bind_view-requires-clause-views
-bind_view-requires-clause-views c = rw (c.schema.ensures.same, c.catalog.ensures.schema) (views_within-created c.args.version.now c.requires.sound.kept.created)
+bind_view-requires-clause-views c = rw (c.schema.ensures.same, c.catalog.ensures.schema) (views_within-created c.args.version.now c.requires.sound.well_formed.created)
 
 pub bind_view-requires-clause-items : goal.bind_view-requires-clause-items
 bind_view-requires-clause-items c = view_within c.args.create.now (subst (IsWritten STATEMENT_BYTES) c.requires.of c.requires.written)

@@ -5,7 +5,7 @@ use Rattle.engine_core.proofs.inside.serve_commit.Goals as goal
 
 -- the rows are in key order
 pub invariant_of-shown : goal.invariant_of-shown
-invariant_of-shown c = record { ordered = (sound-event c.args.history.now c.args.entry.now c.args.state.now c.requires.event).kept.ordered }
+invariant_of-shown c = record { ordered = (sound-event c.args.history.now c.args.entry.now c.args.state.now c.requires.event).well_formed.ordered }
 
 pub changes-requires-clause-base : goal.changes-requires-clause-base
 changes-requires-clause-base c = base-event c.args.history.now c.args.entry.now c.args.state.now c.requires.event
@@ -18,8 +18,8 @@ commit-answer-requires-clause-net c =
     rw c.items.ensures
     (net-committed c.args.history.now c.args.entry.now c.args.state.now c.requires.event c.requires.open c.requires.asks c.in_ok-changes.changes c.in_ok-changes.ensures.net)
 
-pub commit-answer-requires-clause-kept : goal.commit-answer-requires-clause-kept
-commit-answer-requires-clause-kept c =
+pub commit-answer-requires-clause-well_formed : goal.commit-answer-requires-clause-well_formed
+commit-answer-requires-clause-well_formed c =
     rw c.items.ensures
     (kept-committed c.args.history.now c.args.entry.now c.args.state.now c.requires.event c.requires.open c.requires.asks c.in_ok-changes.changes c.in_ok-changes.ensures.net)
 

@@ -1,7 +1,7 @@
 use Rattle.std.proofs.Common.{◌∙◌, ap, refl, sym}
 use Rattle.own_model.specs.declared.request.Request.TheVariants.{Run}
 use Rattle.own_model.specs.declared.statement.Statement.{Statement}
-use Rattle.engine_core.proofs.CalmEvents.{none-moved}
+use Rattle.txn_core.proofs.Statements.{none_moved}
 use Rattle.engine_core.proofs.OutsideReplies.{takes-place}
 use Rattle.engine_core.proofs.PromptEvents.{serves-inside, serves-rollback}
 use Rattle.engine_core.proofs.inside.serve_inside.Goals as goal
@@ -9,7 +9,7 @@ use Rattle.engine_core.proofs.inside.serve_inside.Goals as goal
 pub returns-then-not-has_place_inside : goal.returns-then-not-has_place_inside
 returns-then-not-has_place_inside c =
     serves-inside c.args.history.now c.args.entry.now c.args.state.now c.args.state.now c.requires.event refl refl c.requires.open c.args.statement.now c.requires.asks
-    (sym c.if-not-has_place_inside.ensures) (none-moved c.args.state.now.txns)
+    (sym c.if-not-has_place_inside.ensures) (none_moved c.args.state.now.txns)
 
 pub returns-in-Rollback : goal.returns-in-Rollback
 returns-in-Rollback c =

@@ -1,8 +1,9 @@
 use Rattle.std.proofs.Common.{refl}
 use Rattle.state_model.proofs.CreatedSchema.{views_within-created}
 use Rattle.readable_model.proofs.Within.{statement_within}
+use Rattle.txn_core.proofs.Statements.{none_moved}
 use Rattle.engine_core.proofs.BoundStatements.{row-bound}
-use Rattle.engine_core.proofs.CalmEvents.{none-moved, stands-kept}
+use Rattle.engine_core.proofs.CalmEvents.{stands-kept}
 use Rattle.engine_core.proofs.OpenStates.{rows-event, serves-either, sound-event, store-event, written-event}
 use Rattle.engine_core.proofs.StatedEvents.{serves-stated, serves-unbound}
 use Rattle.engine_core.proofs.UnmadeEvents.{unmade-within}
@@ -11,7 +12,7 @@ use Rattle.engine_core.proofs.inside.serve_stated.Goals as goal
 pub bind-requires-clause-views : goal.bind-requires-clause-views
 bind-requires-clause-views c =
     let sound = sound-event c.args.history.now c.args.entry.now c.args.state.now c.requires.event in
-    rw (c.schema.ensures.same, c.catalog.ensures.schema) (views_within-created c.args.state.now.version sound.kept.created)
+    rw (c.schema.ensures.same, c.catalog.ensures.schema) (views_within-created c.args.state.now.version sound.well_formed.created)
 
 pub bind-requires-clause-statement : goal.bind-requires-clause-statement
 bind-requires-clause-statement c =
@@ -29,7 +30,7 @@ statement-replied-requires-clause-bound c =
 
 -- the rows are in key order
 pub invariant_of-shown : goal.invariant_of-shown
-invariant_of-shown c = record { ordered = (sound-event c.args.history.now c.args.entry.now c.args.state.now c.requires.event).kept.ordered }
+invariant_of-shown c = record { ordered = (sound-event c.args.history.now c.args.entry.now c.args.state.now c.requires.event).well_formed.ordered }
 
 -- it ran, or met a conflict
 pub returns-in-Ok-replied : goal.returns-in-Ok-replied
@@ -52,7 +53,7 @@ pub returns-in-Err : goal.returns-in-Err
 returns-in-Err c =
     serves-either c.args.history.now c.args.entry.now c.args.state.now c.in-Err.why c.refused-in-Err.result c.refused-in-Err.ensures.told c.refused-in-Err.ensures.memory
     (λ other. serves-unbound c.args.history.now c.args.entry.now c.args.state.now c.args.state.now c.requires.event refl refl c.requires.open c.args.statement.now c.requires.asks c.requires.takes c.in-Err.why
-    (rw (c.schema.ensures.same, c.catalog.ensures.schema) at (c.in-Err.ensures.err other)) (none-moved c.args.state.now.txns))
+    (rw (c.schema.ensures.same, c.catalog.ensures.schema) at (c.in-Err.ensures.err other)) (none_moved c.args.state.now.txns))
     (λ memory e. (
       c.requires.event.stands,
       unmade-within c.args.history.now c.args.entry.now c.args.state.now c.requires.event c.requires.open c.args.statement.now c.requires.asks c.requires.takes,

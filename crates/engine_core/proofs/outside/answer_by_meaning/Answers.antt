@@ -13,7 +13,7 @@ use Rattle.engine_core.proofs.OutsideReplies.{reply-meant_in, reply-refused_in}
 use Rattle.engine_core.proofs.outside.answer_by_meaning.Goals as goal
 
 pub bind-requires-clause-views : goal.bind-requires-clause-views
-bind-requires-clause-views c = rw (c.schema.ensures.same, c.catalog.ensures.schema) (views_within-created c.args.asker.now.state.now.version c.requires.sound.kept.created)
+bind-requires-clause-views c = rw (c.schema.ensures.same, c.catalog.ensures.schema) (views_within-created c.args.asker.now.state.now.version c.requires.sound.well_formed.created)
 
 pub bind-requires-clause-statement : goal.bind-requires-clause-statement
 bind-requires-clause-statement c = statement_within c.args.statement.now c.requires.written
@@ -22,12 +22,12 @@ pub answer_meant-answer-requires-clause-meant : goal.answer_meant-answer-require
 answer_meant-answer-requires-clause-meant c =
     meant-bound c.args.asker.now.state.now.version.schema c.args.statement.now c.in-Ok.bound c.requires.bound (rw (c.schema.ensures.same, c.catalog.ensures.schema) at c.in-Ok.ensures.ok)
 
-pub answer_meant-answer-requires-clause-kept : goal.answer_meant-answer-requires-clause-kept
-answer_meant-answer-requires-clause-kept c =
+pub answer_meant-answer-requires-clause-well_formed : goal.answer_meant-answer-requires-clause-well_formed
+answer_meant-answer-requires-clause-well_formed c =
     let db = c.args.asker.now.state.now.version in
     let is = rw (c.schema.ensures.same, c.catalog.ensures.schema) at c.in-Ok.ensures.ok in
     subst (λ (outcome : Outcome). IsWellFormed outcome.db) (run-bound db c.args.statement.now c.in-Ok.bound c.requires.bound is)
-    (kept-run db c.requires.sound.kept c.args.statement.now c.requires.written)
+    (kept-run db c.requires.sound.well_formed c.args.statement.now c.requires.written)
 
 -- it is answered and runs as what it means
 pub returns-in-Ok-clause-tells : goal.returns-in-Ok-clause-tells

@@ -1,7 +1,7 @@
 use Rattle.std.proofs.Common.{◌∙◌, ap, inl, inr, refl}
 use Rattle.own_model.specs.declared.request.Request.TheVariants.{Run}
 use Rattle.own_model.specs.declared.statement.Statement.{Statement}
-use Rattle.engine_core.proofs.CalmEvents.{none-moved}
+use Rattle.txn_core.proofs.Statements.{none_moved}
 use Rattle.engine_core.proofs.OpenStates.{sound-event, written-event}
 use Rattle.engine_core.proofs.OutsideReplies.{runs-itself}
 use Rattle.engine_core.proofs.PromptEvents.{serves-begin, serves-commit_outside, serves-rollback_outside}
@@ -31,7 +31,7 @@ returns-in_ok-answer-in_default c =
 pub returns-in-Commit : goal.returns-in-Commit
 returns-in-Commit c = elim c.in-Commit.is [
   | inl is ↦ serves-commit_outside c.args.history.now c.args.entry.now c.args.state.now c.args.state.now c.requires.event refl refl c.requires.outside
-      (c.requires.asks ∙ ap (λ (asked : Statement). Run asked) is) (none-moved c.args.state.now.txns)
+      (c.requires.asks ∙ ap (λ (asked : Statement). Run asked) is) (none_moved c.args.state.now.txns)
   | inr is ↦ serves-rollback_outside c.args.history.now c.args.entry.now c.args.state.now c.args.state.now c.requires.event refl refl c.requires.outside
-      (c.requires.asks ∙ ap (λ (asked : Statement). Run asked) is) (none-moved c.args.state.now.txns)
+      (c.requires.asks ∙ ap (λ (asked : Statement). Run asked) is) (none_moved c.args.state.now.txns)
 ]

@@ -5,10 +5,10 @@ use Rattle.engine_core.proofs.Forgotten.{erased-sound, few-erased, lent-there, p
 use Rattle.engine_core.proofs.subjects.forget.Goals as goal
 
 pub erase_changes-requires-clause-limits : goal.erase_changes-requires-clause-limits
-erase_changes-requires-clause-limits c = within-created c.args.version.now c.requires.sound.kept.created
+erase_changes-requires-clause-limits c = within-created c.args.version.now c.requires.sound.well_formed.created
 
 pub erase_changes-requires-clause-owner : goal.erase_changes-requires-clause-owner
-erase_changes-requires-clause-owner c = owner_schema-created c.args.version.now c.requires.sound.kept.created
+erase_changes-requires-clause-owner c = owner_schema-created c.args.version.now c.requires.sound.well_formed.created
 
 pub prepare-requires : goal.prepare-requires
 prepare-requires c = rw c.items-2.ensures c.in_ok-changes.ensures.may

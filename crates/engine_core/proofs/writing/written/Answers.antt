@@ -1,13 +1,13 @@
 use Rattle.std.proofs.lemmas.Result.{IfErr-weaker, IfOk-weaker}
 use Rattle.own_model.specs.Db.{empty}
 use Rattle.history_model.specs.History.{world}
+use Rattle.write_eval.proofs.StoredTables.{stored_tables}
 use Rattle.txn_core.proofs.SoundBases.{base-sound}
-use Rattle.engine_core.proofs.KeptTables.{tables_kept}
 use Rattle.engine_core.proofs.Writes.{free-kept, left-changed, net-changed, refused-kept}
 use Rattle.engine_core.proofs.writing.written.Goals as goal
 
 pub single-requires-clause-tables : goal.single-requires-clause-tables
-single-requires-clause-tables c = tables_kept c.args.asker.now.state.now.version c.requires.sound.kept
+single-requires-clause-tables c = stored_tables c.args.asker.now.state.now.version c.requires.sound.well_formed
 
 pub single-requires-clause-base : goal.single-requires-clause-base
 single-requires-clause-base c = base-sound c.args.asker.now.state.now.version c.requires.sound
@@ -22,11 +22,11 @@ returns-clause-reply c = IfOk-weaker c.single.result _ _ (λ pair is. is.1.told)
 
 pub returns-clause-net : goal.returns-clause-net
 returns-clause-net c =
-    IfOk-weaker c.single.result _ _ (λ pair is. net-changed c.args.asker.now.state.now.version c.requires.sound.kept.ordered c.args.bound.now c.requires.write pair.0 pair.1 is.1) c.single.ensures.ok
+    IfOk-weaker c.single.result _ _ (λ pair is. net-changed c.args.asker.now.state.now.version c.requires.sound.well_formed.ordered c.args.bound.now c.requires.write pair.0 pair.1 is.1) c.single.ensures.ok
 
 pub returns-clause-left : goal.returns-clause-left
 returns-clause-left c =
-    IfOk-weaker c.single.result _ _ (λ pair is. left-changed c.args.asker.now.state.now.version c.requires.sound.kept.ordered c.args.bound.now c.requires.write pair.0 pair.1 is.1) c.single.ensures.ok
+    IfOk-weaker c.single.result _ _ (λ pair is. left-changed c.args.asker.now.state.now.version c.requires.sound.well_formed.ordered c.args.bound.now c.requires.write pair.0 pair.1 is.1) c.single.ensures.ok
 
 pub returns-clause-refused : goal.returns-clause-refused
 returns-clause-refused c =

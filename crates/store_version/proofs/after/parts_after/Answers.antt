@@ -1,15 +1,15 @@
-use Rattle.std.proofs.Common.{◌≡◌, ◌∙◌, ◌<◌, ◌≤◌, ◌+◌, ◌++◌, ◌∷◌, [], List, ap, arith, drop, length, map, subst, sym}
-use Rattle.std.specs.Prelude.{Some, slice_get}
+use Rattle.std.proofs.Common.{◌≡◌, ◌∙◌, ◌<◌, ◌≤◌, ◌∷◌, [], List, ap, arith, length, map, subst, sym}
+use Rattle.std.specs.Prelude.{Some}
 use Rattle.std.proofs.lemmas.Bool.Decides.{nat_tests}
 use Rattle.std.proofs.lemmas.List.{get_or-map, length-map, map-append}
 use Rattle.std.proofs.lemmas.Option.{slice_get-get_or}
-use Rattle.state_model.specs.Put.{put_from, put_rows}
-use Rattle.annot_schema.specs.Created.{Created}
+use Rattle.state_model.specs.Put.{put_rows}
 use Rattle.own_model.specs.declared.schema.Schema.{Schema}
 use Rattle.own_model.specs.declared.schema.TableDef.{TableDef}
 use Rattle.table_part.specs.Part.{Part, rows_of}
+use Rattle.table_part.proofs.KeyLemmas.{changes_keyed}
 use Rattle.store_version.specs.Parts.{AreTheirParts}
-use Rattle.store_version.proofs.PartsAfter.{changes_keyed, keys_more, put_all, put_more}
+use Rattle.store_version.proofs.PartsAfter.{keys_more, put_all, put_more}
 use Rattle.store_version.proofs.TheirParts.{part-key, parts-count}
 use Rattle.store_version.proofs.after.parts_after.Goals as goal
 

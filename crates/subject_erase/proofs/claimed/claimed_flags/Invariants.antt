@@ -11,5 +11,5 @@ use Rattle.subject_erase.proofs.claimed.claimed_flags.Given as goal
 abbrev pub invariant-loop-table : goal.invariant-loop-table
 invariant-loop-table g l =
     let db = g.V.StoreView.db l.view in
-    (length l.held.items ≡ length db.schema.tables)
-    × ((subject : RowName) → AreFlagsOf db (owns db subject) l.owned → AreFlagsOf db (struck db subject) l.struck → OrderFlagged db (is_claimed db subject) l.table-items l.table-index l.held.items)
+    (length l.claimed.items ≡ length db.schema.tables)
+    × ((subject : RowName) → AreFlagsOf db (owns db subject) l.owned → AreFlagsOf db (struck db subject) l.struck → OrderFlagged db (is_claimed db subject) l.table-items l.table-index l.claimed.items)

@@ -12,4 +12,4 @@ use Rattle.subject_erase.proofs.staying.staying_given.Given as goal
 abbrev pub invariant-loop-number : goal.invariant-loop-number
 invariant-loop-number g l =
     let db = g.V.StoreView.db l.view in
-    (subject : RowName) → IsTrue (is_subject db.schema subject.table.0) → AreFlagsOf db (owns db subject) l.owned → AreFlagsOf db (is_claimed db subject) l.held → TablesFlagged db (stays db subject) l.number l.staying
+    (subject : RowName) → IsTrue (is_subject db.schema subject.table.0) → AreFlagsOf db (owns db subject) l.owned → AreFlagsOf db (is_claimed db subject) l.claimed → TablesFlagged db (stays db subject) l.number l.staying

@@ -4,7 +4,7 @@ use Rattle.own_model.specs.Db.{Db}
 use Rattle.query_eval.specs.Tables.{AreTables}
 use Rattle.query_model.specs.Query.{query_rows, reply_of}
 use Rattle.readable_model.specs.Sources.{IsThere}
-use Rattle.txn_core.specs.Views.{AreViewsThere}
+use Rattle.query_eval.specs.Views.{AreViewsThere}
 use Rattle.txn_core.proofs.Runs.{changed_tables}
 use Rattle.txn_core.proofs.running.read_in.Goals as goal
 

@@ -4,7 +4,7 @@ use Rattle.own_model.specs.Db.{Row}
 use Rattle.state_model.specs.Net.{net}
 use Rattle.state_model.specs.Put.{put_rows}
 use Rattle.txn_space.specs.Changed.{changed_rows}
-use Rattle.txn_core.proofs.NetTo.{changed_none}
+use Rattle.txn_space.proofs.OverLemmas.{changed_none}
 use Rattle.txn_core.proofs.single_write.net_of.Goals as goal
 
 pub put-requires-clause-space : goal.put-requires-clause-space

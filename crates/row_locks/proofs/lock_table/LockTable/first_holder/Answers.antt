@@ -1,15 +1,15 @@
 use Rattle.std.proofs.Common.{sym, ◌∙◌}
-use Rattle.row_locks.specs.Kept.{kept_by}
+use Rattle.row_locks.specs.SessionItems.{items_by}
 use Rattle.row_locks.proofs.Searched.{none_here, none_told, search-all, search-next, told_first}
 use Rattle.row_locks.proofs.lock_table.LockTable.first_holder.Goals as goal
 
 pub loop-number-init : goal.loop-number-init
-loop-number-init c = search-all (kept_by c.args.self.now) c.args.session.0 c.args.footprint.now
+loop-number-init c = search-all (items_by c.args.self.now) c.args.session.0 c.args.footprint.now
 
 pub loop-number-preserved : goal.loop-number-preserved
 loop-number-preserved c =
     c.loop-number.invariant
-    ∙ search-next (kept_by c.args.self.now) c.args.session.0 c.args.footprint.now c.loop-number.number c.loop-number-test.true
+    ∙ search-next (items_by c.args.self.now) c.args.session.0 c.args.footprint.now c.loop-number.number c.loop-number-test.true
     (none_here c.args.self.now c.args.session.0 c.args.footprint.now c.loop-number.number c.holding_of_other-found.result c.holding_of_other-found.ensures (sym c.is_some.ensures ∙ c.if-is_some.false))
 
 pub returns-then-is_some : goal.returns-then-is_some

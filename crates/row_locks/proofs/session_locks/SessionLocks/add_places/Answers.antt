@@ -1,5 +1,5 @@
 use Rattle.std.proofs.Common.{◌∙◌}
-use Rattle.row_locks.specs.Kept.{has_place_in}
+use Rattle.row_locks.specs.SessionItems.{has_place_in}
 use Rattle.row_locks.proofs.TestLemmas.{all_more}
 use Rattle.row_locks.proofs.session_locks.SessionLocks.add_places.Goals as goal
 

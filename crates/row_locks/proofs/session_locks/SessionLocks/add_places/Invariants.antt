@@ -1,6 +1,6 @@
 use Rattle.std.proofs.Common.{◌≡◌, take, true}
 use Rattle.std.specs.List.{list_all}
-use Rattle.row_locks.specs.Kept.{has_place_in, items_of}
+use Rattle.row_locks.specs.SessionItems.{has_place_in, items_of}
 use Rattle.row_locks.proofs.session_locks.SessionLocks.add_places.Given as goal
 
 -- those so far have places, and nothing more is held

@@ -1,6 +1,6 @@
 use Rattle.std.proofs.Common.{◌≡◌, drop}
 use Rattle.history_model.specs.Held.{first_overlap}
-use Rattle.row_locks.specs.Kept.{items_of}
+use Rattle.row_locks.specs.SessionItems.{items_of}
 use Rattle.row_locks.proofs.session_locks.SessionLocks.first_overlap.Given as goal
 
 -- the first is among those that are left

@@ -1,5 +1,5 @@
 use Rattle.std.proofs.Common.{◌≡◌, true, sym, ap, ◌∙◌, subst}
-use Rattle.row_locks.specs.Kept.{has_place_in, items_from}
+use Rattle.row_locks.specs.SessionItems.{has_place_in, items_from}
 use Rattle.row_locks.proofs.HeldTables.{items_more, places_more}
 use Rattle.row_locks.proofs.session_locks.SessionLocks.grow.Goals as goal
 

@@ -1,6 +1,6 @@
 use Rattle.std.proofs.Common.{◌≡◌, ◌-◌, length, true}
 use Rattle.own_model.specs.declared.footprint.FootItem.{FootItem}
-use Rattle.row_locks.specs.Kept.{has_place_in, items_of}
+use Rattle.row_locks.specs.SessionItems.{has_place_in, items_of}
 use Rattle.row_locks.proofs.session_locks.SessionLocks.grow.Given as goal
 
 -- nothing more is held, and places stay

@@ -1,7 +1,7 @@
 use Rattle.std.proofs.Common.{◌||◌, Bool, ap, ◌∙◌}
 use Rattle.std.specs.List.{list_any}
 use Rattle.run_model.specs.Agree.{overlaps}
-use Rattle.row_locks.specs.Kept.{items_of}
+use Rattle.row_locks.specs.SessionItems.{items_of}
 use Rattle.row_locks.proofs.TestLemmas.{any_more}
 use Rattle.row_locks.proofs.session_locks.SessionLocks.hold_all.Goals as goal
 

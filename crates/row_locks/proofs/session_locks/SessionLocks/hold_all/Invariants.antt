@@ -2,7 +2,7 @@ use Rattle.std.proofs.Common.{◌≡◌, ◌||◌, take}
 use Rattle.std.specs.List.{list_any}
 use Rattle.own_model.specs.declared.footprint.FootItem.{FootItem}
 use Rattle.run_model.specs.Agree.{overlaps}
-use Rattle.row_locks.specs.Kept.{has_place_in, items_of}
+use Rattle.row_locks.specs.SessionItems.{has_place_in, items_of}
 use Rattle.row_locks.proofs.session_locks.SessionLocks.hold_all.Given as goal
 
 -- those so far are held

@@ -2,8 +2,8 @@ use Rattle.std.proofs.Common.{Some, false, true, sym, ap, ◌∙◌}
 use Rattle.std.specs.Option.{option_map_or}
 use Rattle.row_locks.specs.declared.table_locks.TableLocks.{TableLocks}
 use Rattle.row_locks.specs.Locks.{meet}
-use Rattle.row_locks.proofs.KeptItems.{lies_any, named, tables_any}
-use Rattle.row_locks.specs.Kept.{items_from}
+use Rattle.row_locks.proofs.TableItems.{lies_any, named, tables_any}
+use Rattle.row_locks.specs.SessionItems.{items_from}
 use Rattle.row_locks.proofs.session_locks.SessionLocks.hold_name.Goals as goal
 
 pub returns-in-None : goal.returns-in-None

@@ -1,6 +1,6 @@
 use Rattle.std.proofs.Common.{◌≡◌, drop}
 use Rattle.history_model.specs.History.{lie_on}
-use Rattle.row_locks.specs.Kept.{items_of}
+use Rattle.row_locks.specs.SessionItems.{items_of}
 use Rattle.row_locks.proofs.session_locks.SessionLocks.hold_some.Given as goal
 
 -- one of those that are left lies on an item where one of all does

@@ -2,7 +2,7 @@ use Rattle.std.proofs.Common.{false, sym, ap, ◌∙◌}
 use Rattle.std.specs.Option.{option_map_or}
 use Rattle.row_locks.specs.declared.table_locks.TableLocks.{TableLocks}
 use Rattle.row_locks.specs.Locks.{meet}
-use Rattle.row_locks.proofs.KeptItems.{tables_any}
+use Rattle.row_locks.proofs.TableItems.{tables_any}
 use Rattle.row_locks.proofs.session_locks.SessionLocks.overlap.Goals as goal
 
 pub returns-in-None : goal.returns-in-None

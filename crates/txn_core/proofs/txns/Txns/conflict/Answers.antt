@@ -1,5 +1,5 @@
 use Rattle.std.proofs.Common.{◌∙◌, ◌<◌, ap, length, option_map, sym}
-use Rattle.row_locks.specs.Kept.{kept_by as held_by}
+use Rattle.row_locks.specs.SessionItems.{items_by as held_by}
 use Rattle.row_locks.specs.RepresentsItems.{holder_among, told}
 use Rattle.row_locks.proofs.Holders.{stand-same}
 use Rattle.txn_core.specs.Transactions.{Transactions, conflict_of}

@@ -16,11 +16,11 @@ abbrev pub items_of : SessionLocks → List FootItem
 items_of session = items_from 0 session.tables.items
 
 -- of each session, by its number
-abbrev pub kept : List SessionLocks → List (List FootItem)
-kept sessions = map items_of sessions
+abbrev pub all_items : List SessionLocks → List (List FootItem)
+all_items sessions = map items_of sessions
 
-abbrev pub kept_by : List (List FootItem) → ℕ → List FootItem
-kept_by sessions number = slice_index_or sessions number []
+abbrev pub items_by : List (List FootItem) → ℕ → List FootItem
+items_by sessions number = slice_index_or sessions number []
 
 -- whether a session's locks of an item's table stand in its way
 abbrev pub tables_meet : List TableLocks → FootItem → Bool
