@@ -1,8 +1,7 @@
 use own_model::InputFault;
-use std::test::Fail;
 
 #[test]
-fn faults_of_the_input_are_shown(rt: HostRuntime) -> Result<(), Fail> {
+fn faults_of_the_input_are_shown(rt: HostRuntime) {
     let alloc = rt.alloc();
     for (fault, shown) in [
         (
@@ -20,7 +19,9 @@ fn faults_of_the_input_are_shown(rt: HostRuntime) -> Result<(), Fail> {
         ),
         (InputFault::Memory, "out of memory"),
     ] {
-        assert_eq!(rt; format!(in alloc; "{fault}")?.as_str(), shown);
+        assert_eq!(rt;
+            format!(in alloc; "{fault}").expect(&rt, "memory").as_str(),
+            shown
+        );
     }
-    Ok(())
 }

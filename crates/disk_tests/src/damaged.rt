@@ -8,7 +8,7 @@ use std::test::Fail;
 
 /// An opened area: a gate, the epoch 7, the length 64 of the image, the image; two records; a closed gate and a byte that
 /// doesn't count.
-const AREA: [u8; 174] = [
+const AREA: [u8; 200] = [
     1, 0, 0, 0, 0, 0, 0, 0, 7, 0, 0, 0, 0, 0, 0, 0, 64,
     // the version, two commits, two creates: a table and a view
     1, 0, 0, 0, 0, 0, 0, 0, 2, 0, 0, 0, 2, 1, 0, 0, 0, 1, 84, 2, 0, 0, 0, 1, 86,
@@ -24,8 +24,9 @@ const AREA: [u8; 174] = [
     0, 0, 0, 0, 1, 0, 0, 0, 0, 0, 0, 0, 1, 0,
     // ('b') is put
     0, 0, 0, 0, 2, 0, 0, 0, 1, 98, 1, 0, 0, 0, 1, 2, 0, 0, 0, 1, 98,
-    // a gate, and a payload of 13 bytes: a table by a text that ends with a character of two bytes
-    1, 0, 0, 0, 13, 1, 0, 0, 0, 8, 67, 82, 69, 65, 84, 69, 195, 169,
+    // a gate, and a payload of 39 bytes: a table by a text that ends with a character of two bytes
+    1, 0, 0, 0, 39, 1, 0, 0, 0, 34, 67, 82, 69, 65, 84, 69, 32, 84, 65, 66, 76, 69, 32, 99, 97,
+    102, 32, 40, 105, 100, 32, 73, 78, 84, 32, 80, 82, 73, 77, 65, 82, 89, 195, 169,
     // a closed gate, and what doesn't count
     0, 1,
 ];
@@ -108,9 +109,9 @@ fn each_front_of_an_area(rt: HostRuntime) -> Result<(), Fail> {
         (81, Judgement::Damaged(81)),
         (82, Judgement::Damaged(81)),
         (154, Judgement::Damaged(154)),
-        (172, Judgement::Damaged(172)),
-        (173, Judgement::Whole(2)),
-        (174, Judgement::Whole(2)),
+        (198, Judgement::Damaged(198)),
+        (199, Judgement::Whole(2)),
+        (200, Judgement::Whole(2)),
     ] {
         let front = AREA.get(..length).unwrap_or(&AREA);
         assert_eq!(rt; words::judged(front), wanted, "of {length}");
@@ -142,7 +143,7 @@ fn each_change_of_a_byte(rt: HostRuntime) -> Result<(), Fail> {
         assert!(rt; whole >= 1, "at {place}");
     }
     // The gate opens at one byte alone; any epoch will do; a length has to be right.
-    for (place, wanted) in [(0, 1), (1, 256), (16, 1), (173, 256)] {
+    for (place, wanted) in [(0, 1), (1, 256), (16, 1), (199, 256)] {
         assert_eq!(rt; compare_at(&rt, place)?, wanted, "at {place}");
     }
     Ok(())
@@ -156,7 +157,7 @@ fn each_front_of_an_image_and_of_payloads(rt: HostRuntime) -> Result<(), Fail> {
         assert_eq!(rt; is_image(alloc, front)?, length == 64, "of {length}");
         assert_eq!(rt; words::is_image(front), length == 64);
     }
-    for (first, bytes) in [(86, 68), (159, 13)] {
+    for (first, bytes) in [(86, 68), (159, 39)] {
         for length in 0..=bytes {
             let front = AREA.get(first..first + length).unwrap_or(&[]);
             assert_eq!(rt; is_payload(alloc, front)?, length == bytes, "of {length}");

@@ -3,7 +3,6 @@ use engine_core::OpenFault;
 use own_base::{Area, Name};
 use own_model::LimitName;
 use std::alloc::{AllocError, Global};
-use std::test::Fail;
 
 /// What is written of why a CREATE TABLE isn't admitted.
 fn of_schema(alloc: Global, fault: SchemaFault) -> Result<String, AllocError> {
@@ -16,51 +15,56 @@ fn of_opening(alloc: Global, fault: OpenFault) -> Result<String, AllocError> {
 }
 
 #[test]
-fn names_and_rules_of_a_schema_are_shown(rt: HostRuntime) -> Result<(), Fail> {
+fn names_and_rules_of_a_schema_are_shown(rt: HostRuntime) {
     let alloc = rt.alloc();
-    let taken = SchemaFault::NameTaken(Name::from_str(alloc, "users")?);
+    let taken = SchemaFault::NameTaken(Name::from_str(alloc, "users").expect(&rt, "memory"));
     assert_eq!(rt;
-        of_schema(alloc, taken)?.as_str(),
+        of_schema(alloc, taken).expect(&rt, "memory").as_str(),
         "the name users is taken"
     );
-    let name = Name::from_str(alloc, "bio")?;
+    let name = Name::from_str(alloc, "bio").expect(&rt, "memory");
     let broken = SchemaFault::BadSchema { rule: 13, name };
     assert_eq!(rt;
-        of_schema(alloc, broken)?.as_str(),
+        of_schema(alloc, broken).expect(&rt, "memory").as_str(),
         "bio breaks rule 13 of CREATE TABLE"
     );
-    let table = Name::from_str(alloc, "a")?;
-    let through = Name::from_str(alloc, "b")?;
+    let table = Name::from_str(alloc, "a").expect(&rt, "memory");
+    let through = Name::from_str(alloc, "b").expect(&rt, "memory");
     let cyclic = SchemaFault::Cycle { table, through };
     assert_eq!(rt;
-        of_schema(alloc, cyclic)?.as_str(),
+        of_schema(alloc, cyclic).expect(&rt, "memory").as_str(),
         "a would be owned or accessed by itself, through b"
     );
-    let rows = SchemaFault::HasRows(Name::from_str(alloc, "c")?);
-    assert_eq!(rt; of_schema(alloc, rows)?.as_str(), "the table c holds rows");
-    Ok(())
+    let rows = SchemaFault::HasRows(Name::from_str(alloc, "c").expect(&rt, "memory"));
+    assert_eq!(rt;
+        of_schema(alloc, rows).expect(&rt, "memory").as_str(),
+        "the table c holds rows"
+    );
 }
 
 #[test]
-fn limits_and_memory_of_a_schema_are_shown(rt: HostRuntime) -> Result<(), Fail> {
+fn limits_and_memory_of_a_schema_are_shown(rt: HostRuntime) {
     let alloc = rt.alloc();
     let limit = SchemaFault::Limit(LimitName::Columns);
     assert_eq!(rt;
-        of_schema(alloc, limit)?.as_str(),
+        of_schema(alloc, limit).expect(&rt, "memory").as_str(),
         "the limit Columns is passed"
     );
     assert_eq!(rt;
-        of_schema(alloc, SchemaFault::Memory)?.as_str(),
+        of_schema(alloc, SchemaFault::Memory)
+            .expect(&rt, "memory")
+            .as_str(),
         "out of memory"
     );
-    Ok(())
 }
 
 #[test]
-fn faults_of_an_opening_are_shown(rt: HostRuntime) -> Result<(), Fail> {
+fn faults_of_an_opening_are_shown(rt: HostRuntime) {
     let alloc = rt.alloc();
     assert_eq!(rt;
-        of_opening(alloc, OpenFault::DiskFault)?.as_str(),
+        of_opening(alloc, OpenFault::DiskFault)
+            .expect(&rt, "memory")
+            .as_str(),
         "the disk failed"
     );
     for (area, offset, shown) in [
@@ -72,11 +76,15 @@ fn faults_of_an_opening_are_shown(rt: HostRuntime) -> Result<(), Fail> {
         ),
     ] {
         let damaged = OpenFault::Damaged { area, offset };
-        assert_eq!(rt; of_opening(alloc, damaged)?.as_str(), shown);
+        assert_eq!(rt;
+            of_opening(alloc, damaged).expect(&rt, "memory").as_str(),
+            shown
+        );
     }
     assert_eq!(rt;
-        of_opening(alloc, OpenFault::Memory)?.as_str(),
+        of_opening(alloc, OpenFault::Memory)
+            .expect(&rt, "memory")
+            .as_str(),
         "out of memory"
     );
-    Ok(())
 }

@@ -117,7 +117,7 @@ fn expect_reported(
 #[test]
 fn edges_have_a_graph_or_a_cycle(rt: HostRuntime) -> Result<(), Fail> {
     for (tables, pairs, told) in CASES {
-        let edges = edges_of(rt.alloc(), pairs)?;
+        let edges = edges_of(rt.alloc(), pairs).expect(&rt, "memory");
         expect_reported(&rt, rt.alloc(), tables, &edges, told)?;
     }
     Ok(())
@@ -164,17 +164,17 @@ fn reported_slowly(tables: u32, edges: &[Edge]) -> Option<(u32, u32)> {
 #[test]
 fn all_edges_over_three_tables(rt: HostRuntime) -> Result<(), Fail> {
     for bits in 0..512 {
-        let edges = edges_in(rt.alloc(), bits)?;
+        let edges = edges_in(rt.alloc(), bits).expect(&rt, "memory");
         expect_reported(&rt, rt.alloc(), 3, &edges, reported_slowly(3, &edges))?;
     }
     Ok(())
 }
 
 #[test]
-fn edges_come_by_their_lower_table(rt: HostRuntime) -> Result<(), Fail> {
-    let edges = edges_of(rt.alloc(), &[(3, 1), (2, 0), (3, 0), (3, 1)])?;
+fn edges_come_by_their_lower_table(rt: HostRuntime) {
+    let edges = edges_of(rt.alloc(), &[(3, 1), (2, 0), (3, 0), (3, 1)]).expect(&rt, "memory");
     assert!(rt; are_within(4, &edges));
-    let graph = Graph::with_edges(rt.alloc(), 4, &edges)?;
+    let graph = Graph::with_edges(rt.alloc(), 4, &edges).expect(&rt, "memory");
     assert_eq!(rt; graph.order().len(), 4);
     for (table, numbers) in [
         (0, [].as_slice()),
@@ -191,18 +191,16 @@ fn edges_come_by_their_lower_table(rt: HostRuntime) -> Result<(), Fail> {
             "{held:?}"
         );
     }
-    Ok(())
 }
 
 #[test]
-fn faults_are_shown(rt: HostRuntime) -> Result<(), Fail> {
+fn faults_are_shown(rt: HostRuntime) {
     let cycle = GraphFault::Cycle {
         table: TableNo(7),
         through: TableNo(2),
     };
-    let shown = format!(in rt.alloc(); "{cycle}")?;
+    let shown = format!(in rt.alloc(); "{cycle}").expect(&rt, "memory");
     assert_eq!(rt; shown.as_str(), "table 7 is reached again from table 2");
-    let shown = format!(in rt.alloc(); "{}", GraphFault::Memory)?;
+    let shown = format!(in rt.alloc(); "{}", GraphFault::Memory).expect(&rt, "memory");
     assert_eq!(rt; shown.as_str(), "out of memory");
-    Ok(())
 }

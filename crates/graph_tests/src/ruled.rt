@@ -2,7 +2,6 @@ use anon_rules::{blanked, hidden, strikes};
 use own_base::{ColNo, ColumnSet, EdgeNo, TableNo};
 use own_model::Edge;
 use std::alloc::{AllocError, Global};
-use std::test::Fail;
 
 /// An edge by its number, the sets of columns that it hides and makes NULL, and whether it gives ownership and removes rows.
 type Ruled = (u32, u32, u32, bool, bool);
@@ -67,16 +66,15 @@ fn numbers(alloc: Global, by: &[u32]) -> Result<Vec<EdgeNo>, AllocError> {
 
 /// What every edge hides, what one of them makes NULL, and which of them remove rows.
 #[test]
-fn edges_rule_columns(rt: HostRuntime) -> Result<(), Fail> {
+fn edges_rule_columns(rt: HostRuntime) {
     let alloc = rt.alloc();
-    let edges = edges(alloc)?;
+    let edges = edges(alloc).expect(&rt, "memory");
     for (by, hides, blanks) in CASES {
-        let by = numbers(alloc, by)?;
+        let by = numbers(alloc, by).expect(&rt, "memory");
         assert_eq!(rt; hidden(&edges, &by), ColumnSet(hides));
         assert_eq!(rt; blanked(&edges, &by), ColumnSet(blanks));
     }
     for (edge, ruled) in edges.iter().zip(EDGES) {
         assert_eq!(rt; strikes(edge), ruled.4);
     }
-    Ok(())
 }

@@ -1,8 +1,10 @@
 //! Tests of the rows of a table, by the public calls, on keys whose order was worked out by hand.
 #![tactic(auto)]
 
-pub mod handed_in;
-pub mod made;
+#[cfg(test)]
+mod handed_in;
+#[cfg(test)]
+mod made;
 #[cfg(test)]
 mod orders;
 #[cfg(test)]

@@ -1,22 +1,23 @@
 use crate::made::{change_of, numbers_of};
 use crate::parts::{change_each, changed, part_with};
 use own_base::{Change, Key, MakeCopy, Row};
-use std::alloc::{AllocError, Global};
-use std::test::Fail;
+use std::process::Abort;
 use table_part::TablePart;
 
 /// The changes of the keys from 1 up to this one: rows with ten times the key as their value, or none.
-fn up_to(alloc: Global, last: i64, put: bool) -> Result<Vec<Change>, AllocError> {
-    let mut changes = Vec::new(alloc);
+fn up_to(rt: &(impl Abort + AllocGlobal), last: i64, put: bool) -> Vec<Change> {
+    let mut changes = Vec::new(rt.alloc());
     for key in 1..=last {
         let value = if put {
             Some(key.wrapping_mul(10))
         } else {
             None
         };
-        changes.push(change_of(alloc, Key::Int(key), value)?)?;
+        changes
+            .push(change_of(rt, Key::Int(key), value))
+            .expect(rt, "memory");
     }
-    Ok(changes)
+    changes
 }
 
 /// The key of a row that is a number.
@@ -40,15 +41,9 @@ fn last_page(part: &TablePart) -> &[Row] {
 }
 
 #[test]
-fn a_row_too_many_for_a_page_makes_a_second(rt: HostRuntime) -> Result<(), Fail> {
-    let alloc = rt.alloc();
-    let part = part_with(&rt, alloc, &up_to(alloc, 64, true)?)?;
-    let made = changed(
-        &rt,
-        alloc,
-        &part,
-        &[change_of(alloc, Key::Int(65), Some(650))?],
-    )?;
+fn a_row_too_many_for_a_page_makes_a_second(rt: HostRuntime) {
+    let part = part_with(&rt, &up_to(&rt, 64, true));
+    let made = changed(&rt, &part, &[change_of(&rt, Key::Int(65), Some(650))]);
     assert_eq!(rt; made.at(64).and_then(key_of), Some(65));
     assert!(rt; made.page(1).is_some());
     assert!(rt; has_up_to(&made, 65));
@@ -56,27 +51,23 @@ fn a_row_too_many_for_a_page_makes_a_second(rt: HostRuntime) -> Result<(), Fail>
     assert_eq!(rt; part.page(0).map(|page| page.len()), Some(64));
     assert!(rt; part.page(1).is_none());
     assert!(rt; has_up_to(&part, 64));
-    Ok(())
 }
 
 #[test]
-fn no_row_leaves_no_page(rt: HostRuntime) -> Result<(), Fail> {
-    let alloc = rt.alloc();
-    let part = part_with(&rt, alloc, &up_to(alloc, 65, true)?)?;
-    let made = changed(&rt, alloc, &part, &up_to(alloc, 65, false)?)?;
+fn no_row_leaves_no_page(rt: HostRuntime) {
+    let part = part_with(&rt, &up_to(&rt, 65, true));
+    let made = changed(&rt, &part, &up_to(&rt, 65, false));
     assert_eq!(rt; made.len(), 0);
     assert!(rt; made.rows().next().is_none());
     assert!(rt; made.page(0).is_none());
     assert!(rt; made.rows_from(0).is_empty());
     assert!(rt; has_up_to(&part, 65));
-    Ok(())
 }
 
 #[test]
-fn a_page_without_a_changed_key_stays(rt: HostRuntime) -> Result<(), Fail> {
-    let alloc = rt.alloc();
-    let part = part_with(&rt, alloc, &up_to(alloc, 65, true)?)?;
-    let made = changed(&rt, alloc, &part, &[change_of(alloc, Key::Int(1), None)?])?;
+fn a_page_without_a_changed_key_stays(rt: HostRuntime) {
+    let part = part_with(&rt, &up_to(&rt, 65, true));
+    let made = changed(&rt, &part, &[change_of(&rt, Key::Int(1), None)]);
     assert_eq!(rt; made.len(), 64);
     let (before, after) = (last_page(&part), last_page(&made));
     assert!(rt; !before.is_empty());
@@ -87,21 +78,30 @@ fn a_page_without_a_changed_key_stays(rt: HostRuntime) -> Result<(), Fail> {
             .eq(before.iter().map(numbers_of))
     );
     assert!(rt; has_up_to(&part, 65));
-    Ok(())
 }
 
+/// Keys, and the key of the row that each names.
+const KEYS: [(i64, Option<i64>); 4] = [(0, None), (1, Some(1)), (65, Some(65)), (66, None)];
+
+/// Places, and the key of the row at each.
+const PLACES: [(u64, Option<i64>); 4] = [
+    (0, Some(1)),
+    (64, Some(65)),
+    (65, None),
+    (u64::MAX, None),
+];
+
 #[test]
-fn the_ends_of_a_part(rt: HostRuntime) -> Result<(), Fail> {
-    let alloc = rt.alloc();
-    let part = part_with(&rt, alloc, &up_to(alloc, 65, true)?)?;
-    for (key, there) in [(0, None), (1, Some(1)), (65, Some(65)), (66, None)] {
-        assert_eq!(rt; part.get(&Key::Int(key)).and_then(key_of), there, "{key}");
+fn the_ends_of_a_part(rt: HostRuntime) {
+    let part = part_with(&rt, &up_to(&rt, 65, true));
+    for (key, there) in &KEYS {
+        assert_eq!(rt; part.get(&Key::Int(*key)).and_then(key_of), *there, "{key}");
     }
-    for (place, key) in [(0, Some(1)), (64, Some(65)), (65, None), (u64::MAX, None)] {
-        assert_eq!(rt; part.at(place).and_then(key_of), key, "{place}");
+    for (place, key) in &PLACES {
+        assert_eq!(rt; part.at(*place).and_then(key_of), *key, "{place}");
         assert_eq!(rt;
-            part.rows_from(place).first().and_then(key_of),
-            key,
+            part.rows_from(*place).first().and_then(key_of),
+            *key,
             "{place}"
         );
     }
@@ -111,73 +111,44 @@ fn the_ends_of_a_part(rt: HostRuntime) -> Result<(), Fail> {
         Some(1)
     );
     assert!(rt; part.page(u64::MAX).is_none());
-    Ok(())
 }
 
 #[test]
-fn a_copy_is_a_part_of_its_own(rt: HostRuntime) -> Result<(), Fail> {
-    let alloc = rt.alloc();
-    let part = part_with(&rt, alloc, &up_to(alloc, 3, true)?)?;
-    let copy = part.copy(alloc)?;
+fn a_copy_is_a_part_of_its_own(rt: HostRuntime) {
+    let part = part_with(&rt, &up_to(&rt, 3, true));
+    let copy = part.copy(rt.alloc()).expect(&rt, "memory");
     assert!(rt; has_up_to(&copy, 3));
-    let made = changed(&rt, alloc, &copy, &up_to(alloc, 2, false)?)?;
+    let made = changed(&rt, &copy, &up_to(&rt, 2, false));
     assert_eq!(rt; made.rows().next().and_then(key_of), Some(3));
     assert!(rt; has_up_to(&copy, 3));
     assert!(rt; has_up_to(&part, 3));
-    Ok(())
 }
 
 #[test]
-fn a_row_too_many_makes_a_second_page_where_rows_come_one_by_one(
-    rt: HostRuntime,
-) -> Result<(), Fail> {
-    let alloc = rt.alloc();
-    let mut part = part_with(&rt, alloc, &[])?;
-    change_each(&rt, alloc, &mut part, &up_to(alloc, 64, true)?)?;
-    let before = part.copy(alloc)?;
-    change_each(
-        &rt,
-        alloc,
-        &mut part,
-        &[change_of(alloc, Key::Int(65), Some(650))?],
-    )?;
+fn a_row_too_many_makes_a_second_page_where_rows_come_one_by_one(rt: HostRuntime) {
+    let mut part = part_with(&rt, &[]);
+    change_each(&rt, &mut part, &up_to(&rt, 64, true));
+    let before = part.copy(rt.alloc()).expect(&rt, "memory");
+    change_each(&rt, &mut part, &[change_of(&rt, Key::Int(65), Some(650))]);
     assert_eq!(rt; part.at(64).and_then(key_of), Some(65));
     assert!(rt; part.page(1).is_some());
     assert!(rt; has_up_to(&part, 65));
     assert!(rt; before.at(64).is_none());
     assert!(rt; before.page(1).is_none());
     assert!(rt; has_up_to(&before, 64));
-    change_each(&rt, alloc, &mut part, &up_to(alloc, 65, false)?)?;
+    change_each(&rt, &mut part, &up_to(&rt, 65, false));
     assert_eq!(rt; part.len(), 0);
     assert!(rt; part.page(0).is_none());
     assert!(rt; has_up_to(&before, 64));
-    Ok(())
 }
 
 #[test]
-fn a_row_takes_the_place_of_one_and_goes(rt: HostRuntime) -> Result<(), Fail> {
-    let alloc = rt.alloc();
-    let mut part = part_with(&rt, alloc, &up_to(alloc, 3, true)?)?;
-    change_each(
-        &rt,
-        alloc,
-        &mut part,
-        &[change_of(alloc, Key::Int(2), Some(7))?],
-    )?;
+fn a_row_takes_the_place_of_one_and_goes(rt: HostRuntime) {
+    let mut part = part_with(&rt, &up_to(&rt, 3, true));
+    change_each(&rt, &mut part, &[change_of(&rt, Key::Int(2), Some(7))]);
     assert_eq!(rt; part.at(1).and_then(numbers_of), Some((2, 7)));
-    change_each(
-        &rt,
-        alloc,
-        &mut part,
-        &[change_of(alloc, Key::Int(2), None)?],
-    )?;
+    change_each(&rt, &mut part, &[change_of(&rt, Key::Int(2), None)]);
     assert_eq!(rt; part.at(1).and_then(key_of), Some(3));
-    change_each(
-        &rt,
-        alloc,
-        &mut part,
-        &[change_of(alloc, Key::Int(9), None)?],
-    )?;
+    change_each(&rt, &mut part, &[change_of(&rt, Key::Int(9), None)]);
     assert_eq!(rt; part.len(), 2);
-    Ok(())
 }

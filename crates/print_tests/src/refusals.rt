@@ -5,7 +5,6 @@ use own_model::{LimitName, Refusal, Reply};
 use sql_print::print_reply;
 use std::alloc::{AllocError, Global};
 use std::mem::drop;
-use std::test::Fail;
 
 /// The lines of a call without a place that was refused, the 4th of session 16.
 fn refused(alloc: Global, refusal: Refusal) -> Result<Text, AllocError> {
@@ -149,50 +148,61 @@ const LIMITS: [(LimitName, &str); 12] = [
 ];
 
 #[test]
-fn refusals_say_why(rt: HostRuntime) -> Result<(), Fail> {
+fn refusals_say_why(rt: HostRuntime) {
     for (which, wanted) in PLAIN.iter().enumerate() {
-        assert_eq!(rt; refused(rt.alloc(), plain(which))?.as_str(), *wanted);
+        assert_eq!(rt;
+            refused(rt.alloc(), plain(which))
+                .expect(&rt, "memory")
+                .as_str(),
+            *wanted
+        );
     }
-    Ok(())
 }
 
 #[test]
-fn refusals_name_what_shows_it(rt: HostRuntime) -> Result<(), Fail> {
+fn refusals_name_what_shows_it(rt: HostRuntime) {
     let alloc = rt.alloc();
     for (which, wanted) in NAMED.iter().enumerate() {
-        let refusal = named(alloc, which)?;
-        assert_eq!(rt; refused(alloc, refusal)?.as_str(), *wanted);
+        let refusal = named(alloc, which).expect(&rt, "memory");
+        assert_eq!(rt;
+            refused(alloc, refusal).expect(&rt, "memory").as_str(),
+            *wanted
+        );
     }
-    Ok(())
 }
 
 #[test]
-fn refusals_tell_the_row(rt: HostRuntime) -> Result<(), Fail> {
+fn refusals_tell_the_row(rt: HostRuntime) {
     let alloc = rt.alloc();
     for (which, wanted) in OF_ROWS.iter().enumerate() {
-        let refusal = of_row(alloc, which)?;
-        assert_eq!(rt; refused(alloc, refusal)?.as_str(), *wanted);
+        let refusal = of_row(alloc, which).expect(&rt, "memory");
+        assert_eq!(rt;
+            refused(alloc, refusal).expect(&rt, "memory").as_str(),
+            *wanted
+        );
     }
-    Ok(())
 }
 
 #[test]
-fn refusals_tell_two_names(rt: HostRuntime) -> Result<(), Fail> {
+fn refusals_tell_two_names(rt: HostRuntime) {
     let alloc = rt.alloc();
     for (which, wanted) in OF_PAIRS.iter().enumerate() {
-        let refusal = of_pair(alloc, which)?;
-        assert_eq!(rt; refused(alloc, refusal)?.as_str(), *wanted);
+        let refusal = of_pair(alloc, which).expect(&rt, "memory");
+        assert_eq!(rt;
+            refused(alloc, refusal).expect(&rt, "memory").as_str(),
+            *wanted
+        );
     }
-    Ok(())
 }
 
 #[test]
-fn refusals_tell_the_limit(rt: HostRuntime) -> Result<(), Fail> {
+fn refusals_tell_the_limit(rt: HostRuntime) {
     for (limit, wanted) in LIMITS {
         assert_eq!(rt;
-            refused(rt.alloc(), Refusal::Limit(limit))?.as_str(),
+            refused(rt.alloc(), Refusal::Limit(limit))
+                .expect(&rt, "memory")
+                .as_str(),
             wanted
         );
     }
-    Ok(())
 }

@@ -5,7 +5,6 @@ use own_model::{Cell, GotRow, Reply};
 use sql_print::print_reply;
 use std::alloc::{AllocError, Global};
 use std::mem::drop;
-use std::test::Fail;
 
 /// NULL, -5 and a text.
 fn values(alloc: Global) -> Result<Vec<Value>, AllocError> {
@@ -76,9 +75,11 @@ fn lines(alloc: Global, which: usize) -> Result<Text, AllocError> {
 }
 
 #[test]
-fn replies_have_their_lines(rt: HostRuntime) -> Result<(), Fail> {
+fn replies_have_their_lines(rt: HostRuntime) {
     for (which, wanted) in LINES.iter().enumerate() {
-        assert_eq!(rt; lines(rt.alloc(), which)?.as_str(), *wanted);
+        assert_eq!(rt;
+            lines(rt.alloc(), which).expect(&rt, "memory").as_str(),
+            *wanted
+        );
     }
-    Ok(())
 }

@@ -3,7 +3,6 @@
 use own_base::{Text, Value};
 use sql_print::print_value;
 use std::alloc::{AllocError, Global};
-use std::test::Fail;
 
 /// A text as a reply shows it.
 fn shown(alloc: Global, text: &str) -> Result<Text, AllocError> {
@@ -12,7 +11,7 @@ fn shown(alloc: Global, text: &str) -> Result<Text, AllocError> {
 }
 
 #[test]
-fn texts_are_shown_on_one_line(rt: HostRuntime) -> Result<(), Fail> {
+fn texts_are_shown_on_one_line(rt: HostRuntime) {
     for (text, wanted) in [
         ("", "''"),
         ("Ann", "'Ann'"),
@@ -28,9 +27,11 @@ fn texts_are_shown_on_one_line(rt: HostRuntime) -> Result<(), Fail> {
             "'\u{e9}''\u{20ac}\\5c\u{1f600}'",
         ),
     ] {
-        assert_eq!(rt; shown(rt.alloc(), text)?.as_str(), wanted);
+        assert_eq!(rt;
+            shown(rt.alloc(), text).expect(&rt, "memory").as_str(),
+            wanted
+        );
     }
-    Ok(())
 }
 
 /// What each number of `number` is shown as.
@@ -55,9 +56,13 @@ fn number(which: usize) -> Value {
 }
 
 #[test]
-fn numbers_are_shown_in_decimal(rt: HostRuntime) -> Result<(), Fail> {
+fn numbers_are_shown_in_decimal(rt: HostRuntime) {
     for (which, wanted) in NUMBERS.iter().enumerate() {
-        assert_eq!(rt; print_value(rt.alloc(), &number(which))?.as_str(), *wanted);
+        assert_eq!(rt;
+            print_value(rt.alloc(), &number(which))
+                .expect(&rt, "memory")
+                .as_str(),
+            *wanted
+        );
     }
-    Ok(())
 }

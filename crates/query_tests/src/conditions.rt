@@ -3,13 +3,14 @@
 use own_base::{Boxed, ColNo, List, Row, Value};
 use own_model::{BoundCond, BoundOperand, Cmp, Truth};
 use pred_eval::{keeps, truth};
-use std::alloc::{AllocError, Global};
-use std::test::Fail;
+use std::process::Abort;
 
 /// The row 1, 0, NULL.
-fn row(alloc: Global) -> Result<Row, AllocError> {
-    let values = vec![in alloc; Value::Int(1), Value::Int(0), Value::Null]?;
-    Ok(Row::from_values(List::from_vec(values)))
+fn row(rt: &(impl Abort + AllocGlobal)) -> Row {
+    let values = vec![in rt.alloc(); Value::Int(1), Value::Int(0), Value::Null].expect(
+        rt, "memory",
+    );
+    Row::from_values(List::from_vec(values))
 }
 
 /// A comparison of a column with a literal.
@@ -23,9 +24,9 @@ fn is_one(column: u32) -> BoundCond {
 }
 
 /// Whether two columns are 1 each.
-fn two(alloc: Global, left: u32, right: u32) -> Result<List<BoundCond>, AllocError> {
-    let parts = vec![in alloc; is_one(left), is_one(right)]?;
-    Ok(List::from_vec(parts))
+fn two(rt: &(impl Abort + AllocGlobal), left: u32, right: u32) -> List<BoundCond> {
+    let parts = vec![in rt.alloc(); is_one(left), is_one(right)].expect(rt, "memory");
+    List::from_vec(parts)
 }
 
 /// Two columns, of which 0 is 1, 1 isn't and 2 is NULL: whether both are 1, and whether one is.
@@ -43,17 +44,20 @@ const JOINED: [Joined; 9] = [
     (2, 2, Truth::Unknown, Truth::Unknown),
 ];
 
+/// Whether two columns stand so, joined.
+fn are_joined(rt: &(impl Abort + AllocGlobal), row: &Row, case: &Joined) -> bool {
+    let (left, right, every, some) = *case;
+    let all = BoundCond::Every(two(rt, left, right));
+    let any = BoundCond::Some1(two(rt, left, right));
+    truth(&all, row, None) == every && truth(&any, row, None) == some
+}
+
 #[test]
-fn parts_are_joined(rt: HostRuntime) -> Result<(), Fail> {
-    let alloc = rt.alloc();
-    let row = row(alloc)?;
-    for (left, right, every, some) in JOINED {
-        let cond = BoundCond::Every(two(alloc, left, right)?);
-        assert_eq!(rt; truth(&cond, &row, None), every, "{left} AND {right}");
-        let cond = BoundCond::Some1(two(alloc, left, right)?);
-        assert_eq!(rt; truth(&cond, &row, None), some, "{left} OR {right}");
+fn parts_are_joined(rt: HostRuntime) {
+    let row = row(&rt);
+    for case in &JOINED {
+        assert!(rt; are_joined(&rt, &row, case), "{} and {}", case.0, case.1);
     }
-    Ok(())
 }
 
 /// Whether a column is 1, and whether it isn't.
@@ -63,21 +67,30 @@ const NEGATED: [(u32, Truth, Truth); 3] = [
     (2, Truth::Unknown, Truth::Unknown),
 ];
 
+/// How a column stands where it is to be 1, and whether the row is kept.
+fn plain(row: &Row, column: u32) -> (Truth, bool) {
+    let cond = is_one(column);
+    (truth(&cond, row, None), keeps(Some(&cond), row, None))
+}
+
+/// How a column stands where it is not to be 1, and whether the row is kept.
+fn negated(rt: &(impl Abort + AllocGlobal), row: &Row, column: u32) -> (Truth, bool) {
+    let cond = BoundCond::Not(Boxed::new(rt.alloc(), is_one(column)).expect(rt, "memory"));
+    (truth(&cond, row, None), keeps(Some(&cond), row, None))
+}
+
 /// A row is kept where its condition is True, and not where it is Unknown.
 #[test]
-fn conditions_are_negated(rt: HostRuntime) -> Result<(), Fail> {
-    let alloc = rt.alloc();
-    let row = row(alloc)?;
+fn conditions_are_negated(rt: HostRuntime) {
+    let row = row(&rt);
     assert!(rt; keeps(None, &row, None));
-    for (column, holds, negated) in NEGATED {
-        let cond = is_one(column);
-        assert_eq!(rt; truth(&cond, &row, None), holds, "{column}");
-        assert_eq!(rt; keeps(Some(&cond), &row, None), column == 0, "{column}");
-        let cond = BoundCond::Not(Boxed::new(alloc, cond)?);
-        assert_eq!(rt; truth(&cond, &row, None), negated, "NOT {column}");
-        assert_eq!(rt; keeps(Some(&cond), &row, None), column == 1, "NOT {column}");
+    for (column, holds, fails) in &NEGATED {
+        assert!(rt; plain(&row, *column) == (*holds, *column == 0), "{column}");
+        assert!(rt;
+            negated(&rt, &row, *column) == (*fails, *column == 1),
+            "NOT {column}"
+        );
     }
-    Ok(())
 }
 
 /// Signs, and whether each takes 0 and 1, 1 and 1, 1 and 0.
@@ -90,56 +103,82 @@ const TAKEN: [(Cmp, [Truth; 3]); 6] = [
     (Cmp::Ge, [Truth::False, Truth::True, Truth::True]),
 ];
 
+/// How a comparison stands.
+fn standing(row: &Row, cond: BoundCond) -> Truth {
+    truth(&cond, row, None)
+}
+
 #[test]
-fn signs_take_values(rt: HostRuntime) -> Result<(), Fail> {
-    let row = row(rt.alloc())?;
-    for (sign, [less, equal, greater]) in TAKEN {
-        let with_one = Value::Int(1);
-        for (column, number, taken) in [(1, 1, less), (0, 1, equal), (0, 0, greater)] {
-            let cond = compared(column, sign, Value::Int(number));
-            assert_eq!(rt; truth(&cond, &row, None), taken, "{sign:?}");
-        }
+fn signs_take_values(rt: HostRuntime) {
+    let row = row(&rt);
+    for (sign, taken) in &TAKEN {
+        let [less, equal, greater] = *taken;
+        assert!(rt;
+            standing(&row, compared(1, *sign, Value::Int(1))) == less,
+            "{sign:?}"
+        );
+        assert!(rt;
+            standing(&row, compared(0, *sign, Value::Int(1))) == equal,
+            "{sign:?}"
+        );
+        assert!(rt;
+            standing(&row, compared(0, *sign, Value::Int(0))) == greater,
+            "{sign:?}"
+        );
     }
-    Ok(())
+}
+
+/// Whether a comparison with NULL is Unknown: of a column with a literal.
+fn are_unknown(row: &Row, sign: Cmp) -> bool {
+    standing(row, compared(0, sign, Value::Null)) == Truth::Unknown
+        && standing(row, compared(2, sign, Value::Int(1))) == Truth::Unknown
+        && standing(row, compared(2, sign, Value::Null)) == Truth::Unknown
+}
+
+/// A comparison of two columns.
+fn paired(left: u32, sign: Cmp, right: u32) -> BoundCond {
+    BoundCond::Compare(ColNo(left), sign, BoundOperand::Column(ColNo(right)))
+}
+
+/// Whether a comparison with NULL is Unknown: of two columns.
+fn are_pairs_unknown(row: &Row, sign: Cmp) -> bool {
+    standing(row, paired(0, sign, 2)) == Truth::Unknown
+        && standing(row, paired(2, sign, 0)) == Truth::Unknown
+        && standing(row, paired(2, sign, 2)) == Truth::Unknown
 }
 
 /// A comparison with NULL is Unknown whatever its sign.
 #[test]
-fn null_is_compared_with_nothing(rt: HostRuntime) -> Result<(), Fail> {
-    let row = row(rt.alloc())?;
-    for (sign, _) in TAKEN {
-        for cond in [
-            compared(0, sign, Value::Null),
-            compared(2, sign, Value::Int(1)),
-            compared(2, sign, Value::Null),
-            BoundCond::Compare(ColNo(0), sign, BoundOperand::Column(ColNo(2))),
-            BoundCond::Compare(ColNo(2), sign, BoundOperand::Column(ColNo(0))),
-            BoundCond::Compare(ColNo(2), sign, BoundOperand::Column(ColNo(2))),
-        ] {
-            assert_eq!(rt; truth(&cond, &row, None), Truth::Unknown, "{cond:?}");
-        }
+fn null_is_compared_with_nothing(rt: HostRuntime) {
+    let row = row(&rt);
+    for (sign, _) in &TAKEN {
+        assert!(rt; are_unknown(&row, *sign), "{sign:?}");
+        assert!(rt; are_pairs_unknown(&row, *sign), "{sign:?}");
     }
-    Ok(())
 }
+
+/// Whether a pair of rows is kept where a column is to be NULL, or not to be.
+fn is_kept(left: &Row, right: &Row, column: u32, not: bool) -> bool {
+    let cond = BoundCond::IsNull(ColNo(column), not);
+    keeps(Some(&cond), left, Some(right))
+}
+
+/// Columns of a pair, and whether each is NULL.
+const NULLS: [(u32, bool); 5] = [(0, false), (1, false), (2, true), (3, false), (5, true)];
 
 /// IS NULL and IS NOT NULL are True or False. The columns of a pair's right row follow on those of its left one.
 #[test]
-fn null_is_found(rt: HostRuntime) -> Result<(), Fail> {
-    let left = row(rt.alloc())?;
-    let right = row(rt.alloc())?;
-    for (column, is_null) in [(0, false), (1, false), (2, true), (3, false), (5, true)] {
-        let cond = BoundCond::IsNull(ColNo(column), false);
-        assert_eq!(rt;
-            keeps(Some(&cond), &left, Some(&right)),
-            is_null,
+fn null_is_found(rt: HostRuntime) {
+    let left = row(&rt);
+    let right = row(&rt);
+    for (column, is_null) in &NULLS {
+        assert!(rt;
+            is_kept(&left, &right, *column, false) == *is_null,
             "{column}"
         );
-        let cond = BoundCond::IsNull(ColNo(column), true);
-        assert_eq!(rt;
-            keeps(Some(&cond), &left, Some(&right)),
-            !is_null,
+        assert!(rt;
+            is_kept(&left, &right, *column, true) == !*is_null,
             "{column}"
         );
     }
-    Ok(())
 }

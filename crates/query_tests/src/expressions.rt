@@ -3,13 +3,12 @@
 use own_base::{ColNo, List, Row, Value};
 use own_model::BoundExpr;
 use pred_eval::{ValueFault, value};
-use std::alloc::{AllocError, Global};
-use std::test::Fail;
+use std::process::Abort;
 
 /// The row of this number and NULL.
-fn row(alloc: Global, number: i64) -> Result<Row, AllocError> {
-    let values = vec![in alloc; Value::Int(number), Value::Null]?;
-    Ok(Row::from_values(List::from_vec(values)))
+fn row(rt: &(impl Abort + AllocGlobal), number: i64) -> Row {
+    let values = vec![in rt.alloc(); Value::Int(number), Value::Null].expect(rt, "memory");
+    Row::from_values(List::from_vec(values))
 }
 
 /// A number, a number more or less, and what that is; none is out of range.
@@ -39,42 +38,40 @@ const LESS: [Case; 8] = [
 
 /// The value of an expression, or whether it is out of range.
 fn given(
-    alloc: Global,
+    rt: &(impl Abort + AllocGlobal),
     expr: &BoundExpr,
     number: i64,
-) -> Result<Result<Value, ValueFault>, AllocError> {
-    let row = row(alloc, number)?;
-    Ok(value(alloc, expr, &row))
+) -> Result<Value, ValueFault> {
+    let row = row(rt, number);
+    value(rt.alloc(), expr, &row)
 }
 
 #[test]
-fn sums_keep_to_their_range(rt: HostRuntime) -> Result<(), Fail> {
-    for (number, more, sum) in MORE {
-        let wanted = sum.map(Value::Int).ok_or(ValueFault::Range);
-        let given = given(rt.alloc(), &BoundExpr::Plus(ColNo(0), more), number)?;
+fn sums_keep_to_their_range(rt: HostRuntime) {
+    for (number, more, sum) in &MORE {
+        let wanted = (*sum).map(Value::Int).ok_or(ValueFault::Range);
+        let given = given(&rt, &BoundExpr::Plus(ColNo(0), *more), *number);
         assert_eq!(rt; given, wanted, "{number} + {more}");
     }
-    for (number, less, rest) in LESS {
-        let wanted = rest.map(Value::Int).ok_or(ValueFault::Range);
-        let given = given(rt.alloc(), &BoundExpr::Minus(ColNo(0), less), number)?;
+    for (number, less, rest) in &LESS {
+        let wanted = (*rest).map(Value::Int).ok_or(ValueFault::Range);
+        let given = given(&rt, &BoundExpr::Minus(ColNo(0), *less), *number);
         assert_eq!(rt; given, wanted, "{number} - {less}");
     }
-    Ok(())
+}
+
+/// Whether an expression gives a value over the row of 5.
+fn gives(rt: &(impl Abort + AllocGlobal), expr: BoundExpr, wanted: Value) -> bool {
+    given(rt, &expr, 5) == Ok(wanted)
 }
 
 /// A sum with NULL is NULL, and a literal and a column are given as they are.
 #[test]
-fn values_are_given(rt: HostRuntime) -> Result<(), Fail> {
-    for (expr, wanted) in [
-        (BoundExpr::Plus(ColNo(1), i64::MAX), Value::Null),
-        (BoundExpr::Minus(ColNo(1), 1), Value::Null),
-        (BoundExpr::Literal(Value::Int(7)), Value::Int(7)),
-        (BoundExpr::Literal(Value::Null), Value::Null),
-        (BoundExpr::Column(ColNo(0)), Value::Int(5)),
-        (BoundExpr::Column(ColNo(1)), Value::Null),
-    ] {
-        let given = given(rt.alloc(), &expr, 5)?;
-        assert_eq!(rt; given, Ok(wanted), "{expr:?}");
-    }
-    Ok(())
+fn values_are_given(rt: HostRuntime) {
+    assert!(rt; gives(&rt, BoundExpr::Plus(ColNo(1), i64::MAX), Value::Null));
+    assert!(rt; gives(&rt, BoundExpr::Minus(ColNo(1), 1), Value::Null));
+    assert!(rt; gives(&rt, BoundExpr::Literal(Value::Int(7)), Value::Int(7)));
+    assert!(rt; gives(&rt, BoundExpr::Literal(Value::Null), Value::Null));
+    assert!(rt; gives(&rt, BoundExpr::Column(ColNo(0)), Value::Int(5)));
+    assert!(rt; gives(&rt, BoundExpr::Column(ColNo(1)), Value::Null));
 }

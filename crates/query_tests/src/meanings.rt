@@ -7,10 +7,7 @@ use own_model::{Bound, FootItem};
 use plan_bind::footprint;
 use pred_eval::pinned_key;
 use sql_reader::read_statement;
-use std::alloc::Global;
-use std::mem::drop;
 use std::process::Abort;
-use std::test::Fail;
 
 const CREATES: &str = "\
 CREATE TABLE u (id INT PRIMARY KEY) => ok
@@ -72,125 +69,104 @@ n = 1 AND (id = 5) => Some(Int(5))
 id IS NULL => None";
 
 /// The derived text that a row represents.
-fn written_out(alloc: Global, row: &str) -> Result<String, Fail> {
-    let mut text = String::new(alloc);
+fn written_out(rt: &(impl Abort + AllocGlobal), row: &str) -> String {
+    let mut text = String::new(rt.alloc());
     for letter in row.chars() {
         match letter {
-            '<' => text.push_str("ColNo(")?,
-            '>' => text.push(')')?,
-            '[' => text.push_str("List { items: [")?,
-            ']' => text.push_str("] }")?,
-            _ => text.push(letter)?,
+            '<' => text.push_str("ColNo(").expect(rt, "memory"),
+            '>' => text.push(')').expect(rt, "memory"),
+            '[' => text.push_str("List { items: [").expect(rt, "memory"),
+            ']' => text.push_str("] }").expect(rt, "memory"),
+            _ => text.push(letter).expect(rt, "memory"),
         }
     }
-    Ok(text)
+    text
 }
 
 /// What a text means.
-fn meant(rt: &(impl Abort + AllocGlobal), small: &Small, text: &str) -> Result<Bound, Fail> {
+fn meant(rt: &(impl Abort + AllocGlobal), small: &Small, text: &str) -> Bound {
     assert!(rt; text.len() < 10000);
-    let statement = read_statement(rt.alloc(), text)?;
-    let answer = bound(rt, small, &statement);
-    drop(statement);
-    answer.map_err(|_| Fail::from("refused"))
+    let statement = read_statement(rt.alloc(), text).expect(rt, "memory");
+    bound(rt, small, &statement).expect(rt, "a meaning")
+}
+
+/// Adds an item of a footprint, as a row has it.
+fn report(rt: &(impl Abort + AllocGlobal), text: &mut String, item: &FootItem) {
+    let sign = if item.write { "w" } else { "r" };
+    let reported = format!(in rt.alloc(); "{sign}{} {:?};", item.table.0, item.key).expect(
+        rt, "memory",
+    );
+    text.push_str(reported.as_str()).expect(rt, "memory");
 }
 
 /// A footprint as a row has it.
-fn reported(alloc: Global, items: &[FootItem]) -> Result<String, Fail> {
+fn reported(rt: &(impl Abort + AllocGlobal), items: &[FootItem]) -> String {
+    let mut text = String::new(rt.alloc());
     if items.is_empty() {
-        return Ok(format!(in alloc; "none")?);
+        text.push_str("none").expect(rt, "memory");
     }
-    let mut text = String::new(alloc);
     for item in items {
-        let sign = if item.write { "w" } else { "r" };
-        let reported = format!(in alloc; "{sign}{} {:?};", item.table.0, item.key)?;
-        text.push_str(reported.as_str())?;
+        report(rt, &mut text, item);
     }
-    Ok(text)
+    text
 }
 
 /// One row of `MEANINGS`.
-fn check_meaning(
-    rt: &(impl Abort + AllocGlobal),
-    small: &Small,
-    text: &str,
-    wanted: &str,
-) -> Result<(), Fail> {
-    let bound = meant(rt, small, text)?;
-    let reported = format!(in rt.alloc(); "{bound:?}");
-    drop(bound);
-    let reported = reported?;
-    let wanted = written_out(rt.alloc(), wanted)?;
+fn check_meaning(rt: &(impl Abort + AllocGlobal), small: &Small, text: &str, wanted: &str) {
+    let bound = meant(rt, small, text);
+    let reported = format!(in rt.alloc(); "{bound:?}").expect(rt, "memory");
+    let wanted = written_out(rt, wanted);
     assert_eq!(rt; reported.as_str(), wanted.as_str(), "{text}");
-    Ok(())
 }
 
 #[test]
-fn statements_have_meanings(rt: HostRuntime) -> Result<(), Fail> {
+fn statements_have_meanings(rt: HostRuntime) {
     let mut small = Small::new(rt.alloc());
-    check_calls(&rt, &mut small, CREATES)?;
+    check_calls(&rt, &mut small, CREATES);
     for row in MEANINGS.split('\n') {
-        if let Some((text, wanted)) = parts(row)? {
-            check_meaning(&rt, &small, text, wanted)?;
+        if let Some((text, wanted)) = parts(&rt, row) {
+            check_meaning(&rt, &small, text, wanted);
         }
     }
-    Ok(())
 }
 
 /// One row of `FOOTPRINTS`.
-fn check_footprint(
-    rt: &(impl Abort + AllocGlobal),
-    small: &Small,
-    text: &str,
-    wanted: &str,
-) -> Result<(), Fail> {
-    let bound = meant(rt, small, text)?;
-    let items = footprint(rt.alloc(), &small.schema, &bound);
-    drop(bound);
-    let reported = reported(rt.alloc(), items?.items())?;
+fn check_footprint(rt: &(impl Abort + AllocGlobal), small: &Small, text: &str, wanted: &str) {
+    let bound = meant(rt, small, text);
+    let items = footprint(rt.alloc(), &small.schema, &bound).expect(rt, "memory");
+    let reported = reported(rt, items.items());
     assert_eq!(rt; reported.as_str(), wanted, "{text}");
-    Ok(())
 }
 
 #[test]
-fn statements_have_footprints(rt: HostRuntime) -> Result<(), Fail> {
+fn statements_have_footprints(rt: HostRuntime) {
     let mut small = Small::new(rt.alloc());
-    check_calls(&rt, &mut small, CREATES)?;
+    check_calls(&rt, &mut small, CREATES);
     for row in FOOTPRINTS.split('\n') {
-        if let Some((text, wanted)) = parts(row)? {
-            check_footprint(&rt, &small, text, wanted)?;
+        if let Some((text, wanted)) = parts(&rt, row) {
+            check_footprint(&rt, &small, text, wanted);
         }
     }
-    Ok(())
 }
 
 /// One row of `PINNED`.
-fn check_pin(
-    rt: &(impl Abort + AllocGlobal),
-    small: &Small,
-    cond: &str,
-    wanted: &str,
-) -> Result<(), Fail> {
-    let text = format!(in rt.alloc(); "DELETE FROM t WHERE {cond}")?;
-    let Bound::Delete { cond, .. } = meant(rt, small, text.as_str())? else {
-        return Err(Fail::from("no DELETE"));
+fn check_pin(rt: &(impl Abort + AllocGlobal), small: &Small, cond: &str, wanted: &str) {
+    let text = format!(in rt.alloc(); "DELETE FROM t WHERE {cond}").expect(rt, "memory");
+    let Bound::Delete { cond, .. } = meant(rt, small, text.as_str()) else {
+        panic!(rt; "no DELETE");
     };
-    let key = pinned_key(rt.alloc(), cond.as_ref(), ColNo(0));
-    drop(cond);
-    let key = key?;
-    let reported = format!(in rt.alloc(); "{key:?}")?;
+    let key = pinned_key(rt.alloc(), cond.as_ref(), ColNo(0)).expect(rt, "memory");
+    let reported = format!(in rt.alloc(); "{key:?}").expect(rt, "memory");
     assert_eq!(rt; reported.as_str(), wanted, "{text}");
-    Ok(())
 }
 
 #[test]
-fn conditions_pin_keys(rt: HostRuntime) -> Result<(), Fail> {
+fn conditions_pin_keys(rt: HostRuntime) {
     let mut small = Small::new(rt.alloc());
-    check_calls(&rt, &mut small, CREATES)?;
+    check_calls(&rt, &mut small, CREATES);
     for row in PINNED.split('\n') {
-        if let Some((cond, wanted)) = parts(row)? {
-            check_pin(&rt, &small, cond, wanted)?;
+        if let Some((cond, wanted)) = parts(&rt, row) {
+            check_pin(&rt, &small, cond, wanted);
         }
     }
-    Ok(())
 }

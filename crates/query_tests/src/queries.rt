@@ -1,9 +1,6 @@
 //! Selects over small stores. The rows of each were worked out by hand.
 
-use crate::calls::check_calls;
-use crate::small::Small;
-use std::process::Abort;
-use std::test::Fail;
+use crate::calls::check_tables;
 
 const JOINS: &str = "\
 CREATE TABLE a (id INT PRIMARY KEY, k INT) => ok
@@ -66,31 +63,22 @@ INSERT INTO comments VALUES (1, NULL, 2, 'nice'), (2, NULL, 3, 'late') => ok 2
 SELECT * FROM per_post => rows 1 / NULL|2
 SELECT * FROM shown => rows 0";
 
-/// The calls of some tables, over one small store.
-fn check_tables(rt: &(impl Abort + AllocGlobal), tables: &[&str]) -> Result<(), Fail> {
-    let mut small = Small::new(rt.alloc());
-    for rows in tables {
-        check_calls(rt, &mut small, rows)?;
-    }
-    Ok(())
+#[test]
+fn joins_give_rows(rt: HostRuntime) {
+    check_tables(&rt, &[JOINS]);
 }
 
 #[test]
-fn joins_give_rows(rt: HostRuntime) -> Result<(), Fail> {
-    check_tables(&rt, &[JOINS])
+fn selects_give_rows(rt: HostRuntime) {
+    check_tables(&rt, &[ROWS]);
 }
 
 #[test]
-fn selects_give_rows(rt: HostRuntime) -> Result<(), Fail> {
-    check_tables(&rt, &[ROWS])
+fn views_show_what_is_there(rt: HostRuntime) {
+    check_tables(&rt, &[CREATES, BEFORE]);
 }
 
 #[test]
-fn views_show_what_is_there(rt: HostRuntime) -> Result<(), Fail> {
-    check_tables(&rt, &[CREATES, BEFORE])
-}
-
-#[test]
-fn views_show_what_is_left(rt: HostRuntime) -> Result<(), Fail> {
-    check_tables(&rt, &[CREATES, AFTER])
+fn views_show_what_is_left(rt: HostRuntime) {
+    check_tables(&rt, &[CREATES, AFTER]);
 }

@@ -1,9 +1,8 @@
 //! What binding refuses. Where two faults stand in a statement, the one of the lower number is reported, and of one number
 //! the first in the text.
 
-use crate::calls::check_calls;
+use crate::calls::{check_calls, check_tables};
 use crate::small::Small;
-use std::test::Fail;
 
 const CREATES: &str = "\
 CREATE TABLE t (id INT PRIMARY KEY, n INT, s TEXT, r TEXT, q INT NOT NULL) => ok
@@ -213,21 +212,19 @@ const TABLE: &str =
     "CREATE TABLE t (id INT PRIMARY KEY, n INT, s TEXT, r TEXT, q INT NOT NULL) => ok";
 
 #[test]
-fn the_first_fault_of_the_lowest_number_is_reported(rt: HostRuntime) -> Result<(), Fail> {
-    let mut small = Small::new(rt.alloc());
-    for lines in [CREATES, SELECTS, INSERTS, UPDATES, OTHERS, VIEWS] {
-        check_calls(&rt, &mut small, lines)?;
-    }
-    Ok(())
+fn the_first_fault_of_the_lowest_number_is_reported(rt: HostRuntime) {
+    check_tables(&rt, &[CREATES, SELECTS, INSERTS, UPDATES, OTHERS, VIEWS]);
 }
 
 #[test]
-fn views_are_few(rt: HostRuntime) -> Result<(), Fail> {
+fn views_are_few(rt: HostRuntime) {
     let mut small = Small::new(rt.alloc());
-    check_calls(&rt, &mut small, TABLE)?;
+    check_calls(&rt, &mut small, TABLE);
     for number in 0..32 {
-        let line = format!(in rt.alloc(); "CREATE VIEW a{number} AS SELECT n FROM t => ok")?;
-        check_calls(&rt, &mut small, line.as_str())?;
+        let line = format!(in rt.alloc(); "CREATE VIEW a{number} AS SELECT n FROM t => ok").expect(
+            &rt, "memory",
+        );
+        check_calls(&rt, &mut small, line.as_str());
     }
-    check_calls(&rt, &mut small, FULL)
+    check_calls(&rt, &mut small, FULL);
 }

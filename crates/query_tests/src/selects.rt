@@ -1,15 +1,17 @@
-//! The reply to a select over a small store, from the call that is for its source.
+//! The reply to a select over a small store.
 
-ghost use Rattle.std.specs.Prelude.{◌<◌, length, MatchBool, ⊤};
+ghost use Rattle.std.specs.Prelude.{◌≡◌, ◌<◌, false, length, MatchBool, ⊤};
+ghost use Rattle.std.specs.List.{AllByRecursion};
 ghost use Rattle.query_eval.specs.Sources.{IsBaseOf};
+ghost use Rattle.query_eval.specs.Views.{AreViewsThere, ReadsTables};
+ghost use Rattle.readable_model.specs.Sources.{IsThere};
 
 use crate::small::{Shown, Small};
 use crate::tables::are_tables;
-use own_base::{TableNo, ViewNo};
-use own_model::{BoundSelect, Reply, Schema, Source1};
-use query_eval::{group, join, select, select_rows, view_rows};
+use own_base::TableNo;
+use own_model::{BoundSelect, Reply, Schema, Source1, ViewDef};
+use query_eval::select_reply;
 use std::process::Abort;
-use std::test::Fail;
 
 fn is_there(schema: &Schema, table: TableNo) -> bool
     ensures { MatchBool result (table.0 < length schema.now.tables) ⊤ }
@@ -28,48 +30,41 @@ fn is_base_of(schema: &Schema, source: &Source1) -> bool
     }
 }
 
-/// The reply to a select from a view, which isn't grouped.
-fn from_view(
-    rt: &(impl Abort + AllocGlobal),
-    small: &Small,
-    view: ViewNo,
-    query: &BoundSelect,
-) -> Result<Reply, Fail> {
-    let views = small.schema.views.items();
-    let view = views.get(view.0 as usize).ok_or("no view")?;
-    assert!(rt; is_base_of(&small.schema, &view.query.source));
-    assert!(rt; are_tables(small) && !query.grouped);
-    let shown = Shown { small };
-    let rows = view_rows(rt.alloc(), &shown, view)?;
-    Ok(select_rows(rt.alloc(), rows.items(), query)?)
+/// Whether each of these views reads tables that are there.
+fn read_tables(schema: &Schema, views: &[ViewDef]) -> bool
+    ensures { MatchBool result (AllByRecursion (ReadsTables schema.now) views.now) ⊤ }
+{
+    match views.split_first() {
+        Some((view, rest)) => {
+            is_base_of(schema, &view.query.source) && read_tables(schema, rest)
+        }
+        None => true,
+    }
 }
 
-/// The reply to a select from a table, or from two.
-fn from_base(
-    rt: &(impl Abort + AllocGlobal),
-    small: &Small,
-    query: &BoundSelect,
-) -> Result<Reply, Fail> {
-    assert!(rt; is_base_of(&small.schema, &query.source));
-    assert!(rt; are_tables(small));
-    let shown = Shown { small };
-    if query.grouped {
-        return Ok(group(rt.alloc(), &shown, query)?);
-    }
+/// Whether each view reads tables that are there.
+fn are_views_there(schema: &Schema) -> bool
+    ensures { MatchBool result (AreViewsThere schema.now) ⊤ }
+{
+    read_tables(schema, schema.views.items())
+}
+
+/// Whether the source of a select is there.
+fn is_source_there(schema: &Schema, query: &BoundSelect) -> bool
+    ensures { MatchBool result (IsThere schema.now query.now) ⊤ }
+{
     match &query.source {
-        Source1::Pair { .. } => Ok(join(rt.alloc(), &shown, query)?),
-        _ => Ok(select(rt.alloc(), &shown, query)?),
+        Source1::Table(table) => is_there(schema, *table),
+        Source1::Pair { left, right, .. } => is_there(schema, *left) && is_there(schema, *right),
+        Source1::View(view) => { (view.0 as usize) < schema.views.items().len() && !query.grouped }
     }
 }
 
 /// The reply to a select.
-pub fn reply_to(
-    rt: &(impl Abort + AllocGlobal),
-    small: &Small,
-    query: &BoundSelect,
-) -> Result<Reply, Fail> {
-    match &query.source {
-        Source1::View(view) => from_view(rt, small, *view, query),
-        _ => from_base(rt, small, query),
-    }
+pub fn reply_to(rt: &(impl Abort + AllocGlobal), small: &Small, query: &BoundSelect) -> Reply {
+    assert!(rt; are_tables(small));
+    assert!(rt; are_views_there(&small.schema));
+    assert!(rt; is_source_there(&small.schema, query));
+    let shown = Shown { small };
+    select_reply(rt.alloc(), &shown, query).expect(rt, "memory")
 }

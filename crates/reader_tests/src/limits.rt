@@ -5,7 +5,6 @@
 use crate::check::{check_limit, check_rows};
 use own_model::LimitName;
 use std::process::Abort;
-use std::test::Fail;
 
 /// Conditions of at most 64 levels, and faults in front of level 65 or in place of it.
 const NOT_NESTED: [&str; 17] = [
@@ -192,27 +191,25 @@ const LONG_CALLS: [&str; 4] = [
     "delete from --{65523 -}^",
 ];
 
-fn check_names(rt: &(impl Abort + AllocGlobal)) -> Result<(), Fail> {
+fn check_names(rt: &(impl Abort + AllocGlobal)) {
     for row in NAMES {
-        let short = row.replace(rt.alloc(), 'N', "{63 A}_")?;
-        check_rows(rt, &[short.as_str()])?;
-        let long = row.replace(rt.alloc(), 'N', "{64 A}_")?;
-        check_limit(rt, &[long.as_str()], LimitName::Name)?;
+        let short = row.replace(rt.alloc(), 'N', "{63 A}_").expect(rt, "memory");
+        check_rows(rt, &[short.as_str()]);
+        let long = row.replace(rt.alloc(), 'N', "{64 A}_").expect(rt, "memory");
+        check_limit(rt, &[long.as_str()], LimitName::Name);
     }
-    Ok(())
 }
 
 #[test]
-fn limits(rt: HostRuntime) -> Result<(), Fail> {
-    check_rows(&rt, &NOT_NESTED)?;
-    check_limit(&rt, &NESTED, LimitName::Nesting)?;
-    check_rows(&rt, &FEW_ITEMS)?;
-    check_limit(&rt, &MANY_ITEMS, LimitName::Items)?;
-    check_rows(&rt, &SHORT_TEXTS)?;
-    check_limit(&rt, &LONG_TEXTS, LimitName::Text)?;
-    check_names(&rt)?;
-    check_rows(&rt, &MISPLACED_NAMES)?;
-    check_limit(&rt, &LONG_NAMES, LimitName::Name)?;
-    check_rows(&rt, &LONG_CALLS)?;
-    Ok(())
+fn limits(rt: HostRuntime) {
+    check_rows(&rt, &NOT_NESTED);
+    check_limit(&rt, &NESTED, LimitName::Nesting);
+    check_rows(&rt, &FEW_ITEMS);
+    check_limit(&rt, &MANY_ITEMS, LimitName::Items);
+    check_rows(&rt, &SHORT_TEXTS);
+    check_limit(&rt, &LONG_TEXTS, LimitName::Text);
+    check_names(&rt);
+    check_rows(&rt, &MISPLACED_NAMES);
+    check_limit(&rt, &LONG_NAMES, LimitName::Name);
+    check_rows(&rt, &LONG_CALLS);
 }

@@ -2,9 +2,7 @@
 
 use crate::check::{Answer, answer_of};
 use crate::words::KEYWORDS;
-use std::alloc::Global;
 use std::process::Abort;
-use std::test::Fail;
 
 // A row is a statement, its places parted by `|`. First in a place stands the statement's token there, and after it
 // what else goes on there: tokens, or a small word for several of them (`several`); `end` says that the text may end
@@ -200,57 +198,57 @@ fn lists(place: &str, token: &str) -> bool {
 }
 
 /// The statement's tokens from one place of the row up to another, joined.
-fn joined(alloc: Global, row: &str, from: usize, to: usize, glue: &str) -> Result<String, Fail> {
-    let mut text = String::new(alloc);
+fn joined(
+    rt: &(impl Abort + AllocGlobal),
+    row: &str,
+    from: usize,
+    to: usize,
+    glue: &str,
+) -> String {
+    let mut text = String::new(rt.alloc());
     for (at, place) in row.split('|').enumerate() {
         let token = place.split_whitespace().next().unwrap_or("no token");
         if from <= at && at < to && token != "$" {
             if from < at {
-                text.push_str(glue)?;
+                text.push_str(glue).expect(rt, "memory");
             }
-            text.push_str(token)?;
+            text.push_str(token).expect(rt, "memory");
         }
     }
-    Ok(text)
+    text
 }
 
 /// What the text of these parts gives.
-fn answer_to(rt: &(impl Abort + AllocGlobal), parts: &[&str]) -> Result<Answer, Fail> {
+fn answer_to(rt: &(impl Abort + AllocGlobal), parts: &[&str]) -> Answer {
     let mut text = String::new(rt.alloc());
     for part in parts {
-        text.push_str(part)?;
+        text.push_str(part).expect(rt, "memory");
     }
     assert!(rt; text.len() < 100000);
-    Ok(answer_of(rt.alloc(), text.as_str()))
+    answer_of(rt.alloc(), text.as_str())
 }
 
 /// The answer at the end of these parts.
-fn at_end(parts: &[&str]) -> Result<Answer, Fail> {
+fn at_end(rt: &impl Abort, parts: &[&str]) -> Answer {
     let mut len: u32 = 0;
     for part in parts {
-        len = len.saturating_add(u32::try_from(part.len())?);
+        len = len.saturating_add(u32::try_from(part.len()).expect(rt, "a length"));
     }
-    Ok(Answer::At(len))
+    Answer::At(len)
 }
 
 /// The token after the text: it goes on exactly where the place lists it.
-fn goes_on(
-    rt: &(impl Abort + AllocGlobal),
-    before: &str,
-    token: &str,
-    place: &str,
-) -> Result<(), Fail> {
-    let answer = answer_to(rt, &[before, token])?;
+fn goes_on(rt: &(impl Abort + AllocGlobal), before: &str, token: &str, place: &str) {
+    let answer = answer_to(rt, &[before, token]);
     if lists(place, token) {
-        let early = at_end(&[before, token])?;
+        let early = at_end(rt, &[before, token]);
         assert!(rt;
             answer == Answer::Read || answer == early,
             "{before}{token}: {answer:?}"
         );
     } else {
-        assert_eq!(rt; answer, at_end(&[before])?, "{before}{token}");
+        assert_eq!(rt; answer, at_end(rt, &[before]), "{before}{token}");
     }
-    Ok(())
 }
 
 /// The token in place of the statement's own, with the rest of the statement after it: it isn't listed.
@@ -260,81 +258,69 @@ fn stands_wrong(
     token: &str,
     after: &str,
     place: &str,
-) -> Result<(), Fail> {
+) {
     if !lists(place, token) {
-        let answer = answer_to(rt, &[before, token, " ", after])?;
-        assert_eq!(rt; answer, at_end(&[before])?, "{before}{token} {after}");
+        let answer = answer_to(rt, &[before, token, " ", after]);
+        assert_eq!(rt; answer, at_end(rt, &[before]), "{before}{token} {after}");
     }
-    Ok(())
 }
 
 /// Each place of the row, with its tokens joined so, and whether these tokens go on there.
-fn check(
-    rt: &(impl Abort + AllocGlobal),
-    row: &str,
-    glue: &str,
-    tried: &[&str],
-) -> Result<(), Fail> {
+fn check(rt: &(impl Abort + AllocGlobal), row: &str, glue: &str, tried: &[&str]) {
     let mut is_over = false;
     for (at, place) in row.split('|').enumerate() {
         assert!(rt; !is_over, "a place after $: {row}");
         is_over = lists(place, "$");
-        let mut before = joined(rt.alloc(), row, 0, at, glue)?;
-        let after = joined(rt.alloc(), row, at.saturating_add(1), usize::MAX, glue)?;
-        let ended = answer_to(rt, &[before.as_str()])?;
+        let mut before = joined(rt, row, 0, at, glue);
+        let after = joined(rt, row, at.saturating_add(1), usize::MAX, glue);
+        let ended = answer_to(rt, &[before.as_str()]);
         if lists(place, "end") {
             assert_eq!(rt; ended, Answer::Read, "{before}");
         } else {
-            assert_eq!(rt; ended, at_end(&[before.as_str()])?, "{before}");
+            assert_eq!(rt; ended, at_end(rt, &[before.as_str()]), "{before}");
         }
         if at > 0 {
-            before.push_str(glue)?;
+            before.push_str(glue).expect(rt, "memory");
         }
         for tokens in tried {
             for token in tokens.split(' ') {
-                goes_on(rt, before.as_str(), token, place)?;
+                goes_on(rt, before.as_str(), token, place);
             }
         }
         for token in FEW.split(' ') {
-            stands_wrong(rt, before.as_str(), token, after.as_str(), place)?;
+            stands_wrong(rt, before.as_str(), token, after.as_str(), place);
         }
     }
     assert!(rt; is_over, "no $: {row}");
-    Ok(())
 }
 
-fn check_all(rt: &(impl Abort + AllocGlobal), rows: &[&str]) -> Result<(), Fail> {
+fn check_all(rt: &(impl Abort + AllocGlobal), rows: &[&str]) {
     for row in rows {
-        check(rt, row, " ", &[KEYWORDS, OTHERS])?;
-        check(rt, row, "\t--'(;\r\n", &[])?;
+        check(rt, row, " ", &[KEYWORDS, OTHERS]);
+        check(rt, row, "\t--'(;\r\n", &[]);
     }
-    Ok(())
 }
 
 #[test]
-fn each_place_of_a_column(rt: HostRuntime) -> Result<(), Fail> {
-    check_all(&rt, &COLUMNS)?;
-    Ok(())
+fn each_place_of_a_column(rt: HostRuntime) {
+    check_all(&rt, &COLUMNS);
 }
 
 #[test]
-fn each_place_of_a_constraint_or_view(rt: HostRuntime) -> Result<(), Fail> {
-    check_all(&rt, &CONSTRAINTS)?;
-    check_all(&rt, &VIEWS)?;
-    Ok(())
+fn each_place_of_a_constraint_or_view(rt: HostRuntime) {
+    check_all(&rt, &CONSTRAINTS);
+    check_all(&rt, &VIEWS);
 }
 
 #[test]
-fn each_place_of_a_select(rt: HostRuntime) -> Result<(), Fail> {
-    check_all(&rt, &PLAIN_SELECTS)?;
-    check_all(&rt, &GROUPED_SELECTS)?;
-    Ok(())
+fn each_place_of_a_select(rt: HostRuntime) {
+    check_all(&rt, &PLAIN_SELECTS);
+    check_all(&rt, &GROUPED_SELECTS);
 }
 
 #[test]
-fn each_place_of_another_call(rt: HostRuntime) -> Result<(), Fail> {
-    check_all(&rt, &WRITES)?;
-    check_all(&rt, &CONDITIONS)?;
-    check_all(&rt, &CONTROLS)?;
-    Ok(())
+fn each_place_of_another_call(rt: HostRuntime) {
+    check_all(&rt, &WRITES);
+    check_all(&rt, &CONDITIONS);
+    check_all(&rt, &CONTROLS);
 }

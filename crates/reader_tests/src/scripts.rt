@@ -4,55 +4,52 @@
 use crate::check::spelled_out;
 use own_model::{Request, Script, ScriptCall, SessionCalls};
 use sql_reader::{Split, read_script};
-use std::alloc::Global;
 use std::fmt::Write;
 use std::mem::drop;
 use std::process::Abort;
-use std::test::Fail;
 
 /// What a request is.
-fn put_request(told: &mut String, request: &Request) -> Result<(), Fail> {
-    match request {
-        Request::Run(_) => write!(told, " run")?,
-        Request::Syntax(byte) => write!(told, " syntax {byte}")?,
-        Request::Limit(limit) => write!(told, " limit {limit:?}")?,
-        Request::End => write!(told, " end")?,
-    }
-    Ok(())
+fn put_request(rt: &impl Abort, told: &mut String, request: &Request) {
+    let put = match request {
+        Request::Run(_) => write!(told, " run"),
+        Request::Syntax(byte) => write!(told, " syntax {byte}"),
+        Request::Limit(limit) => write!(told, " limit {limit:?}"),
+        Request::End => write!(told, " end"),
+    };
+    put.expect(rt, "memory");
 }
 
-/// The calls of a script: the session and the number of each, and what it asks for.
-fn told_calls(alloc: Global, calls: &[ScriptCall]) -> Result<String, Fail> {
-    let mut told = String::new(alloc);
+/// Adds a call: its session and number, and what it asks for.
+fn put_call(rt: &impl Abort, told: &mut String, call: &ScriptCall) {
+    write!(told, "{}.{}", call.session.0, call.call).expect(rt, "memory");
+    put_request(rt, told, &call.request);
+    told.push(',').expect(rt, "memory");
+}
+
+/// The calls of a script.
+fn told_calls(rt: &(impl Abort + AllocGlobal), calls: &[ScriptCall]) -> String {
+    let mut told = String::new(rt.alloc());
     for call in calls {
-        let (session, number) = (call.session.0, call.call);
-        write!(&mut told, "{session}.{number}")?;
-        put_request(&mut told, &call.request)?;
-        write!(&mut told, ",")?;
+        put_call(rt, &mut told, call);
     }
-    Ok(told)
+    told
 }
 
 /// The script of an input, or why it has none.
-fn told_script(alloc: Global, bytes: &[u8]) -> Result<String, Fail> {
-    match read_script(alloc, bytes) {
-        Ok(script) => {
-            let told = told_calls(alloc, script.calls.items());
-            drop(script);
-            told
-        }
-        Err(fault) => Ok(format!(in alloc; "{fault:?}")?),
+fn told_script(rt: &(impl Abort + AllocGlobal), bytes: &[u8]) -> String {
+    match read_script(rt.alloc(), bytes) {
+        Ok(script) => told_calls(rt, script.calls.items()),
+        Err(fault) => format!(in rt.alloc(); "{fault:?}").expect(rt, "memory"),
     }
 }
 
 /// Each row is an input, and its script.
-fn check_scripts(rt: &(impl Abort + AllocGlobal), rows: &[(&str, &str)]) -> Result<(), Fail> {
+fn check_scripts(rt: &(impl Abort + AllocGlobal), rows: &[(&str, &str)]) {
     for (row, wanted) in rows {
-        let input = spelled_out(rt.alloc(), row)?;
-        let told = told_script(rt.alloc(), input.as_bytes())?;
+        let input = spelled_out(rt, row);
+        let told = told_script(rt, input.as_bytes());
         assert_eq!(rt; told.as_str(), *wanted, "{row}");
     }
-    Ok(())
 }
 
 /// Where a call's text begins and ends.
@@ -148,66 +145,62 @@ const FAULTS: [(&str, &str); 2] = [
 ];
 
 #[test]
-fn scripts_are_read(rt: HostRuntime) -> Result<(), Fail> {
-    check_scripts(&rt, &TEXTS)?;
-    check_scripts(&rt, &SESSIONS)?;
-    Ok(())
+fn scripts_are_read(rt: HostRuntime) {
+    check_scripts(&rt, &TEXTS);
+    check_scripts(&rt, &SESSIONS);
 }
 
 #[test]
-fn the_first_fault_is_reported(rt: HostRuntime) -> Result<(), Fail> {
-    check_scripts(&rt, &FAULTS)?;
-    Ok(())
+fn the_first_fault_is_reported(rt: HostRuntime) {
+    check_scripts(&rt, &FAULTS);
 }
 
 #[test]
-fn bytes_that_are_no_text_come_first(rt: HostRuntime) -> Result<(), Fail> {
-    let told = told_script(rt.alloc(), b"-- session 0\n\xff")?;
+fn bytes_that_are_no_text_come_first(rt: HostRuntime) {
+    let told = told_script(&rt, b"-- session 0\n\xff");
     assert_eq!(rt; told.as_str(), "NotText(13)");
-    Ok(())
 }
 
 /// As many calls as an input may have, in two sessions, and one more that isn't closed.
 #[test]
-fn as_many_calls_as_may_be(rt: HostRuntime) -> Result<(), Fail> {
-    let mut input = spelled_out(rt.alloc(), "{100000 a;}\n-- session 5\n{100000 a;}")?;
-    let script = read_script(rt.alloc(), input.as_bytes())
-        .ok()
-        .ok_or("a script")?;
+fn as_many_calls_as_may_be(rt: HostRuntime) {
+    let mut input = spelled_out(&rt, "{100000 a;}\n-- session 5\n{100000 a;}");
+    let script = read_script(rt.alloc(), input.as_bytes()).expect(&rt, "a script");
     let calls = script.calls.items().len();
     drop(script);
     assert_eq!(rt; calls, 200002);
-    input.push_str("a\n-- session 0\n")?;
-    let told = told_script(rt.alloc(), input.as_bytes())?;
+    input.push_str("a\n-- session 0\n").expect(&rt, "memory");
+    let told = told_script(&rt, input.as_bytes());
     assert_eq!(rt; told.as_str(), "TooManyCalls(400014)");
-    Ok(())
 }
 
-/// The calls of each session: its number, and the number of each call and what it asks for.
-fn told_sessions(alloc: Global, sessions: &[SessionCalls]) -> Result<String, Fail> {
-    let mut told = String::new(alloc);
-    for calls in sessions {
-        let session = calls.session.0;
-        write!(&mut told, "{session}:")?;
-        for (number, request) in calls.calls.items() {
-            write!(&mut told, " {number}")?;
-            put_request(&mut told, request)?;
-        }
-        write!(&mut told, ",")?;
+/// Adds the calls of a session: its number, and the number of each call and what it asks for.
+fn put_session(rt: &impl Abort, told: &mut String, calls: &SessionCalls) {
+    write!(told, "{}:", calls.session.0).expect(rt, "memory");
+    for (number, request) in calls.calls.items() {
+        write!(told, " {number}").expect(rt, "memory");
+        put_request(rt, told, request);
     }
-    Ok(told)
+    told.push(',').expect(rt, "memory");
+}
+
+/// The calls of each session.
+fn told_sessions(rt: &(impl Abort + AllocGlobal), sessions: &[SessionCalls]) -> String {
+    let mut told = String::new(rt.alloc());
+    for calls in sessions {
+        put_session(rt, &mut told, calls);
+    }
+    told
 }
 
 #[test]
-fn scripts_are_split(rt: HostRuntime) -> Result<(), Fail> {
+fn scripts_are_split(rt: HostRuntime) {
     let input = b"-- session 16\na;\n-- session 2\ncommit;\n-- session 16\ncommit;;commit";
-    let script = read_script(rt.alloc(), input).ok().ok_or("a script")?;
-    let sessions = script.split(rt.alloc())?;
-    let told = told_sessions(rt.alloc(), sessions.items());
-    drop(sessions);
+    let script = read_script(rt.alloc(), input).expect(&rt, "a script");
+    let sessions = script.split(rt.alloc()).expect(&rt, "memory");
+    let told = told_sessions(&rt, sessions.items());
     assert_eq!(rt;
-        told?.as_str(),
+        told.as_str(),
         "2: 1 run 2 end,16: 1 syntax 0 2 run 3 syntax 6 4 end,"
     );
-    Ok(())
 }

@@ -6,10 +6,8 @@ use crate::check::{Answer, answer_of};
 use own_base::MakeCopy;
 use own_model::Statement;
 use sql_reader::read_statement;
-use std::alloc::Global;
 use std::mem::drop;
 use std::process::Abort;
-use std::test::Fail;
 
 /// Texts, and what is read of them: `<t>` is the name `t`, `«a»` the column `a` without a table, and brackets hold a
 /// list (`written_out`).
@@ -244,108 +242,104 @@ const DIFFERENT: [(&str, &str); 21] = [
 ];
 
 /// What is read, or why nothing is, as its derived text.
-fn told(alloc: Global, text: &str) -> Result<String, Fail>
+fn told(rt: &(impl Abort + AllocGlobal), text: &str) -> String
     requires { length text.now < 2 ^ 32 }
 {
-    match read_statement(alloc, text) {
+    match read_statement(rt.alloc(), text) {
         Ok(statement) => {
-            let told = format!(in alloc; "{statement:?}");
+            let told = format!(in rt.alloc(); "{statement:?}");
             drop(statement);
-            Ok(told?)
+            told.expect(rt, "memory")
         }
-        Err(fault) => Ok(format!(in alloc; "{fault:?}")?),
+        Err(fault) => format!(in rt.alloc(); "{fault:?}").expect(rt, "memory"),
     }
 }
 
 /// The copy of the CREATE TABLE that is read, as its derived text.
-fn copy_told(alloc: Global, text: &str) -> Result<String, Fail>
+fn copy_told(rt: &(impl Abort + AllocGlobal), text: &str) -> String
     requires { length text.now < 2 ^ 32 }
 {
-    match read_statement(alloc, text) {
+    match read_statement(rt.alloc(), text) {
         Ok(Statement::CreateTable(create)) => {
-            let copied = create.copy(alloc)?;
+            let copied = create.copy(rt.alloc()).expect(rt, "memory");
             drop(create);
             let statement = Statement::CreateTable(copied);
-            let told = format!(in alloc; "{statement:?}");
+            let told = format!(in rt.alloc(); "{statement:?}");
             drop(statement);
-            Ok(told?)
+            told.expect(rt, "memory")
         }
         Ok(statement) => {
             drop(statement);
-            Ok(format!(in alloc; "no CREATE TABLE")?)
+            format!(in rt.alloc(); "no CREATE TABLE").expect(rt, "memory")
         }
-        Err(fault) => Ok(format!(in alloc; "{fault:?}")?),
+        Err(fault) => format!(in rt.alloc(); "{fault:?}").expect(rt, "memory"),
     }
 }
 
 /// The derived text that a row represents.
-fn written_out(alloc: Global, row: &str) -> Result<String, Fail> {
-    let mut text = String::new(alloc);
+fn written_out(rt: &(impl Abort + AllocGlobal), row: &str) -> String {
+    let mut text = String::new(rt.alloc());
     for letter in row.chars() {
         match letter {
-            '<' => text.push_str("Name { text: Text { text: \"")?,
-            '>' => text.push_str("\" } }")?,
-            '«' => text.push_str("ColRef { table: None, column: Name { text: Text { text: \"")?,
-            '»' => text.push_str("\" } } }")?,
-            '[' => text.push_str("List { items: [")?,
-            ']' => text.push_str("] }")?,
-            _ => text.push(letter)?,
+            '<' => text
+                .push_str("Name { text: Text { text: \"")
+                .expect(rt, "memory"),
+            '>' => text.push_str("\" } }").expect(rt, "memory"),
+            '«' => text
+                .push_str("ColRef { table: None, column: Name { text: Text { text: \"")
+                .expect(rt, "memory"),
+            '»' => text.push_str("\" } } }").expect(rt, "memory"),
+            '[' => text.push_str("List { items: [").expect(rt, "memory"),
+            ']' => text.push_str("] }").expect(rt, "memory"),
+            _ => text.push(letter).expect(rt, "memory"),
         }
     }
-    Ok(text)
+    text
 }
 
-fn check_values(rt: &(impl Abort + AllocGlobal), rows: &[(&str, &str)]) -> Result<(), Fail> {
+fn check_values(rt: &(impl Abort + AllocGlobal), rows: &[(&str, &str)]) {
     for (text, wanted) in rows {
         assert!(rt; text.len() < 1000);
         assert_eq!(rt; answer_of(rt.alloc(), text), Answer::Read, "{text}");
-        let told = told(rt.alloc(), text)?;
-        let wanted = written_out(rt.alloc(), wanted)?;
+        let told = told(rt, text);
+        let wanted = written_out(rt, wanted);
         assert_eq!(rt; told.as_str(), wanted.as_str(), "{text}");
     }
-    Ok(())
 }
 
 /// Both texts are read, and whether to one statement.
-fn check_pairs(
-    rt: &(impl Abort + AllocGlobal),
-    pairs: &[(&str, &str)],
-    same: bool,
-) -> Result<(), Fail> {
+fn check_pairs(rt: &(impl Abort + AllocGlobal), pairs: &[(&str, &str)], same: bool) {
     for (left, right) in pairs {
         assert!(rt; left.len() < 1000 && right.len() < 1000);
         assert_eq!(rt; answer_of(rt.alloc(), left), Answer::Read, "{left}");
         assert_eq!(rt; answer_of(rt.alloc(), right), Answer::Read, "{right}");
-        let left_told = told(rt.alloc(), left)?;
-        let right_told = told(rt.alloc(), right)?;
+        let left_told = told(rt, left);
+        let right_told = told(rt, right);
         assert_eq!(rt;
             left_told.as_str() == right_told.as_str(),
             same,
             "{left}, {right}"
         );
     }
-    Ok(())
 }
 
 #[test]
-fn copies_are_the_same(rt: HostRuntime) -> Result<(), Fail> {
+fn copies_are_the_same(rt: HostRuntime) {
     for (text, wanted) in &CREATES[..3] {
         assert!(rt; text.len() < 1000);
-        let told = copy_told(rt.alloc(), text)?;
-        let wanted = written_out(rt.alloc(), wanted)?;
+        let told = copy_told(&rt, text);
+        let wanted = written_out(&rt, wanted);
         assert_eq!(rt; told.as_str(), wanted.as_str(), "{text}");
     }
-    Ok(())
 }
 
 #[test]
-fn values_are_read(rt: HostRuntime) -> Result<(), Fail> {
-    check_values(&rt, &CREATES)?;
-    check_values(&rt, &SELECTS)?;
-    check_values(&rt, &WRITES)?;
-    check_values(&rt, &CONDITIONS)?;
-    check_values(&rt, &OTHERS)?;
-    check_pairs(&rt, &SAME, true)?;
-    check_pairs(&rt, &DIFFERENT, false)?;
-    Ok(())
+fn values_are_read(rt: HostRuntime) {
+    check_values(&rt, &CREATES);
+    check_values(&rt, &SELECTS);
+    check_values(&rt, &WRITES);
+    check_values(&rt, &CONDITIONS);
+    check_values(&rt, &OTHERS);
+    check_pairs(&rt, &SAME, true);
+    check_pairs(&rt, &DIFFERENT, false);
 }

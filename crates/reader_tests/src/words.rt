@@ -2,7 +2,6 @@
 
 use crate::check::check_rows;
 use std::process::Abort;
-use std::test::Fail;
 
 /// The keywords.
 pub const KEYWORDS: &str =
@@ -58,21 +57,19 @@ const COUNT_AND_SUM: [&str; 42] = [
 ];
 
 /// A keyword is no name, and a name may begin or end with one.
-fn check_keyword(rt: &(impl Abort + AllocGlobal), keyword: &str) -> Result<(), Fail> {
-    let alone = format!(in rt.alloc(); "delete from ^{keyword}")?;
-    let first = format!(in rt.alloc(); "delete from {keyword}_")?;
-    let last = format!(in rt.alloc(); "delete from x{keyword}")?;
-    check_rows(rt, &[alone.as_str(), first.as_str(), last.as_str()])?;
-    Ok(())
+fn check_keyword(rt: &(impl Abort + AllocGlobal), keyword: &str) {
+    let alone = format!(in rt.alloc(); "delete from ^{keyword}").expect(rt, "memory");
+    let first = format!(in rt.alloc(); "delete from {keyword}_").expect(rt, "memory");
+    let last = format!(in rt.alloc(); "delete from x{keyword}").expect(rt, "memory");
+    check_rows(rt, &[alone.as_str(), first.as_str(), last.as_str()]);
 }
 
 #[test]
-fn keywords_count_and_sum(rt: HostRuntime) -> Result<(), Fail> {
+fn keywords_count_and_sum(rt: HostRuntime) {
     for word in KEYWORDS.split(' ') {
-        check_keyword(&rt, word)?;
-        let lower = word.to_ascii_lowercase(rt.alloc())?;
-        check_keyword(&rt, lower.as_str())?;
+        check_keyword(&rt, word);
+        let lower = word.to_ascii_lowercase(rt.alloc()).expect(&rt, "memory");
+        check_keyword(&rt, lower.as_str());
     }
-    check_rows(&rt, &COUNT_AND_SUM)?;
-    Ok(())
+    check_rows(&rt, &COUNT_AND_SUM);
 }

@@ -1,18 +1,13 @@
--- What a CREATE and a write leave is a database as statements leave it, and a net may be put.
-use Rattle.std.proofs.Common.{◌≡◌, List, refl, subst, sym}
-use Rattle.own_base.specs.declared.change.Change.{Change}
+-- What a CREATE leaves is a database as statements leave it.
+use Rattle.std.proofs.Common.{◌≡◌, subst}
 use Rattle.own_model.specs.declared.create.CreateTable.{CreateTable as TableCreate}
 use Rattle.own_model.specs.declared.create.CreateView.{CreateView as ViewCreate}
 use Rattle.own_model.specs.declared.reply.Reply.TheVariants.{Done}
 use Rattle.own_model.specs.declared.request.Request.TheVariants.{Run}
 use Rattle.own_model.specs.declared.statement.Statement.TheVariants.{CreateTable, CreateView}
-use Rattle.own_model.specs.Db.{Db, IsOrdered}
+use Rattle.own_model.specs.Db.{Db}
 use Rattle.grammar_model.specs.Readable.{IsReadable}
-use Rattle.state_model.specs.MayBePut.{MayBePut}
-use Rattle.state_model.specs.Net.{net}
-use Rattle.state_model.specs.Put.{put}
 use Rattle.state_model.specs.Sound.{IsWellFormed}
-use Rattle.state_model.proofs.NetLeads.{net_may}
 use Rattle.run_model.specs.Run.{Outcome, add_view, create_table, run}
 use Rattle.run_model.proofs.KeptRuns.{kept-run}
 
@@ -25,7 +20,3 @@ kept-table db next table kept readable is = subst (λ (o : Outcome). IsWellForme
 pub kept-view : (db next : Db) (view : ViewCreate) → IsWellFormed db → IsReadable (Run (CreateView view)) → add_view db view ≡ record { db = next; reply = Done } → IsWellFormed next
 unfolding run
 kept-view db next view kept readable is = subst (λ (o : Outcome). IsWellFormed o.db) is (kept-run db kept (CreateView view) readable)
-
--- a net may be put
-pub may-net : (db : Db) (list : List Change) → IsOrdered db → IsOrdered (put db list) → list ≡ net db (put db list) → MayBePut db.schema.tables list
-may-net db list before after is = subst (MayBePut db.schema.tables) (sym is) (net_may db (put db list) before after refl)

@@ -1,5 +1,5 @@
 //! An engine's calls, and the history that it keeps.
-ghost use Rattle.std.specs.Prelude.{◌≡◌, IfOk};
+ghost use Rattle.std.specs.Prelude.{◌≡◌};
 ghost use Rattle.grammar_model.specs.Readable.{IsReadable};
 ghost use Rattle.history_model.specs.Built.{built, is_built};
 
@@ -8,10 +8,8 @@ use engine_core::{Closed, Engine, NoLook, Step};
 use own_base::{SessionNo, Text};
 use own_model::{Entry, Request, SESSIONS, Statement};
 use sql_print::{print_reply, print_statement};
-use std::alloc::{AllocError, Global};
 use std::mem::drop;
 use std::process::Abort;
-use std::test::Fail;
 
 /// A session, and its statement with a space between tokens, or End.
 type Call = (u8, &'static str);
@@ -64,40 +62,40 @@ fn is_built(statement: &Statement) -> bool
 
 /// What a text asks for.
 #[tactic(auto, unfolding(history_model::specs::Built::built))]
-fn request_of(rt: &(impl Abort + AllocGlobal), text: &str) -> Result<Request, Fail>
-    ensures readable { IfOk result IsReadable }
-    ensures built { IfOk result (λ request. built request ≡ request) }
+fn request_of(rt: &(impl Abort + AllocGlobal), text: &str) -> Request
+    ensures readable { IsReadable result }
+    ensures built { built result ≡ result }
 {
     if text == "End" {
-        return Ok(Request::End);
+        return Request::End;
     }
-    let statement = read(rt, text)?;
+    let statement = read(rt, text);
     assert!(rt; is_built(&statement));
-    Ok(Request::Run(statement))
+    Request::Run(statement)
 }
 
 /// The text of what was asked for.
-fn text_of(alloc: Global, request: &Request) -> Result<Text, AllocError> {
+fn text_of(rt: &(impl Abort + AllocGlobal), request: &Request) -> Text {
     match request {
-        Request::Run(statement) => print_statement(alloc, statement),
-        _ => Ok(Text::from_string(format!(in alloc; "{request:?}")?)),
+        Request::Run(statement) => print_statement(rt.alloc(), statement).expect(rt, "memory"),
+        _ => Text::from_string(format!(in rt.alloc(); "{request:?}").expect(rt, "memory")),
     }
 }
 
 /// The lines of a call.
 fn lines_of(
-    alloc: Global,
+    rt: &(impl Abort + AllocGlobal),
     session: SessionNo,
     number: u32,
     step: Step<NoLook>,
-) -> Result<Text, AllocError> {
+) -> Text {
     match step {
         Step::Answered(place, reply) => {
-            let lines = print_reply(alloc, Some(place), session, number, &reply);
+            let lines = print_reply(rt.alloc(), Some(place), session, number, &reply);
             drop(reply);
-            lines
+            lines.expect(rt, "memory")
         }
-        Step::Look(..) | Step::NoMemory => Err(AllocError),
+        Step::Look(..) | Step::NoMemory => panic!(rt; "no answer"),
     }
 }
 
@@ -107,47 +105,47 @@ fn make(
     engine: &mut Engine<u32>,
     number: u32,
     call: Call,
-) -> Result<Text, Fail> {
+) -> Text {
     let (session, text) = call;
     assert!(rt; 1 <= session && session <= SESSIONS);
-    let request = request_of(rt, text)?;
+    let request = request_of(rt, text);
     let spare = engine.spare();
     let step = engine.step(SessionNo(session), number, request);
     assert_eq!(rt; Some(engine.spare()), spare.checked_sub(1), "{text}");
-    Ok(lines_of(rt.alloc(), SessionNo(session), number, step)?)
+    lines_of(rt, SessionNo(session), number, step)
 }
 
 /// Makes the calls, and gives their lines.
-fn make_all(rt: &(impl Abort + AllocGlobal), engine: &mut Engine<u32>) -> Result<String, Fail> {
+fn make_all(rt: &(impl Abort + AllocGlobal), engine: &mut Engine<u32>) -> String {
     let mut lines = String::new(rt.alloc());
     for (number, call) in (1..u32::MAX).zip(CALLS) {
-        lines.push_str(make(rt, engine, number, call)?.as_str())?;
+        let told = make(rt, engine, number, call);
+        lines.push_str(told.as_str()).expect(rt, "memory");
     }
-    Ok(lines)
+    lines
 }
 
 /// The calls, as a history has them.
-fn expect_history(rt: &(impl Abort + AllocGlobal), entries: &[Entry]) -> Result<(), AllocError> {
+fn expect_history(rt: &(impl Abort + AllocGlobal), entries: &[Entry]) {
     assert_eq!(rt; entries.len(), CALLS.len());
     for (number, (entry, (session, text))) in (1..u32::MAX).zip(entries.iter().zip(CALLS)) {
         assert_eq!(rt; (entry.session.0, entry.call), (session, number));
-        assert_eq!(rt; text_of(rt.alloc(), &entry.request)?.as_str(), text);
+        let asked = text_of(rt, &entry.request);
+        assert_eq!(rt; asked.as_str(), text);
     }
-    Ok(())
 }
 
 #[test]
-fn calls_are_answered_and_kept(rt: HostRuntime) -> Result<(), Fail> {
+fn calls_are_answered_and_kept(rt: HostRuntime) {
     let mut engine = match Engine::open_with_room(rt.alloc(), 7, CALLS.len() as u32) {
         Ok(engine) => engine,
-        Err((fault, _)) => return Err(Fail::from(fault)),
+        Err((fault, _)) => panic!(rt; "{fault:?}"),
     };
     let lines = make_all(&rt, &mut engine);
-    let kept = expect_history(&rt, engine.history());
+    expect_history(&rt, engine.history());
     let Closed { history, disk } = engine.close();
-    let left = expect_history(&rt, history.items());
+    expect_history(&rt, history.items());
     drop(history);
     assert_eq!(rt; disk, 7);
-    assert_eq!(rt; lines?.as_str(), LINES);
-    Ok(kept.and(left)?)
+    assert_eq!(rt; lines.as_str(), LINES);
 }

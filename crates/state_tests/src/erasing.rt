@@ -7,7 +7,6 @@ use crate::store::store_of;
 use crate::texts::check_lines;
 use std::mem::drop;
 use std::process::Abort;
-use std::test::Fail;
 use store_version::{Shown, Version};
 use subject_erase::{ErasePlan, erase_changes, plan_flat};
 
@@ -45,7 +44,7 @@ const CASES: [Case; 2] = [
 ];
 
 /// Looks at what is removed, and at what is left of the rest.
-fn check_plan(rt: &(impl Abort + AllocGlobal), plan: ErasePlan, case: &Case) -> Result<(), Fail> {
+fn check_plan(rt: &(impl Abort + AllocGlobal), plan: ErasePlan, case: &Case) {
     let ErasePlan { removed, changed } = plan;
     let found = removed.items();
     assert_eq!(rt; found.len(), case.removed.len());
@@ -56,28 +55,27 @@ fn check_plan(rt: &(impl Abort + AllocGlobal), plan: ErasePlan, case: &Case) -> 
             .all(|(found, name)| is_named(found, *name))
     );
     drop(removed);
-    let left = rows_left(rt.alloc(), changed)?;
+    let left = rows_left(rt.alloc(), changed).expect(rt, "memory");
     check_lines(rt, left, case.left)
 }
 
 /// One FORGET.
-fn check_erased(rt: &(impl Abort + AllocGlobal), version: &Version, case: &Case) -> Result<(), Fail>
+fn check_erased(rt: &(impl Abort + AllocGlobal), version: &Version, case: &Case)
     requires { Sound version.now }
 {
-    let subject = subject_of(rt, version, case.call)?;
+    let subject = subject_of(rt, version, case.call);
     let shown = Shown { version };
-    let changes = erase_changes(rt.alloc(), &shown, version.graph(), &subject)?;
+    let changes = erase_changes(rt.alloc(), &shown, version.graph(), &subject).expect(rt, "memory");
     check_names(rt, &changes, case.changes);
     drop(changes);
-    let plan = plan_flat(rt.alloc(), &shown, &subject)?;
+    let plan = plan_flat(rt.alloc(), &shown, &subject).expect(rt, "memory");
     check_plan(rt, plan, case)
 }
 
 #[test]
-fn erasures_remove_and_change_rows(rt: HostRuntime) -> Result<(), Fail> {
-    let store = store_of(&rt, POST)?;
+fn erasures_remove_and_change_rows(rt: HostRuntime) {
+    let store = store_of(&rt, POST);
     for case in &CASES {
-        check_erased(&rt, store.version(), case)?;
+        check_erased(&rt, store.version(), case);
     }
-    Ok(())
 }

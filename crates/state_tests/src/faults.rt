@@ -8,12 +8,11 @@ use commit_check::{
     first_fault_flat, first_owner_fault, first_reference_fault, first_unique_fault,
     row_limit_fault, weight_limit_fault,
 };
-use own_model::{Refusal, Reply, StoreView};
+use own_model::{Refusal, Reply};
 use owner_graph::graph_of;
 use owner_sets::OwnerSets;
 use std::mem::drop;
 use std::process::Abort;
-use std::test::Fail;
 use store_version::{Shown, Version};
 
 const STORE: &str = "\
@@ -71,48 +70,45 @@ fn told(fault: Option<Refusal>) -> Reply {
 }
 
 /// Looks for the first row without an owner, where no limit is passed.
-fn check_owner(rt: &(impl Abort + AllocGlobal), version: &Version, wanted: &str) -> Result<(), Fail>
+fn check_owner(rt: &(impl Abort + AllocGlobal), version: &Version, wanted: &str)
     requires { IsWellFormed version.now }
 {
-    let graph = graph_of(rt.alloc(), version.schema())?;
+    let graph = graph_of(rt.alloc(), version.schema()).expect(rt, "memory");
     let shown = Shown { version };
-    let sets = OwnerSets::of(rt.alloc(), &shown, &graph)?;
-    check_lines(rt, told(row_limit_fault(&shown)), "ok")?;
-    check_lines(rt, told(weight_limit_fault(&shown, &sets)), "ok")?;
-    let owner = first_owner_fault(rt.alloc(), &shown, &sets)?;
+    let sets = OwnerSets::of(rt.alloc(), &shown, &graph).expect(rt, "memory");
+    check_lines(rt, told(row_limit_fault(&shown)), "ok");
+    check_lines(rt, told(weight_limit_fault(&shown, &sets)), "ok");
+    let owner = first_owner_fault(rt.alloc(), &shown, &sets).expect(rt, "memory");
     check_lines(rt, told(owner), wanted)
 }
 
 /// Looks for the faults of a version.
-fn check_faults(rt: &(impl Abort + AllocGlobal), version: &Version, case: &Case) -> Result<(), Fail>
+fn check_faults(rt: &(impl Abort + AllocGlobal), version: &Version, case: &Case)
     requires { IsWellFormed version.now }
 {
     let shown = Shown { version };
-    let unique = first_unique_fault(rt.alloc(), &shown)?;
-    check_lines(rt, told(unique), case.unique)?;
-    let reference = first_reference_fault(rt.alloc(), &shown)?;
-    check_lines(rt, told(reference), case.reference)?;
-    check_owner(rt, version, case.owner)?;
-    let whole = first_fault_flat(rt.alloc(), &shown)?;
+    let unique = first_unique_fault(rt.alloc(), &shown).expect(rt, "memory");
+    check_lines(rt, told(unique), case.unique);
+    let reference = first_reference_fault(rt.alloc(), &shown).expect(rt, "memory");
+    check_lines(rt, told(reference), case.reference);
+    check_owner(rt, version, case.owner);
+    let whole = first_fault_flat(rt.alloc(), &shown).expect(rt, "memory");
     check_lines(rt, told(whole), case.whole)
 }
 
 /// Makes the write of a case.
-fn check_case(rt: &(impl Abort + AllocGlobal), store: &Store, case: &Case) -> Result<(), Fail> {
-    let statement = read(rt, case.write)?;
+fn check_case(rt: &(impl Abort + AllocGlobal), store: &Store, case: &Case) {
+    let statement = read(rt, case.write);
     let next = next_of(rt, store.version(), &statement);
     drop(statement);
-    let next = next?;
-    let checked = check_faults(rt, next.version(), case);
+    check_faults(rt, next.version(), case);
     drop(next);
-    checked
 }
 
 #[test]
-fn writes_lead_to_faults(rt: HostRuntime) -> Result<(), Fail> {
-    let store = store_of(&rt, STORE)?;
+fn writes_lead_to_faults(rt: HostRuntime) {
+    let store = store_of(&rt, STORE);
     for case in &CASES {
-        check_case(&rt, &store, case)?;
+        check_case(&rt, &store, case);
     }
-    Ok(())
 }

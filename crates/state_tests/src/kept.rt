@@ -1,5 +1,5 @@
 //! What a statement leaves of a store, also where that has a fault.
-ghost use Rattle.std.specs.Prelude.{◌≡◌, IfOk, IsTrue, MatchBool, ⊤};
+ghost use Rattle.std.specs.Prelude.{◌≡◌, IsTrue, MatchBool, ⊤};
 ghost use Rattle.own_model.specs.declared.limit.TheConstants.{STATEMENT_BYTES};
 ghost use Rattle.own_model.specs.declared.schema.Schema.{Schema};
 ghost use Rattle.own_model.specs.declared.statement.Statement.TheVariants as statement_of;
@@ -19,60 +19,48 @@ use own_base::{Change, List, SessionNo, Subject};
 use own_model::{Bound, CreateTable, CreateView, Statement};
 use plan_bind::{bind, bind_view};
 use sql_print::print_statement;
-use std::alloc::Global;
 use std::mem::drop;
 use std::process::Abort;
-use std::test::Fail;
 use store_version::{Next, Shown, Version, prepare, prepare_table, prepare_view};
 use txn_core::Txns;
 
 /// A CREATE TABLE, which the statement is.
 fn with_table(
-    alloc: Global,
+    rt: &(impl Abort + AllocGlobal),
     version: &Version,
     create: &CreateTable,
     statement: &Statement,
-) -> Result<Next, Fail>
-    requires kept { IsWellFormed version.now }
+) -> Next
+    requires well_formed { IsWellFormed version.now }
     requires of { statement.now ≡ statement_of.CreateTable create.now }
     requires written { IsWritten STATEMENT_BYTES statement.now }
-    ensures { IfOk result IsWellFormed }
+    ensures { IsWellFormed result }
 {
     let shown = Shown { version };
-    let Ok(admitted) = version.catalog().admit(alloc, &shown, create) else {
-        return Err(Fail::from("a CREATE TABLE that is refused"));
+    let Ok(admitted) = version.catalog().admit(rt.alloc(), &shown, create) else {
+        panic!(rt; "a CREATE TABLE that is refused");
     };
-    match print_statement(alloc, statement) {
-        Ok(text) => Ok(prepare_table(alloc, version, admitted, text)?),
-        Err(refused) => {
-            drop(admitted);
-            Err(Fail::from(refused))
-        }
-    }
+    let text = print_statement(rt.alloc(), statement).expect(rt, "a text");
+    prepare_table(rt.alloc(), version, admitted, text).expect(rt, "memory")
 }
 
 /// A CREATE VIEW, which the statement is.
 fn with_view(
-    alloc: Global,
+    rt: &(impl Abort + AllocGlobal),
     version: &Version,
     create: &CreateView,
     statement: &Statement,
-) -> Result<Next, Fail>
-    requires kept { IsWellFormed version.now }
+) -> Next
+    requires well_formed { IsWellFormed version.now }
     requires of { statement.now ≡ statement_of.CreateView create.now }
     requires written { IsWritten STATEMENT_BYTES statement.now }
-    ensures { IfOk result IsWellFormed }
+    ensures { IsWellFormed result }
 {
-    let Ok(definition) = bind_view(alloc, version.catalog().schema(), create) else {
-        return Err(Fail::from("a CREATE VIEW that is refused"));
+    let Ok(definition) = bind_view(rt.alloc(), version.catalog().schema(), create) else {
+        panic!(rt; "a CREATE VIEW that is refused");
     };
-    match print_statement(alloc, statement) {
-        Ok(text) => Ok(prepare_view(alloc, version, definition, text)?),
-        Err(refused) => {
-            drop(definition);
-            Err(Fail::from(refused))
-        }
-    }
+    let text = print_statement(rt.alloc(), statement).expect(rt, "a text");
+    prepare_view(rt.alloc(), version, definition, text).expect(rt, "memory")
 }
 
 fn is_bound(statement: &Statement) -> bool
@@ -90,18 +78,18 @@ fn is_bound(statement: &Statement) -> bool
 }
 
 /// What a statement means: a SELECT, an INSERT, an UPDATE, a DELETE or a GDPR call.
-pub fn bound(alloc: Global, version: &Version, statement: &Statement) -> Result<Bound, Fail>
-    requires kept { IsWellFormed version.now }
+pub fn bound(rt: &(impl Abort + AllocGlobal), version: &Version, statement: &Statement) -> Bound
+    requires well_formed { IsWellFormed version.now }
     requires written { IsWritten STATEMENT_BYTES statement.now }
-    ensures meant { IfOk result (IsMeant version.now.schema) }
-    ensures kept { IfOk result (λ bound. (db : Db) → IsWellFormed db → db.schema ≡ version.now.schema → IsWellFormed (run_bound db bound).db) }
+    ensures meant { IsMeant version.now.schema result }
+    ensures well_formed { (db : Db) → IsWellFormed db → db.schema ≡ version.now.schema → IsWellFormed (run_bound db result).db }
 {
     if !is_bound(statement) {
-        return Err(Fail::from("a statement that isn't bound"));
+        panic!(rt; "a statement that isn't bound");
     }
-    match bind(alloc, version.catalog().schema(), statement) {
-        Ok(bound) => Ok(bound),
-        Err(_) => Err(Fail::from("a statement that is refused")),
+    match bind(rt.alloc(), version.catalog().schema(), statement) {
+        Ok(bound) => bound,
+        Err(_) => panic!(rt; "a statement that is refused"),
     }
 }
 
@@ -116,97 +104,93 @@ fn takes_rows(bound: &Bound) -> bool
 }
 
 /// What a SELECT, an INSERT, an UPDATE or a DELETE means.
-pub fn row_bound(alloc: Global, version: &Version, statement: &Statement) -> Result<Bound, Fail>
-    requires kept { IsWellFormed version.now }
+pub fn row_bound(rt: &(impl Abort + AllocGlobal), version: &Version, statement: &Statement) -> Bound
+    requires well_formed { IsWellFormed version.now }
     requires written { IsWritten STATEMENT_BYTES statement.now }
-    ensures row { IfOk result (IsRowStatement version.now.schema) }
-    ensures kept { IfOk result (λ bound. (db : Db) → IsWellFormed db → db.schema ≡ version.now.schema → IsWellFormed (run_bound db bound).db) }
+    ensures row { IsRowStatement version.now.schema result }
+    ensures well_formed { (db : Db) → IsWellFormed db → db.schema ≡ version.now.schema → IsWellFormed (run_bound db result).db }
 {
-    let bound = bound(alloc, version, statement)?;
+    let bound = bound(rt, version, statement);
     if takes_rows(&bound) {
-        Ok(bound)
+        bound
     } else {
-        Err(Fail::from("a statement of no rows"))
+        panic!(rt; "a statement of no rows");
     }
 }
 
 /// The net of what a bound write by itself changes.
-pub fn written(alloc: Global, version: &Version, bound: &Bound) -> Result<List<Change>, Fail>
+pub fn written(rt: &(impl Abort + AllocGlobal), version: &Version, bound: &Bound) -> List<Change>
     requires sound { Sound version.now }
     requires write { IsWrite version.now.schema bound.now }
-    ensures net { IfOk result (λ changes. changes ≡ net version.now (put version.now changes)) }
-    ensures left { IfOk result (λ changes. (run_bound version.now bound.now).db ≡ put version.now changes) }
+    ensures net { result ≡ net version.now (put version.now result) }
+    ensures left { (run_bound version.now bound.now).db ≡ put version.now result }
 {
-    let txns = Txns::new(alloc)?;
+    let txns = Txns::new(rt.alloc()).expect(rt, "memory");
     let shown = Shown { version };
-    match txns.single(alloc, &shown, SessionNo(1), bound) {
-        Ok((_, changes)) => Ok(changes),
-        Err(why) => Err(Fail::from(why)),
+    let single = txns.single(rt.alloc(), &shown, SessionNo(1), bound);
+    drop(txns);
+    match single {
+        Ok((_, changes)) => changes,
+        Err(_) => panic!(rt; "a write that is refused"),
     }
 }
 
 /// The next version by a write.
-fn with_changes(alloc: Global, version: &Version, bound: &Bound) -> Result<Next, Fail>
+fn with_changes(rt: &(impl Abort + AllocGlobal), version: &Version, bound: &Bound) -> Next
     requires sound { Sound version.now }
     requires write { IsWrite version.now.schema bound.now }
-    requires kept { IsWellFormed (run_bound version.now bound.now).db }
-    ensures { IfOk result IsWellFormed }
+    requires well_formed { IsWellFormed (run_bound version.now bound.now).db }
+    ensures { IsWellFormed result }
 {
-    let changes = written(alloc, version, bound)?;
-    let next = prepare(alloc, version, changes.items());
+    let changes = written(rt, version, bound);
+    let next = prepare(rt.alloc(), version, changes.items());
     drop(changes);
-    Ok(next?)
+    next.expect(rt, "memory")
 }
 
 /// The next version by a bound statement, which has to be a write.
-fn with_bound(alloc: Global, version: &Version, bound: Bound) -> Result<Next, Fail>
+fn with_bound(rt: &(impl Abort + AllocGlobal), version: &Version, bound: &Bound) -> Next
     requires sound { Sound version.now }
-    requires meant { IsMeant version.now.schema bound }
-    requires kept { IsWellFormed (run_bound version.now bound).db }
-    ensures { IfOk result IsWellFormed }
+    requires meant { IsMeant version.now.schema bound.now }
+    requires well_formed { IsWellFormed (run_bound version.now bound.now).db }
+    ensures { IsWellFormed result }
 {
-    match &bound {
+    match bound {
         Bound::Insert { .. } | Bound::Update { .. } | Bound::Delete { .. } => {
-            with_changes(alloc, version, &bound)
+            with_changes(rt, version, bound)
         }
-        _ => Err(Fail::from("a statement that leaves a store as it is")),
+        _ => panic!(rt; "a statement that leaves a store as it is"),
     }
 }
 
 /// What a statement leaves: a CREATE, an INSERT, an UPDATE or a DELETE.
-pub fn next_of(
-    rt: &(impl Abort + AllocGlobal),
-    version: &Version,
-    statement: &Statement,
-) -> Result<Next, Fail>
+pub fn next_of(rt: &(impl Abort + AllocGlobal), version: &Version, statement: &Statement) -> Next
     requires sound { Sound version.now }
     requires written { IsWritten STATEMENT_BYTES statement.now }
-    ensures { IfOk result IsWellFormed }
+    ensures { IsWellFormed result }
 {
     match statement {
-        Statement::CreateTable(create) => with_table(rt.alloc(), version, create, statement),
-        Statement::CreateView(create) => with_view(rt.alloc(), version, create, statement),
+        Statement::CreateTable(create) => with_table(rt, version, create, statement),
+        Statement::CreateView(create) => with_view(rt, version, create, statement),
         _ => {
-            let bound = bound(rt.alloc(), version, statement)?;
-            with_bound(rt.alloc(), version, bound)
+            let bound = bound(rt, version, statement);
+            let next = with_bound(rt, version, &bound);
+            drop(bound);
+            next
         }
     }
 }
 
 /// The subject of a GDPR call.
-pub fn subject_of(
-    rt: &(impl Abort + AllocGlobal),
-    version: &Version,
-    text: &str,
-) -> Result<Subject, Fail>
+pub fn subject_of(rt: &(impl Abort + AllocGlobal), version: &Version, text: &str) -> Subject
     requires { IsWellFormed version.now }
-    ensures { IfOk result (λ subject. IsTrue (is_subject version.now.schema subject.0.table.0)) }
+    ensures { IsTrue (is_subject version.now.schema result.0.table.0) }
 {
-    let statement = read(rt, text)?;
-    let bound = bound(rt.alloc(), version, &statement);
+    let statement = read(rt, text);
+    let bound = bound(rt, version, &statement);
     drop(statement);
-    match bound? {
-        Bound::Get(subject) | Bound::Forget(subject) => Ok(subject),
-        _ => Err(Fail::from("no GDPR call")),
+    match bound {
+        Bound::Get(subject) | Bound::Forget(subject) => subject,
+        _ => panic!(rt; "no GDPR call"),
     }
 }

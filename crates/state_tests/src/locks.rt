@@ -5,13 +5,11 @@ use crate::spaces::name_of;
 use crate::store::{Store, store_of};
 use crate::texts::{parts, read};
 use own_base::SessionNo;
-use own_model::{Footprint, StoreView};
+use own_model::Footprint;
 use plan_bind::footprint;
 use row_locks::LockTable;
-use std::alloc::Global;
 use std::mem::drop;
 use std::process::Abort;
-use std::test::Fail;
 
 /// Tables 0, 1 and 2, and a view of table 0.
 const STORE: &str = "\
@@ -48,36 +46,35 @@ const STATEMENTS: &str = "\
 16 DELETE FROM cities => 15 write 2 None";
 
 /// What a text may read or write.
-fn footprint_of(
-    rt: &(impl Abort + AllocGlobal),
-    store: &Store,
-    text: &str,
-) -> Result<Footprint, Fail> {
+fn footprint_of(rt: &(impl Abort + AllocGlobal), store: &Store, text: &str) -> Footprint {
     let version = store.version();
-    let statement = read(rt, text)?;
-    let bound = bound(rt.alloc(), version, &statement);
+    let statement = read(rt, text);
+    let bound = bound(rt, version, &statement);
     drop(statement);
-    let bound = bound?;
     let items = footprint(rt.alloc(), version.schema(), &bound);
     drop(bound);
-    Ok(items?)
+    items.expect(rt, "memory")
 }
 
 /// The session that stands in the way, and what it keeps from being read or written: a row of a table, or all of it.
 /// Where nobody stands there, the session that asks holds the footprint from then on.
 fn asked(
-    alloc: Global,
+    rt: &(impl Abort + AllocGlobal),
     locks: &mut LockTable,
     session: SessionNo,
     footprint: Footprint,
-) -> Result<String, Fail> {
+) -> String {
+    let alloc = rt.alloc();
     if let Some(held) = locks.first_holder(session, &footprint) {
         let item = held.item;
         let done = if item.write { "write" } else { "read" };
-        return Ok(format!(in alloc; "{} {done} {} {:?}", held.session.0, item.table.0, item.key)?);
+        return format!(in alloc;
+            "{} {done} {} {:?}",
+            held.session.0, item.table.0, item.key
+        ).expect(rt, "memory");
     }
-    locks.grant(alloc, session, footprint)?;
-    Ok(format!(in alloc; "held")?)
+    locks.grant(alloc, session, footprint).expect(rt, "memory");
+    format!(in alloc; "held").expect(rt, "memory")
 }
 
 /// What a statement of a session comes to. A COMMIT lets go.
@@ -86,14 +83,14 @@ fn told(
     store: &Store,
     locks: &mut LockTable,
     call: &str,
-) -> Result<String, Fail> {
-    let (session, text) = call.split_once(' ').ok_or("a session")?;
-    let session = SessionNo(session.parse::<u8>()?);
+) -> String {
+    let (session, text) = call.split_once(' ').expect(rt, "a session");
+    let session = SessionNo(session.parse::<u8>().expect(rt, "a number"));
     if text == "COMMIT" {
         locks.release(session);
-        return Ok(format!(in rt.alloc(); "let go")?);
+        return format!(in rt.alloc(); "let go").expect(rt, "memory");
     }
-    asked(rt.alloc(), locks, session, footprint_of(rt, store, text)?)
+    asked(rt, locks, session, footprint_of(rt, store, text))
 }
 
 /// The rows of a table: a session, its statement, and what that comes to.
@@ -102,17 +99,16 @@ fn check_statements(
     store: &Store,
     locks: &mut LockTable,
     rows: &str,
-) -> Result<(), Fail> {
+) {
     for row in rows.split('\n') {
-        let (call, wanted) = parts(row)?;
-        assert_eq!(rt; told(rt, store, locks, call)?.as_str(), wanted, "{call}");
+        let (call, wanted) = parts(rt, row);
+        assert_eq!(rt; told(rt, store, locks, call).as_str(), wanted, "{call}");
     }
-    Ok(())
 }
 
 #[test]
-fn the_lowest_session_in_the_way_is_named(rt: HostRuntime) -> Result<(), Fail> {
-    let store = store_of(&rt, STORE)?;
+fn the_lowest_session_in_the_way_is_named(rt: HostRuntime) {
+    let store = store_of(&rt, STORE);
     let mut locks = LockTable::new(rt.alloc());
     check_statements(&rt, &store, &mut locks, STATEMENTS)
 }
@@ -134,8 +130,8 @@ const LYING: [(u8, (u32, i64), (u32, i64), bool); 6] = [
 ];
 
 #[test]
-fn rows_lie_on_what_a_session_holds(rt: HostRuntime) -> Result<(), Fail> {
-    let store = store_of(&rt, STORE)?;
+fn rows_lie_on_what_a_session_holds(rt: HostRuntime) {
+    let store = store_of(&rt, STORE);
     let mut locks = LockTable::new(rt.alloc());
     let held = check_statements(&rt, &store, &mut locks, HELD);
     for (session, left, right, lies) in LYING {

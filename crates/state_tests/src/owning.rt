@@ -4,11 +4,9 @@ ghost use Rattle.state_model.specs.Sound.{Sound};
 use crate::showing::HOUSE;
 use crate::store::store_of;
 use own_base::{Key, RowName, Subject, TableNo};
-use own_model::StoreView;
 use owner_graph::graph_of;
 use owner_sets::{ByEdges, OwnerSets};
 use std::process::Abort;
-use std::test::Fail;
 use store_version::{Shown, Version};
 
 /// A row of the house by its table and place, the keys of its owners and of those who reach it, and the edges by which user 5
@@ -125,22 +123,21 @@ fn check_edges(rt: &impl Abort, edges: &ByEdges, case: &Case) {
 }
 
 /// Looks at each row.
-fn check_rows(rt: &(impl Abort + AllocGlobal), version: &Version) -> Result<(), Fail>
+fn check_rows(rt: &(impl Abort + AllocGlobal), version: &Version)
     requires { Sound version.now }
 {
-    let graph = graph_of(rt.alloc(), version.schema())?;
+    let graph = graph_of(rt.alloc(), version.schema()).expect(rt, "memory");
     let shown = Shown { version };
-    let sets = OwnerSets::of(rt.alloc(), &shown, &graph)?;
-    let edges = ByEdges::of(rt.alloc(), &shown, &sets, &user(5))?;
+    let sets = OwnerSets::of(rt.alloc(), &shown, &graph).expect(rt, "memory");
+    let edges = ByEdges::of(rt.alloc(), &shown, &sets, &user(5)).expect(rt, "memory");
     for case in &CASES {
         check_sets(rt, &sets, case);
         check_edges(rt, &edges, case);
     }
-    Ok(())
 }
 
 #[test]
-fn rows_have_owners(rt: HostRuntime) -> Result<(), Fail> {
-    let store = store_of(&rt, HOUSE)?;
+fn rows_have_owners(rt: HostRuntime) {
+    let store = store_of(&rt, HOUSE);
     check_rows(&rt, store.version())
 }

@@ -8,12 +8,11 @@ use crate::kept::{bound, row_bound};
 use crate::store::{Store, store_of};
 use crate::texts::{check_lines, parts, read};
 use own_model::{Bound, Reply};
-use std::alloc::Global;
+use query_eval::select_reply;
 use std::mem::drop;
 use std::process::Abort;
-use std::test::Fail;
 use store_version::{Shown, Version};
-use txn_core::{Txn, select_reply};
+use txn_core::Txn;
 
 const STORE: &str = "\
 CREATE TABLE acc (id INT PRIMARY KEY, n INT)
@@ -33,62 +32,57 @@ const SELECTS: [&str; 5] = [
 ];
 
 /// The reply to a bound SELECT.
-fn reply_to(alloc: Global, version: &Version, bound: &Bound) -> Result<Reply, Fail>
+fn reply_to(rt: &(impl Abort + AllocGlobal), version: &Version, bound: &Bound) -> Reply
     requires sound { Sound version.now }
     requires meant { IsMeant version.now.schema bound.now }
 {
     let shown = Shown { version };
     match bound {
-        Bound::Select(query) => Ok(select_reply(alloc, &shown, query)?),
-        _ => Err(Fail::from("no SELECT")),
+        Bound::Select(query) => select_reply(rt.alloc(), &shown, query).expect(rt, "memory"),
+        _ => panic!(rt; "no SELECT"),
     }
 }
 
 /// One select.
-fn check_select(rt: &(impl Abort + AllocGlobal), store: &Store, case: &str) -> Result<(), Fail> {
-    let (text, wanted) = parts(case)?;
+fn check_select(rt: &(impl Abort + AllocGlobal), store: &Store, case: &str) {
+    let (text, wanted) = parts(rt, case);
     let version = store.version();
-    let statement = read(rt, text)?;
-    let bound = bound(rt.alloc(), version, &statement);
+    let statement = read(rt, text);
+    let bound = bound(rt, version, &statement);
     drop(statement);
-    let bound = bound?;
-    let reply = reply_to(rt.alloc(), version, &bound);
+    let reply = reply_to(rt, version, &bound);
     drop(bound);
-    check_lines(rt, reply?, wanted)
+    check_lines(rt, reply, wanted)
 }
 
 #[test]
-fn selects_have_replies(rt: HostRuntime) -> Result<(), Fail> {
-    let store = store_of(&rt, STORE)?;
+fn selects_have_replies(rt: HostRuntime) {
+    let store = store_of(&rt, STORE);
     for case in &SELECTS {
-        check_select(&rt, &store, case)?;
+        check_select(&rt, &store, case);
     }
-    Ok(())
 }
 
 /// Runs a bound UPDATE of one row in a transaction of its own.
-fn check_txn(rt: &(impl Abort + AllocGlobal), version: &Version, bound: &Bound) -> Result<(), Fail>
+fn check_txn(rt: &(impl Abort + AllocGlobal), version: &Version, bound: &Bound)
     requires sound { Sound version.now }
     requires row { IsRowStatement version.now.schema bound.now }
 {
     let mut txn = Txn::new(rt.alloc());
     let shown = Shown { version };
-    let reply = txn.run(rt.alloc(), &shown, bound)?;
-    check_lines(rt, reply, "ok 2")?;
-    let changes = txn.changes(rt.alloc(), &shown)?;
+    let reply = txn.run(rt.alloc(), &shown, bound).expect(rt, "memory");
+    check_lines(rt, reply, "ok 2");
+    let changes = txn.changes(rt.alloc(), &shown).expect(rt, "memory");
     check_names(rt, &changes, &[(0, 2)]);
-    Ok(())
 }
 
 #[test]
-fn transaction_has_changes(rt: HostRuntime) -> Result<(), Fail> {
-    let store = store_of(&rt, STORE)?;
+fn transaction_has_changes(rt: HostRuntime) {
+    let store = store_of(&rt, STORE);
     let version = store.version();
-    let statement = read(&rt, "UPDATE acc SET n = 10 WHERE id < 3")?;
-    let bound = row_bound(rt.alloc(), version, &statement);
+    let statement = read(&rt, "UPDATE acc SET n = 10 WHERE id < 3");
+    let bound = row_bound(&rt, version, &statement);
     drop(statement);
-    let bound = bound?;
-    let checked = check_txn(&rt, version, &bound);
+    check_txn(&rt, version, &bound);
     drop(bound);
-    checked
 }

@@ -1,11 +1,11 @@
 //! Transactions of sessions over a store that stays as it is.
-ghost use Rattle.std.specs.Prelude.{◌≡◌, ◌≢◌, ◌≤◌, true, IfOk, OnErr};
+ghost use Rattle.std.specs.Prelude.{◌≡◌, ◌≢◌, ◌≤◌, true, IfOk};
 ghost use Rattle.own_model.specs.declared.limit.TheConstants.{SESSIONS};
 ghost use Rattle.own_model.specs.declared.refusal.Refusal.TheVariants.{Memory};
 ghost use Rattle.own_model.specs.Db.{Db};
 ghost use Rattle.run_model.specs.Run.{run_bound};
 ghost use Rattle.state_model.specs.Sound.{IsWellFormed, Sound};
-ghost use Rattle.txn_core.specs.Kept.{is_open, kept_by};
+ghost use Rattle.txn_core.specs.SessionStates.{is_open, state_by};
 ghost use Rattle.txn_core.specs.Runs.{IsRowStatement};
 ghost use Rattle.engine_core.specs.Asked.{IsMeant};
 ghost use Rattle.state_tests.specs.Ready.{AreReady};
@@ -19,7 +19,6 @@ use own_model::{Bound, Refusal, Reply};
 use std::alloc::{AllocError, Global};
 use std::mem::drop;
 use std::process::Abort;
-use std::test::Fail;
 use store_version::{Shown, Version};
 use txn_core::Txns;
 
@@ -27,37 +26,36 @@ const STORE: &str = "\
 CREATE TABLE acc (id INT PRIMARY KEY, n INT)
 INSERT INTO acc VALUES (1, 10), (2, 20)";
 
-/// What a refusal is reported as, unless it is for want of memory.
-fn refused(why: Refusal) -> Result<Reply, Fail>
-    ensures told { IfOk result (λ reply. why ≢ Memory) }
-    ensures memory { OnErr result (why ≡ Memory) }
+/// What a refusal is told as, unless it is for want of memory.
+fn refused(rt: &impl Abort, why: Refusal) -> Reply
+    ensures { why ≢ Memory }
 {
     match why {
-        Refusal::Memory => Err(Fail::from("out of memory")),
-        why => Ok(Reply::Refused(why)),
+        Refusal::Memory => panic!(rt; "out of memory"),
+        why => Reply::Refused(why),
     }
 }
 
 /// The reply to a bound statement in the open transaction of a session.
 fn reply_to_statement(
-    alloc: Global,
+    rt: &(impl Abort + AllocGlobal),
     version: &Version,
     txns: &mut Txns,
     session: SessionNo,
     bound: &Bound,
-) -> Result<Reply, Fail>
+) -> Reply
     requires sound { Sound version.now }
     requires session { session.0 ≤ SESSIONS }
     requires ready { AreReady version.now txns.old }
-    requires open { is_open (kept_by txns.old.kept session.0) ≡ true }
+    requires open { is_open (state_by txns.old.states session.0) ≡ true }
     requires bound { IsRowStatement version.now.schema bound.now }
-    requires kept { (db : Db) → IsWellFormed db → db.schema ≡ version.now.schema → IsWellFormed (run_bound db bound.now).db }
+    requires well_formed { (db : Db) → IsWellFormed db → db.schema ≡ version.now.schema → IsWellFormed (run_bound db bound.now).db }
     ensures { AreReady version.now txns.new }
 {
     let shown = Shown { version };
-    match txns.statement(alloc, &shown, session, bound) {
-        Ok(reply) => Ok(reply),
-        Err(why) => refused(why),
+    match txns.statement(rt.alloc(), &shown, session, bound) {
+        Ok(reply) => reply,
+        Err(why) => refused(rt, why),
     }
 }
 
@@ -69,20 +67,19 @@ fn check_statement(
     session: SessionNo,
     text: &str,
     wanted: &str,
-) -> Result<(), Fail>
+)
     requires sound { Sound version.now }
     requires session { session.0 ≤ SESSIONS }
     requires ready { AreReady version.now txns.old }
     ensures { AreReady version.now txns.new }
 {
-    let statement = read(rt, text)?;
-    let bound = row_bound(rt.alloc(), version, &statement);
+    let statement = read(rt, text);
+    let bound = row_bound(rt, version, &statement);
     drop(statement);
-    let bound = bound?;
     assert!(rt; txns.is_open(session));
-    let reply = reply_to_statement(rt.alloc(), version, txns, session, &bound);
+    let reply = reply_to_statement(rt, version, txns, session, &bound);
     drop(bound);
-    check_lines(rt, reply?, wanted)
+    check_lines(rt, reply, wanted)
 }
 
 /// The reply to a bound write of a session that is outside a transaction.
@@ -92,7 +89,7 @@ fn reply_to_single(
     txns: &Txns,
     session: SessionNo,
     bound: &Bound,
-) -> Result<Reply, Fail>
+) -> Reply
     requires sound { Sound version.now }
     requires meant { IsMeant version.now.schema bound.now }
 {
@@ -100,11 +97,11 @@ fn reply_to_single(
     match bound {
         Bound::Insert { .. } | Bound::Update { .. } | Bound::Delete { .. } => {
             match txns.single(rt.alloc(), &shown, session, bound) {
-                Ok((reply, _)) => Ok(reply),
-                Err(why) => Ok(Reply::Refused(why)),
+                Ok((reply, _)) => reply,
+                Err(why) => Reply::Refused(why),
             }
         }
-        _ => Err(Fail::from("no write")),
+        _ => panic!(rt; "no write"),
     }
 }
 
@@ -115,31 +112,26 @@ fn check_single(
     txns: &Txns,
     text: &str,
     wanted: &str,
-) -> Result<(), Fail>
+)
     requires { Sound version.now }
 {
-    let statement = read(rt, text)?;
-    let bound = bound(rt.alloc(), version, &statement);
+    let statement = read(rt, text);
+    let bound = bound(rt, version, &statement);
     drop(statement);
-    let bound = bound?;
     let reply = reply_to_single(rt, version, txns, SessionNo(3), &bound);
     drop(bound);
-    check_lines(rt, reply?, wanted)
+    check_lines(rt, reply, wanted)
 }
 
 /// Session 1 changes row 1, and session 2 meets that and reads row 2.
-fn check_statements(
-    rt: &(impl Abort + AllocGlobal),
-    version: &Version,
-    txns: &mut Txns,
-) -> Result<(), Fail>
+fn check_statements(rt: &(impl Abort + AllocGlobal), version: &Version, txns: &mut Txns)
     requires sound { Sound version.now }
     requires ready { AreReady version.now txns.old }
     ensures { AreReady version.now txns.new }
 {
     let (first, second) = (SessionNo(1), SessionNo(2));
     let update = "UPDATE acc SET n = n + 1 WHERE id = 1";
-    check_statement(rt, version, txns, first, update, "ok 1")?;
+    check_statement(rt, version, txns, first, update, "ok 1");
     let changed = "SELECT n FROM acc WHERE id = 1";
     check_statement(
         rt,
@@ -148,12 +140,12 @@ fn check_statements(
         second,
         changed,
         "refused conflict 1 acc 1",
-    )?;
-    check_statement(rt, version, txns, first, changed, "rows 1 / 11")?;
+    );
+    check_statement(rt, version, txns, first, changed, "rows 1 / 11");
     let other = "SELECT n FROM acc WHERE id = 2";
-    check_statement(rt, version, txns, second, other, "rows 1 / 20")?;
+    check_statement(rt, version, txns, second, other, "rows 1 / 20");
     let put = "INSERT INTO acc VALUES (2, 0)";
-    check_statement(rt, version, txns, second, put, "refused duplicate acc 2")?;
+    check_statement(rt, version, txns, second, put, "refused duplicate acc 2");
     check_statement(
         rt,
         version,
@@ -198,36 +190,33 @@ fn begun(alloc: Global, version: &Version) -> Result<Txns, AllocError>
 }
 
 /// Looks at what session 1 has changed.
-fn check_changes(
-    rt: &(impl Abort + AllocGlobal),
-    version: &Version,
-    txns: &Txns,
-) -> Result<(), Fail>
+fn check_changes(rt: &(impl Abort + AllocGlobal), version: &Version, txns: &Txns)
     requires sound { Sound version.now }
     requires ready { AreReady version.now txns.now }
 {
     assert!(rt; txns.is_open(SessionNo(1)));
     let shown = Shown { version };
-    let changes = txns.changes(rt.alloc(), &shown, SessionNo(1))?;
+    let changes = txns
+        .changes(rt.alloc(), &shown, SessionNo(1))
+        .expect(rt, "memory");
     check_names(rt, &changes, &[(0, 1)]);
-    Ok(())
 }
 
 #[test]
-fn sessions_run_statements(rt: HostRuntime) -> Result<(), Fail> {
-    let store = store_of(&rt, STORE)?;
+fn sessions_run_statements(rt: HostRuntime) {
+    let store = store_of(&rt, STORE);
     let version = store.version();
-    let mut txns = begun(rt.alloc(), version)?;
-    check_statements(&rt, version, &mut txns)?;
+    let mut txns = begun(rt.alloc(), version).expect(&rt, "memory");
+    check_statements(&rt, version, &mut txns);
     check_single(
         &rt,
         version,
         &txns,
         "DELETE FROM acc",
         "refused conflict 1 acc *",
-    )?;
-    check_single(&rt, version, &txns, "INSERT INTO acc VALUES (3, 0)", "ok 1")?;
-    check_changes(&rt, version, &txns)?;
+    );
+    check_single(&rt, version, &txns, "INSERT INTO acc VALUES (3, 0)", "ok 1");
+    check_changes(&rt, version, &txns);
     check_ends(&rt, &mut txns);
     check_single(&rt, version, &txns, "DELETE FROM acc", "ok 2")
 }

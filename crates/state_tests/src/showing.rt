@@ -4,9 +4,8 @@ ghost use Rattle.state_model.specs.Sound.{Sound};
 use crate::kept::subject_of;
 use crate::store::store_of;
 use crate::texts::{check_lines, parts};
-use own_model::{Reply, StoreView};
+use own_model::Reply;
 use std::process::Abort;
-use std::test::Fail;
 use store_version::{Shown, Version};
 use subject_access::{collect_flat, no_subject};
 
@@ -31,49 +30,48 @@ const GRAPH: &str =
     "graph 6 / users subject / rooms private / rooms.who OWNED_BY users / keys private / keys.who OWNED_BY users / keys.room ACCESSES rooms GET (code)";
 
 /// One GDPR GET.
-fn check_shown(rt: &(impl Abort + AllocGlobal), version: &Version, case: &str) -> Result<(), Fail>
+fn check_shown(rt: &(impl Abort + AllocGlobal), version: &Version, case: &str)
     requires { Sound version.now }
 {
-    let (call, wanted) = parts(case)?;
-    let subject = subject_of(rt, version, call)?;
+    let (call, wanted) = parts(rt, case);
+    let subject = subject_of(rt, version, call);
     let shown = Shown { version };
-    let reply = collect_flat(rt.alloc(), &shown, &subject)?;
+    let reply = collect_flat(rt.alloc(), &shown, &subject).expect(rt, "memory");
     check_lines(rt, reply, wanted)
 }
 
 #[test]
-fn subjects_are_shown_what_reaches_them(rt: HostRuntime) -> Result<(), Fail> {
-    let store = store_of(&rt, HOUSE)?;
+fn subjects_are_shown_what_reaches_them(rt: HostRuntime) {
+    let store = store_of(&rt, HOUSE);
     for case in &SHOWN {
-        check_shown(&rt, store.version(), case)?;
+        check_shown(&rt, store.version(), case);
     }
-    Ok(())
 }
 
 /// Who is absent.
-fn check_absent(rt: &(impl Abort + AllocGlobal), version: &Version) -> Result<(), Fail>
+fn check_absent(rt: &(impl Abort + AllocGlobal), version: &Version)
     requires { Sound version.now }
 {
-    let subject = subject_of(rt, version, "GDPR GET users 9")?;
-    let why = no_subject(rt.alloc(), version.schema(), &subject)?;
+    let subject = subject_of(rt, version, "GDPR GET users 9");
+    let why = no_subject(rt.alloc(), version.schema(), &subject).expect(rt, "memory");
     check_lines(rt, Reply::Refused(why), "refused absent users 9")
 }
 
 #[test]
-fn who_is_absent_is_named(rt: HostRuntime) -> Result<(), Fail> {
-    let store = store_of(&rt, HOUSE)?;
+fn who_is_absent_is_named(rt: HostRuntime) {
+    let store = store_of(&rt, HOUSE);
     check_absent(&rt, store.version())
 }
 
 #[test]
-fn schemas_are_explained(rt: HostRuntime) -> Result<(), Fail> {
-    let store = store_of(&rt, HOUSE)?;
+fn schemas_are_explained(rt: HostRuntime) {
+    let store = store_of(&rt, HOUSE);
     let catalog = store.version().catalog();
     assert_eq!(&rt; catalog.creates().len(), 3);
     for (number, table) in catalog.schema().tables.items().iter().enumerate() {
         let found = catalog.table(&table.name);
         assert!(&rt; found.is_some_and(|found| found.0 as usize == number));
     }
-    let graph = catalog.explain(rt.alloc())?;
+    let graph = catalog.explain(rt.alloc()).expect(&rt, "memory");
     check_lines(&rt, graph, GRAPH)
 }

@@ -11,7 +11,6 @@ use own_model::{Schema, StoreView, TableDef};
 use std::alloc::{AllocError, Global};
 use std::mem::drop;
 use std::process::Abort;
-use std::test::Fail;
 use store_version::{Shown, Version};
 use txn_space::Space;
 
@@ -180,27 +179,25 @@ fn expect_net(rt: &impl Abort, changes: List<Change>, net: &[(u32, Option<Pair>,
 }
 
 /// Makes a step.
-fn check_step(
-    rt: &(impl Abort + AllocGlobal),
-    version: &Version,
-    space: &mut Space,
-    step: &Step,
-) -> Result<(), Fail>
+fn check_step(rt: &(impl Abort + AllocGlobal), version: &Version, space: &mut Space, step: &Step)
     requires base { IsBase version.now.schema.tables version.now.rows }
     requires space { IsSpaceOf version.now.schema.tables space.old }
     ensures space { IsSpaceOf version.now.schema.tables space.new }
 {
     let base = Shown { version };
-    let changes = changes_of(rt.alloc(), step.0)?;
+    let changes = changes_of(rt.alloc(), step.0).expect(rt, "memory");
     assert!(rt; are_changes_of(version.schema(), &changes));
     let put = space.put(rt.alloc(), &base, &changes);
     drop(changes);
-    put?;
+    put.expect(rt, "memory");
     let over = space.over(&base);
     expect_rows(rt, &over, 0, step.1);
     expect_rows(rt, &over, 1, step.2);
-    expect_net(rt, space.changes(rt.alloc(), &base)?, step.3);
-    Ok(())
+    expect_net(
+        rt,
+        space.changes(rt.alloc(), &base).expect(rt, "memory"),
+        step.3,
+    );
 }
 
 /// The rows of a store, as a base.
@@ -211,18 +208,17 @@ fn base_of(store: &Store) -> &Version
 }
 
 /// Makes the steps, one after another.
-fn check_steps(rt: &(impl Abort + AllocGlobal), base: &Version) -> Result<(), Fail>
+fn check_steps(rt: &(impl Abort + AllocGlobal), base: &Version)
     requires { IsBase base.now.schema.tables base.now.rows }
 {
     let mut space = Space::new(rt.alloc());
     for step in &STEPS {
-        check_step(rt, base, &mut space, step)?;
+        check_step(rt, base, &mut space, step);
     }
-    Ok(())
 }
 
 #[test]
-fn changes_are_seen_over_the_store(rt: HostRuntime) -> Result<(), Fail> {
-    let store = store_of(&rt, STORE)?;
+fn changes_are_seen_over_the_store(rt: HostRuntime) {
+    let store = store_of(&rt, STORE);
     check_steps(&rt, base_of(&store))
 }

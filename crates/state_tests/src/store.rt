@@ -1,16 +1,13 @@
 //! A store without a fault, as statements leave it.
-ghost use Rattle.std.specs.Prelude.{IfOk};
 ghost use Rattle.state_model.specs.Sound.{IsWellFormed, Sound};
 ghost use Rattle.commit_check.specs.Judged.{IsJudged};
 
 use crate::kept::next_of;
 use crate::texts::read;
 use commit_check::{Judged, judge_flat};
-use std::alloc::{AllocError, Global};
 use std::marker::Model;
 use std::mem::drop;
 use std::process::Abort;
-use std::test::Fail;
 use store_version::{Next, Shown, Version, publish};
 
 /// A store without a fault, which contracts see as its database.
@@ -35,29 +32,29 @@ impl Model for Store {
     ghost invariant = { λ store. Sound store.version };
 }
 
-/// What is judged of a version that is prepared.
-pub fn judged(alloc: Global, next: &Next) -> Result<Judged, AllocError>
-    requires { IsWellFormed next.now }
-    ensures { IfOk result (IsJudged next.now) }
-{
-    judged_now(alloc, next.version())
-}
-
 /// What is judged of a version that stands.
-pub fn judged_now(alloc: Global, version: &Version) -> Result<Judged, AllocError>
+pub fn judged_now(rt: &(impl Abort + AllocGlobal), version: &Version) -> Judged
     requires { IsWellFormed version.now }
-    ensures { IfOk result (IsJudged version.now) }
+    ensures { IsJudged version.now result }
 {
     let shown = Shown { version };
-    judge_flat(alloc, &shown)
+    judge_flat(rt.alloc(), &shown).expect(rt, "memory")
+}
+
+/// What is judged of a version that is prepared.
+pub fn judged(rt: &(impl Abort + AllocGlobal), next: &Next) -> Judged
+    requires { IsWellFormed next.now }
+    ensures { IsJudged next.now result }
+{
+    judged_now(rt, next.version())
 }
 
 impl Store {
     /// A store without tables.
-    pub fn new(alloc: Global) -> Result<Store, AllocError> {
-        Ok(Store {
-            version: Version::new(alloc)?,
-        })
+    pub fn new(rt: &(impl Abort + AllocGlobal)) -> Store {
+        Store {
+            version: Version::new(rt.alloc()).expect(rt, "memory"),
+        }
     }
 
     /// Lends the version, which has no fault.
@@ -68,29 +65,22 @@ impl Store {
     }
 
     /// Runs a statement that leaves no fault.
-    pub fn run(&mut self, rt: &(impl Abort + AllocGlobal), text: &str) -> Result<(), Fail> {
-        let statement = read(rt, text)?;
+    pub fn run(&mut self, rt: &(impl Abort + AllocGlobal), text: &str) {
+        let statement = read(rt, text);
         let next = next_of(rt, &self.version, &statement);
         drop(statement);
-        let next = next?;
-        match judged(rt.alloc(), &next)? {
-            Judged::Weighs(_) => {
-                publish(&mut self.version, next);
-                Ok(())
-            }
-            Judged::Fault(_) => {
-                drop(next);
-                Err(Fail::from("a fault"))
-            }
+        match judged(rt, &next) {
+            Judged::Weighs(_) => publish(&mut self.version, next),
+            Judged::Fault(_) => panic!(rt; "a fault"),
         }
     }
 }
 
 /// A store after statements, one a line.
-pub fn store_of(rt: &(impl Abort + AllocGlobal), texts: &str) -> Result<Store, Fail> {
-    let mut store = Store::new(rt.alloc())?;
+pub fn store_of(rt: &(impl Abort + AllocGlobal), texts: &str) -> Store {
+    let mut store = Store::new(rt);
     for text in texts.split('\n') {
-        store.run(rt, text)?;
+        store.run(rt, text);
     }
-    Ok(store)
+    store
 }

@@ -1,5 +1,5 @@
 //! What writes change, and what is judged of a store by their changes.
-ghost use Rattle.std.specs.Prelude.{◌≡◌, IfOk};
+ghost use Rattle.std.specs.Prelude.{◌≡◌};
 ghost use Rattle.commit_check.specs.declared.judged.Judged.TheVariants.{Weighs};
 ghost use Rattle.run_model.specs.Run.{run_bound};
 ghost use Rattle.state_model.specs.Net.{net};
@@ -15,11 +15,10 @@ use crate::store::{Store, judged, judged_now, store_of};
 use crate::texts::{check_lines, read};
 use commit_check::Judged;
 use own_base::Change;
-use own_model::{Bound, Reply, StoreView};
+use own_model::{Bound, Reply};
 use payload_size::payload_size;
 use std::mem::drop;
 use std::process::Abort;
-use std::test::Fail;
 use store_version::{Next, Shown, Version, prepare};
 use unlinked_check::{are_unlinked, judge_unlinked};
 use write_eval::{Written, write_changes};
@@ -89,25 +88,16 @@ const CASES: [Case; 5] = [
 ];
 
 /// Looks at what a write that is made puts or meets.
-fn check_written(
-    rt: &(impl Abort + AllocGlobal),
-    written: Written,
-    case: &Case,
-) -> Result<(), Fail> {
+fn check_written(rt: &(impl Abort + AllocGlobal), written: Written, case: &Case) {
     let Written { count, changes } = written;
     check_names(rt, &changes, case.met);
-    let left = rows_left(rt.alloc(), changes)?;
-    check_lines(rt, left, case.left)?;
+    let left = rows_left(rt.alloc(), changes).expect(rt, "memory");
+    check_lines(rt, left, case.left);
     check_lines(rt, Reply::Counted(count), case.reply)
 }
 
 /// Looks at what a write changes.
-fn check_write(
-    rt: &(impl Abort + AllocGlobal),
-    version: &Version,
-    bound: &Bound,
-    case: &Case,
-) -> Result<(), Fail>
+fn check_write(rt: &(impl Abort + AllocGlobal), version: &Version, bound: &Bound, case: &Case)
     requires sound { Sound version.now }
     requires write { IsWrite version.now.schema bound.now }
 {
@@ -119,21 +109,21 @@ fn check_write(
 }
 
 /// What a store weighs that is judged to have no fault.
-fn weight_in(judged: Judged) -> Result<u64, Fail>
-    ensures { IfOk result (λ weighs. judged ≡ Weighs weighs) }
+fn weight_in(rt: &impl Abort, judged: Judged) -> u64
+    ensures { judged ≡ Weighs result }
 {
     match judged {
-        Judged::Weighs(weighs) => Ok(weighs),
-        Judged::Fault(why) => Err(Fail::from(why)),
+        Judged::Weighs(weighs) => weighs,
+        Judged::Fault(why) => panic!(rt; "{why:?}"),
     }
 }
 
 /// What a store without a fault weighs.
-fn weight(rt: &impl AllocGlobal, version: &Version) -> Result<u64, Fail>
+fn weight(rt: &(impl Abort + AllocGlobal), version: &Version) -> u64
     requires { Sound version.now }
-    ensures { IfOk result (λ weighs. weight version.now ≡ weighs) }
+    ensures { weight version.now ≡ result }
 {
-    weight_in(judged_now(rt.alloc(), version)?)
+    weight_in(rt, judged_now(rt, version))
 }
 
 /// What is judged of a version by the changes that lead to it.
@@ -142,19 +132,19 @@ fn weight_by_changes(
     version: &Version,
     next: &Next,
     changes: &[Change],
-) -> Result<u64, Fail>
+) -> u64
     requires sound { Sound version.now }
     requires net { changes.now ≡ net version.now (put version.now changes.now) }
-    requires kept { IsWellFormed next.now }
+    requires well_formed { IsWellFormed next.now }
     requires next { next.now ≡ put version.now changes.now }
 {
-    let before = weight(rt, version)?;
+    let before = weight(rt, version);
     assert!(rt; are_unlinked(version.schema(), changes));
     let shown = Shown { version };
     let left = Shown {
         version: next.version(),
     };
-    weight_in(judge_unlinked(&shown, &left, before, changes))
+    weight_in(rt, judge_unlinked(&shown, &left, before, changes))
 }
 
 /// Looks at what is judged of a version behind the net of a write, and at the bytes of that.
@@ -164,77 +154,65 @@ fn check_next(
     next: &Next,
     changes: &[Change],
     case: &Case,
-) -> Result<(), Fail>
+)
     requires sound { Sound version.now }
     requires net { changes.now ≡ net version.now (put version.now changes.now) }
-    requires kept { IsWellFormed next.now }
+    requires well_formed { IsWellFormed next.now }
     requires next { next.now ≡ put version.now changes.now }
 {
-    let whole = weight_in(judged(rt.alloc(), next)?)?;
+    let whole = weight_in(rt, judged(rt, next));
     assert_eq!(rt; whole, case.weighs);
     assert_eq!(rt; payload_size(changes), case.bytes);
-    let alone = weight_by_changes(rt, version, next, changes)?;
+    let alone = weight_by_changes(rt, version, next, changes);
     assert_eq!(rt; alone, case.weighs);
-    Ok(())
 }
 
 /// Looks at the net of a write.
-fn check_net(
-    rt: &(impl Abort + AllocGlobal),
-    version: &Version,
-    bound: &Bound,
-    case: &Case,
-) -> Result<(), Fail>
+fn check_net(rt: &(impl Abort + AllocGlobal), version: &Version, bound: &Bound, case: &Case)
     requires sound { Sound version.now }
     requires write { IsWrite version.now.schema bound.now }
-    requires kept { IsWellFormed (run_bound version.now bound.now).db }
+    requires well_formed { IsWellFormed (run_bound version.now bound.now).db }
 {
-    let changes = written(rt.alloc(), version, bound)?;
+    let changes = written(rt, version, bound);
     check_names(rt, &changes, case.net);
-    let next = prepare(rt.alloc(), version, changes.items())?;
-    check_next(rt, version, &next, changes.items(), case)
+    let next = prepare(rt.alloc(), version, changes.items()).expect(rt, "memory");
+    check_next(rt, version, &next, changes.items(), case);
+    drop(next);
+    drop(changes);
 }
 
 /// Makes a bound write. One that is refused has no net.
-fn check_bound(
-    rt: &(impl Abort + AllocGlobal),
-    version: &Version,
-    bound: &Bound,
-    case: &Case,
-) -> Result<(), Fail>
+fn check_bound(rt: &(impl Abort + AllocGlobal), version: &Version, bound: &Bound, case: &Case)
     requires sound { Sound version.now }
     requires meant { IsMeant version.now.schema bound.now }
-    requires kept { IsWellFormed (run_bound version.now bound.now).db }
+    requires well_formed { IsWellFormed (run_bound version.now bound.now).db }
 {
     match bound {
         Bound::Insert { .. } | Bound::Update { .. } | Bound::Delete { .. } => {
-            check_write(rt, version, bound, case)?;
+            check_write(rt, version, bound, case);
             if case.net.is_empty() {
-                return Ok(());
+                return;
             }
             check_net(rt, version, bound, case)
         }
-        _ => Err(Fail::from("no write")),
+        _ => panic!(rt; "no write"),
     }
 }
 
 /// Makes the write of a case.
-fn check_case(rt: &(impl Abort + AllocGlobal), store: &Store, case: &Case) -> Result<(), Fail> {
+fn check_case(rt: &(impl Abort + AllocGlobal), store: &Store, case: &Case) {
     let version = store.version();
-    let statement = read(rt, case.write)?;
-    let bound = bound(rt.alloc(), version, &statement);
+    let statement = read(rt, case.write);
+    let bound = bound(rt, version, &statement);
     drop(statement);
-    let bound = bound?;
-    let checked = check_bound(rt, version, &bound, case);
+    check_bound(rt, version, &bound, case);
     drop(bound);
-    checked
 }
 
 #[test]
-fn writes_change_rows(rt: HostRuntime) -> Result<(), Fail> {
-    let store = store_of(&rt, STORE)?;
+fn writes_change_rows(rt: HostRuntime) {
+    let store = store_of(&rt, STORE);
     for case in &CASES {
-        check_case(&rt, &store, case)?;
+        check_case(&rt, &store, case);
     }
-    Ok(())
 }

@@ -139,7 +139,10 @@ fn told<Rt: Threads + Wait + Sync>(rt: &Rt, alloc: Global, case: &Case) -> Resul
 #[test]
 fn runs(rt: HostRuntime) -> Result<(), Fail> {
     for case in &CASES {
-        let wanted = format!(in rt.alloc(); "{} {} {}", case.status, case.entries, case.output)?;
+        let wanted = format!(in rt.alloc();
+            "{} {} {}",
+            case.status, case.entries, case.output
+        ).expect(&rt, "memory");
         assert_eq!(rt; told(&rt, rt.alloc(), case)?.as_str(), wanted.as_str());
     }
     Ok(())
@@ -167,10 +170,10 @@ fn mode_step_asks_the_gate_nothing(rt: HostRuntime) -> Result<(), Fail> {
     let gate = CountingGate {
         calls: AtomicU64::new(0),
     };
-    let words = vec![in rt.alloc(); String::from_str(rt.alloc(), "step")?]?;
-    let mut source = MemSource::new(rt.alloc(), FIRST.as_bytes(), &[])?;
-    let mut sink = MemSink::new(rt.alloc(), &[])?;
-    let disk = MemDisk::new(rt.alloc(), &[])?;
+    let words = vec![in rt.alloc(); String::from_str(rt.alloc(), "step").expect(&rt, "memory")]?;
+    let mut source = MemSource::new(rt.alloc(), FIRST.as_bytes(), &[]).expect(&rt, "memory");
+    let mut sink = MemSink::new(rt.alloc(), &[]).expect(&rt, "memory");
+    let disk = MemDisk::new(rt.alloc(), &[]).expect(&rt, "memory");
     let Served {
         status,
         fault,
@@ -191,9 +194,9 @@ fn mode_step_asks_the_gate_nothing(rt: HostRuntime) -> Result<(), Fail> {
 }
 
 #[test]
-fn steps_without_words_and_gate(rt: HostRuntime) -> Result<(), Fail> {
-    let mut source = MemSource::new(rt.alloc(), FIRST.as_bytes(), &[])?;
-    let mut sink = MemSink::new(rt.alloc(), &[])?;
+fn steps_without_words_and_gate(rt: HostRuntime) {
+    let mut source = MemSource::new(rt.alloc(), FIRST.as_bytes(), &[]).expect(&rt, "memory");
+    let mut sink = MemSink::new(rt.alloc(), &[]).expect(&rt, "memory");
     let Served {
         status,
         fault,
@@ -206,7 +209,6 @@ fn steps_without_words_and_gate(rt: HostRuntime) -> Result<(), Fail> {
     assert_eq!(rt; status, 0);
     assert_eq!(rt; entries, 4);
     assert_eq!(rt; disk, 7);
-    let output = String::from_utf8_lossy(rt.alloc(), sink.bytes())?;
+    let output = String::from_utf8_lossy(rt.alloc(), sink.bytes()).expect(&rt, "memory");
     assert_eq!(rt; output.as_str(), CASES[0].output);
-    Ok(())
 }

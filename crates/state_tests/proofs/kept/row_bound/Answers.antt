@@ -1,4 +1,4 @@
 use Rattle.state_tests.proofs.kept.row_bound.Goals as goal
 
-pub returns-then-takes_rows-clause-row : goal.returns-then-takes_rows-clause-row
-returns-then-takes_rows-clause-row c = c.if-takes_rows.ensures c.args.version.now.schema c.in_ok-bound.ensures.meant
+pub returns-clause-row : goal.returns-clause-row
+returns-clause-row g c = c.if-takes_rows.ensures c.args.version.now.schema c.bound-bound.ensures.meant

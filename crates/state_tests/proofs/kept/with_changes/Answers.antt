@@ -1,10 +1,10 @@
 use Rattle.std.proofs.Common.{subst}
 use Rattle.state_model.specs.Sound.{IsWellFormed}
-use Rattle.state_tests.proofs.KeptNext.{may-net}
+use Rattle.engine_core.proofs.Nets.{may-net}
 use Rattle.state_tests.proofs.kept.with_changes.Goals as goal
 
 -- the net of a write may be put
 pub prepare-next-requires : goal.prepare-next-requires
-prepare-next-requires c =
-    let after = subst IsWellFormed c.in_ok-changes.ensures.left c.requires.kept in
-    rw c.items.ensures (may-net c.args.version.now c.in_ok-changes.changes c.requires.sound.kept.ordered after.ordered c.in_ok-changes.ensures.net)
+prepare-next-requires g c =
+    let after = subst IsWellFormed c.written-changes.ensures.left c.requires.well_formed in
+    rw c.items.ensures (may-net c.args.version.now c.written-changes.result c.requires.sound.well_formed.ordered after.ordered c.written-changes.ensures.net)

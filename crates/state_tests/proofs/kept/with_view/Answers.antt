@@ -9,20 +9,19 @@ use Rattle.state_tests.proofs.KeptNext.{kept-view}
 use Rattle.state_tests.proofs.kept.with_view.Goals as goal
 
 pub bind_view-requires-clause-views : goal.bind_view-requires-clause-views
-bind_view-requires-clause-views c = rw (c.schema.ensures.same, c.catalog.ensures.schema) (views_within-created c.args.version.now c.requires.kept.created)
+bind_view-requires-clause-views g c = rw (c.schema.ensures.same, c.catalog.ensures.schema) (views_within-created c.args.version.now c.requires.well_formed.created)
 
 pub bind_view-requires-clause-items : goal.bind_view-requires-clause-items
-bind_view-requires-clause-items c = view_within c.args.create.now (subst (IsWritten STATEMENT_BYTES) c.requires.of c.requires.written)
+bind_view-requires-clause-items g c = view_within c.args.create.now (subst (IsWritten STATEMENT_BYTES) c.requires.of c.requires.written)
 
 pub prepare_view-requires : goal.prepare_view-requires
-prepare_view-requires c = view-room c.args.version.now.schema c.args.create.now c.in-Ok.definition (rw (c.schema.ensures.same, c.catalog.ensures.schema) at c.in-Ok.ensures.ok)
+prepare_view-requires g c = view-room c.args.version.now.schema c.args.create.now c.in-Ok.definition (rw (c.schema.ensures.same, c.catalog.ensures.schema) at c.in-Ok.ensures.ok)
 
-pub returns-in_ok-prepare_view-in-Ok-print_statement : goal.returns-in_ok-prepare_view-in-Ok-print_statement
-returns-in_ok-prepare_view-in-Ok-print_statement c =
+pub returns : goal.returns
+returns g c =
     let db = c.args.version.now in
     let create = c.args.create.now in
-    let text = c.in-Ok-print_statement.ensures ∙ ap canonical c.requires.of in
+    let text = (rw c.expect-text.ensures at c.print_statement.ensures) ∙ ap canonical c.requires.of in
     let is = rw (c.schema.ensures.same, c.catalog.ensures.schema) at c.in-Ok.ensures.ok in
-    let next = c.in_ok-prepare_view-in-Ok-print_statement.field-0 in
-    let made = next-view db next create c.in-Ok.definition c.in-Ok-print_statement.text is text c.in_ok-prepare_view-in-Ok-print_statement.ensures in
-    kept-view db next create c.requires.kept (subst (IsWritten STATEMENT_BYTES) c.requires.of c.requires.written) made
+    let made = next-view db c.expect.result create c.in-Ok.definition c.expect-text.result is text (rw c.expect.ensures at c.prepare_view.ensures) in
+    kept-view db c.expect.result create c.requires.well_formed (subst (IsWritten STATEMENT_BYTES) c.requires.of c.requires.written) made

@@ -1,5 +1,5 @@
-use Rattle.state_tests.proofs.KeptStores.{subject_there}
+use Rattle.engine_core.proofs.Forgotten.{subject-within}
 use Rattle.state_tests.proofs.showing.check_absent.Goals as goal
 
 pub no_subject-requires : goal.no_subject-requires
-no_subject-requires g c = rw c.schema.ensures (subject_there c.args.version.now.schema c.in_ok-subject.subject.0.table.0 c.in_ok-subject.ensures)
+no_subject-requires g c = rw c.schema.ensures (subject-within c.args.version.now.schema c.subject_of-subject.result.0.table.0 c.subject_of-subject.ensures)

@@ -8,6 +8,6 @@ use Rattle.state_tests.proofs.writing.check_next.Goals as goal
 -- a net that leads to no fault
 pub payload_size-requires : goal.payload_size-requires
 payload_size-requires g c =
-    let judged = subst (IsJudged c.args.next.now) c.in_ok-whole.ensures c.in_ok-judged.ensures in
-    sound-net c.args.version.now c.args.next.now c.args.changes.now c.requires.sound c.requires.kept judged.0
+    let judged = subst (IsJudged c.args.next.now) c.weight_in-whole.ensures c.judged.ensures in
+    sound-net c.args.version.now c.args.next.now c.args.changes.now c.requires.sound c.requires.well_formed judged.0
     (sym (ap (λ (db : Db). db.schema) c.requires.next)) (c.requires.net ∙ ap (net c.args.version.now) (sym c.requires.next))
