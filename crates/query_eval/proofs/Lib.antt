@@ -1,7 +1,10 @@
 pub mod BaseRows
 mod BoundSelects
+pub mod EnoughLemmas
 pub mod JoinedRows
 pub mod KeptByValue
+pub mod KeyPlaces
+pub mod KeySpans
 pub mod MeetingByKey
 pub mod MeetingRows
 pub mod OrderedEntries
@@ -11,6 +14,7 @@ pub mod Runs
 pub mod RunsLeft
 pub mod ShownGroups
 pub mod SortedByColumn
+pub mod SpanRows
 pub mod StoredRows
 pub mod TableRows
 pub mod Tallies

@@ -1,5 +1,8 @@
 pub mod ByValue
+pub mod Compared
+pub mod Enough
 pub mod Groups
+pub mod KeyRange
 pub mod Meetings
 pub mod Numbers
 pub mod ShownEntry

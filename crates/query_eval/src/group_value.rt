@@ -8,29 +8,40 @@ use std::alloc::{AllocError, Global};
 use std::cmp::Ordering;
 use std::marker::Model;
 
-/// A value by which rows are told apart, lent; contracts see the value. A column that a row doesn't have is NULL.
-/// Values are ordered with NULL first, numbers by value, and texts by bytes behind them.
+/// A value where it is compared: NULL and numbers here, and all else where it stands.
+#[derive(Drop)]
+enum Compared<'a> {
+    Null,
+    Int(i64),
+    Other(&'a Value),
+}
+
+/// A value by which rows are told apart and put in order, looked up once; contracts see the value. A column that a row
+/// doesn't have is NULL. Values are ordered with NULL first, numbers by value, and texts by bytes behind them.
 #[derive(Drop)]
 pub(crate) struct GroupValue<'a> {
-    value: Option<&'a Value>,
+    value: Compared<'a>,
 }
 
 impl<'a> Model for GroupValue<'a> {
-    ghost use Rattle.std.specs.Prelude.{unwrap_or};
-    ghost use Rattle.std.specs.Option.{option_copied};
     ghost use Rattle.own_base.specs.declared.value.Value.{Value as Seen};
-    ghost use Rattle.own_base.specs.declared.value.Value.TheVariants.{Null};
+    ghost use Rattle.query_eval.specs.Compared.{compared_value};
 
     ghost Value = { Seen };
 
-    ghost view = { λ group. unwrap_or (option_copied group.value) Null };
+    ghost view = { λ group. compared_value group.value };
 }
 
 impl<'a> GroupValue<'a> {
-    /// What stands in a column; none is NULL.
+    /// What stands in a column; none is NULL. Takes no memory.
     pub(crate) fn new(value: Option<&'a Value>) -> GroupValue<'a>
         ensures { result ≡ unwrap_or (option_copied value.entry) Value.Null }
     {
+        let value = match value {
+            None | Some(Value::Null) => Compared::Null,
+            Some(Value::Int(number)) => Compared::Int(*number),
+            Some(other) => Compared::Other(other),
+        };
         GroupValue { value }
     }
 
@@ -38,16 +49,21 @@ impl<'a> GroupValue<'a> {
     pub(crate) fn is_null(&self) -> bool
         ensures { result ≡ is_null self.now }
     {
-        matches!(self.value, None | Some(Value::Null))
+        match &self.value {
+            Compared::Null => true,
+            Compared::Int(_) => false,
+            Compared::Other(value) => matches!(value, Value::Null),
+        }
     }
 
     /// A copy of the value.
     pub(crate) fn copied(&self, alloc: Global) -> Result<Value, AllocError>
         ensures { IfOk result (λ copy. copy ≡ self.now) }
     {
-        match self.value {
-            Some(value) => value.copy(alloc),
-            None => Ok(Value::Null),
+        match &self.value {
+            Compared::Null => Ok(Value::Null),
+            Compared::Int(number) => Ok(Value::Int(*number)),
+            Compared::Other(value) => value.copy(alloc),
         }
     }
 }
@@ -87,9 +103,25 @@ impl<'a> Ord for GroupValue<'a> {
 
     ghost matches_eq = { λ x y. refl };
 
+    #[tactic(auto, unfolding(query_model::specs::Order::value_cmp))]
     fn cmp(&self, other: &GroupValue<'a>) -> Ordering {
-        let null = Value::Null;
-        compare_values(self.value.unwrap_or(&null), other.value.unwrap_or(&null))
+        match (&self.value, &other.value) {
+            (Compared::Int(left), Compared::Int(right)) => left.cmp(right),
+            (Compared::Null, Compared::Null) => Ordering::Equal,
+            (Compared::Null, Compared::Int(_)) => Ordering::Less,
+            (Compared::Int(_), Compared::Null) => Ordering::Greater,
+            (Compared::Null, Compared::Other(right)) => compare_values(&Value::Null, right),
+            (Compared::Other(left), Compared::Null) => compare_values(left, &Value::Null),
+            (Compared::Int(left), Compared::Other(right)) => compare_values(
+                &Value::Int(*left),
+                right,
+            ),
+            (Compared::Other(left), Compared::Int(right)) => compare_values(
+                left,
+                &Value::Int(*right),
+            ),
+            (Compared::Other(left), Compared::Other(right)) => compare_values(left, right),
+        }
     }
 }
 

@@ -55,6 +55,6 @@ pub(crate) fn group<V: StoreView>(
     requires tables { AreTables (V.db view.now).schema (V.db view.now).rows }
     ensures { IfOk result (λ reply. reply ≡ reply_of (query_rows (V.db view.now).schema (V.db view.now).rows query.now)) }
 {
-    let kept = kept_in_source(alloc, view, &query.source, query.cond.as_ref())?;
+    let kept = kept_in_source(alloc, view, &query.source, query.cond.as_ref(), None)?;
     grouped_reply(alloc, &kept, query)
 }

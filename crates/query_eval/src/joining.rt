@@ -5,7 +5,7 @@ ghost use Rattle.query_eval.specs.Tables.{AreTables};
 
 use crate::kept_source::kept_in_source;
 use crate::selection::plain_reply;
-use own_model::{BoundSelect, Reply, Source1, StoreView};
+use own_model::{BoundSelect, REPLY_ROWS, Reply, Source1, StoreView};
 use std::alloc::{AllocError, Global};
 
 /// The reply to a select from two tables of a store that are joined.
@@ -22,7 +22,8 @@ pub(crate) fn join<V: StoreView>(
 {
     match &query.source {
         Source1::Pair { .. } => {
-            let kept = kept_in_source(alloc, view, &query.source, query.cond.as_ref())?;
+            let most = Some(REPLY_ROWS);
+            let kept = kept_in_source(alloc, view, &query.source, query.cond.as_ref(), most)?;
             plain_reply(alloc, kept, query)
         }
         Source1::Table(_) | Source1::View(_) => unreachable!(),

@@ -1,10 +1,12 @@
-ghost use Rattle.std.specs.Prelude.{◌≡◌, ◌<◌, [], ◌∷◌, ◌++◌, filter, length, IfOk, OnOk};
+ghost use Rattle.std.specs.Prelude.{◌≡◌, ◌<◌, [], ◌∷◌, ◌++◌, filter, length, take, IfOk, OnOk};
 ghost use Rattle.std.specs.Option.{option_copied, option_to_list};
 ghost use Rattle.own_model.specs.Stored.{row_named, rows_at};
 ghost use Rattle.query_model.specs.Footprints.{key_column};
 ghost use Rattle.query_model.specs.Truth.{keeps};
+ghost use Rattle.query_eval.specs.KeyRange.{IsSpanOf};
 ghost use Rattle.query_eval.specs.Tables.{AreTables};
 
+use crate::key_range::{Span, span_of};
 use crate::row_list::RowList;
 use own_base::{ColNo, Row, RowName, TableNo};
 use own_model::{BoundCond, StoreView};
@@ -78,28 +80,41 @@ fn kept_by_key<'a, V: StoreView>(
     Ok(kept)
 }
 
-/// The rows of a table that WHERE keeps, run by run.
+/// The first rows of a run, so many at most. Takes no memory.
+fn first_of(run: &[Row], most: u64) -> &[Row]
+    ensures { result.now ≡ take most run.now }
+{
+    if most < run.len() as u64 {
+        &run[..most as usize]
+    } else {
+        run
+    }
+}
+
+/// The rows of a table that WHERE keeps, run by run over a span outside which it keeps none.
 fn kept_by_runs<'a, V: StoreView>(
     alloc: Global,
     view: &'a V,
     table: TableNo,
+    span: Span,
     cond: Option<&BoundCond>,
 ) -> Result<RowList<'a>, AllocError>
-    requires { table.0 < length (V.db view.now).schema.tables }
+    requires there { table.0 < length (V.db view.now).schema.tables }
+    requires inside { IsSpanOf (keeps (option_copied cond)) (rows_at (V.db view.now).rows table.0) span }
     ensures { IfOk result (λ kept. kept ≡ filter (keeps (option_copied cond.entry)) (rows_at (V.db view.now).rows table.0)) }
 {
     let mut kept = RowList::new(alloc);
-    let count = view.count(table);
-    let mut at = 0;
-    while at < count {
-        let run = view.rows_from(table, at);
+    let mut at = span.from;
+    while at < span.upto {
+        let run = first_of(view.rows_from(table, at), span.upto - at);
         keep_more(&mut kept, run, cond)?;
         at += run.len() as u64;
     }
     Ok(kept)
 }
 
-/// The rows of a table that WHERE keeps. Where it pins a primary key, only that row is looked at.
+/// The rows of a table that WHERE keeps. Where it pins a primary key, only that row is looked at, and where it bounds
+/// the primary key, only the rows within.
 #[tactic(auto, using(crate::proofs::TableRows::kept_of_table))]
 pub fn kept_in_table<'a, V: StoreView>(
     alloc: Global,
@@ -113,6 +128,6 @@ pub fn kept_in_table<'a, V: StoreView>(
 {
     match pinned_key(alloc, cond, key_column(view, table))? {
         Some(key) => kept_by_key(alloc, view, &RowName { table, key }, cond),
-        None => kept_by_runs(alloc, view, table, cond),
+        None => kept_by_runs(alloc, view, table, span_of(view, table, cond), cond),
     }
 }

@@ -1,11 +1,13 @@
-ghost use Rattle.std.specs.Prelude.{◌≡◌, [], ◌∷◌, ◌++◌, length, IfOk, OnOk};
+ghost use Rattle.std.specs.Prelude.{◌≡◌, [], ◌∷◌, ◌++◌, IfOk, OnOk};
 ghost use Rattle.query_model.specs.Order.{ordered_by};
+ghost use Rattle.query_eval.specs.Enough.{is_past};
 
+use crate::group_value::GroupValue;
 use crate::row_list::RowList;
-use crate::row_order::row_order;
 use own_base::ColNo;
 use pred_eval::RowPair;
 use std::alloc::{AllocError, Global};
+use std::cmp::Reverse;
 use std::marker::Model;
 
 /// Rows of a source that are lent, in order; contracts see the list of the rows.
@@ -52,19 +54,28 @@ impl<'a> LentRows<'a> {
         Ok(())
     }
 
-    /// How many rows there are. Takes no memory.
-    pub(crate) fn count(&self) -> usize
-        ensures { result ≡ length self.now }
+    /// Whether there are more than are asked for; with None there never are. Takes no memory.
+    pub(crate) fn is_past(&self, most: Option<u64>) -> bool
+        ensures { result ≡ is_past most self.now }
     {
-        self.rows.len()
+        match most {
+            Some(most) => self.rows.len() as u64 > most,
+            None => false,
+        }
     }
 
-    /// Puts the rows in order by a column, rising or with DESC. Where neither of two comes first, they stay as they stood.
+    /// Puts the rows in order by a column, rising or with DESC. Where neither of two comes first, they stay
+    /// as they stood. What stands in the column is looked up once a row.
     pub(crate) fn sort(&mut self, column: ColNo, down: bool) -> Result<(), AllocError>
         ensures { OnOk result (self.new ≡ ordered_by column.0 down self.old) }
     {
-        self.rows
-            .sort_by(|left, right| row_order(left, right, column, down))
+        if down {
+            self.rows
+                .sort_by_cached_key(|row| Reverse(GroupValue::new(row.cell(column))))
+        } else {
+            self.rows
+                .sort_by_cached_key(|row| GroupValue::new(row.cell(column)))
+        }
     }
 
     /// Lends the rows, in order. Takes no memory.

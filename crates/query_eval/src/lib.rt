@@ -10,6 +10,7 @@ mod item_tally;
 mod joining;
 mod kept;
 mod kept_source;
+mod key_range;
 mod lent_rows;
 mod meeting;
 mod number_tally;

@@ -4,6 +4,7 @@ ghost use Rattle.own_model.specs.Stored.{rows_at};
 ghost use Rattle.query_model.specs.Footprints.{key_column};
 ghost use Rattle.query_model.specs.Query.{joined};
 ghost use Rattle.query_model.specs.Truth.{keeps};
+ghost use Rattle.query_eval.specs.Enough.{IsEnough};
 ghost use Rattle.query_eval.specs.Tables.{AreTables};
 
 use crate::kept::key_column;
@@ -57,16 +58,21 @@ fn keep_pair<'a>(
     }
 }
 
-/// The pairs of a row of the left table with rows of the right table, where WHERE keeps them, behind the pairs so far.
+/// The pairs of a row of the left table with rows of the right table, where WHERE keeps them, behind the pairs so far. No
+/// more follow once there are more than are asked for.
 fn keep_pairs<'a>(
     kept: &mut LentRows<'a>,
     left: &'a Row,
     rights: &RowList<'a>,
     cond: Option<&BoundCond>,
+    most: Option<u64>,
 ) -> Result<(), AllocError>
-    ensures { OnOk result (kept.new ≡ kept.old ++ filter (keeps (option_copied cond.entry)) (map (λ right. left.now ++ right) rights.now)) }
+    ensures { OnOk result (IsEnough most (kept.old ++ filter (keeps (option_copied cond.entry)) (map (λ right. left.now ++ right) rights.now)) kept.new) }
 {
     for right in rights.rows() {
+        if kept.is_past(most) {
+            return Ok(());
+        }
         keep(kept, RowPair::new(left, Some(*right)), cond)?;
     }
     Ok(())
@@ -78,11 +84,12 @@ fn keep_found<'a>(
     left: &'a Row,
     rights: Option<&RowList<'a>>,
     cond: Option<&BoundCond>,
+    most: Option<u64>,
 ) -> Result<(), AllocError>
-    ensures { OnOk result (kept.new ≡ kept.old ++ filter (keeps (option_copied cond.entry)) (map (λ right. left.now ++ right) (unwrap_or (option_copied rights.entry) []))) }
+    ensures { OnOk result (IsEnough most (kept.old ++ filter (keeps (option_copied cond.entry)) (map (λ right. left.now ++ right) (unwrap_or (option_copied rights.entry) []))) kept.new) }
 {
     match rights {
-        Some(rights) => keep_pairs(kept, left, rights, cond),
+        Some(rights) => keep_pairs(kept, left, rights, cond, most),
         None => Ok(()),
     }
 }
@@ -94,16 +101,20 @@ fn kept_by_key<'a, V: StoreView>(
     view: &'a V,
     tables: Joined,
     cond: Option<&BoundCond>,
+    most: Option<u64>,
 ) -> Result<LentRows<'a>, AllocError>
     requires left { tables.left.0 < length (V.db view.now).schema.tables }
     requires right { tables.right.0 < length (V.db view.now).schema.tables }
     requires tables { AreTables (V.db view.now).schema (V.db view.now).rows }
     requires key { tables.right_column.0 ≡ key_column (V.db view.now).schema tables.right }
-    ensures { IfOk result (λ kept. kept ≡ filter (keeps (option_copied cond.entry))
-        (joined tables.left_column.0 tables.right_column.0 (rows_at (V.db view.now).rows tables.left.0) (rows_at (V.db view.now).rows tables.right.0))) }
+    ensures { IfOk result (λ kept. IsEnough most (filter (keeps (option_copied cond.entry))
+        (joined tables.left_column.0 tables.right_column.0 (rows_at (V.db view.now).rows tables.left.0) (rows_at (V.db view.now).rows tables.right.0))) kept) }
 {
     let mut kept = LentRows::new(alloc);
     for left in TableRows::new(view, tables.left) {
+        if kept.is_past(most) {
+            return Ok(kept);
+        }
         let value = cell(left, tables.left_column);
         let right = meeting_row(alloc, view, tables.right, tables.right_column, value)?;
         keep_pair(&mut kept, left, right, cond)?;
@@ -117,37 +128,43 @@ fn kept_by_value<'a, V: StoreView>(
     view: &'a V,
     tables: Joined,
     cond: Option<&BoundCond>,
+    most: Option<u64>,
 ) -> Result<LentRows<'a>, AllocError>
     requires left { tables.left.0 < length (V.db view.now).schema.tables }
     requires right { tables.right.0 < length (V.db view.now).schema.tables }
-    ensures { IfOk result (λ kept. kept ≡ filter (keeps (option_copied cond.entry))
-        (joined tables.left_column.0 tables.right_column.0 (rows_at (V.db view.now).rows tables.left.0) (rows_at (V.db view.now).rows tables.right.0))) }
+    ensures { IfOk result (λ kept. IsEnough most (filter (keeps (option_copied cond.entry))
+        (joined tables.left_column.0 tables.right_column.0 (rows_at (V.db view.now).rows tables.left.0) (rows_at (V.db view.now).rows tables.right.0))) kept) }
 {
     let index = ValueIndex::of_table(alloc, view, tables.right, tables.right_column)?;
     let mut kept = LentRows::new(alloc);
     for left in TableRows::new(view, tables.left) {
+        if kept.is_past(most) {
+            return Ok(kept);
+        }
         let rights = index.meeting(cell(left, tables.left_column));
-        keep_found(&mut kept, left, rights, cond)?;
+        keep_found(&mut kept, left, rights, cond, most)?;
     }
     Ok(kept)
 }
 
-/// The pairs of a join that WHERE keeps: by left key, then right key. No two rows are compared that don't meet.
+/// The pairs of a join that WHERE keeps: by left key, then right key. No two rows are compared that don't meet, and no more
+/// pairs are made once more than are asked for are kept; with None all are.
 pub(crate) fn kept_pairs<'a, V: StoreView>(
     alloc: Global,
     view: &'a V,
     tables: Joined,
     cond: Option<&BoundCond>,
+    most: Option<u64>,
 ) -> Result<LentRows<'a>, AllocError>
     requires left { tables.left.0 < length (V.db view.now).schema.tables }
     requires right { tables.right.0 < length (V.db view.now).schema.tables }
     requires tables { AreTables (V.db view.now).schema (V.db view.now).rows }
-    ensures { IfOk result (λ kept. kept ≡ filter (keeps (option_copied cond.entry))
-        (joined tables.left_column.0 tables.right_column.0 (rows_at (V.db view.now).rows tables.left.0) (rows_at (V.db view.now).rows tables.right.0))) }
+    ensures { IfOk result (λ kept. IsEnough most (filter (keeps (option_copied cond.entry))
+        (joined tables.left_column.0 tables.right_column.0 (rows_at (V.db view.now).rows tables.left.0) (rows_at (V.db view.now).rows tables.right.0))) kept) }
 {
     if key_column(view, tables.right) == tables.right_column {
-        kept_by_key(alloc, view, tables, cond)
+        kept_by_key(alloc, view, tables, cond, most)
     } else {
-        kept_by_value(alloc, view, tables, cond)
+        kept_by_value(alloc, view, tables, cond, most)
     }
 }

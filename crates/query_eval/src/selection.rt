@@ -1,5 +1,8 @@
-ghost use Rattle.std.specs.Prelude.{◌≡◌, false, map, IfOk};
+ghost use Rattle.std.specs.Prelude.{◌≡◌, List as Seq, Some, false, map, IfOk};
+ghost use Rattle.own_model.specs.declared.limit.TheConstants.{REPLY_ROWS as MOST};
+ghost use Rattle.own_model.specs.Db.{Row as Values};
 ghost use Rattle.query_model.specs.Query.{in_order, projected, query_rows, reply_of, selected};
+ghost use Rattle.query_eval.specs.Enough.{IsEnough};
 ghost use Rattle.query_eval.specs.Sources.{IsTableOf};
 ghost use Rattle.query_eval.specs.Tables.{AreTables};
 
@@ -11,16 +14,17 @@ use own_base::Row;
 use own_model::{BoundSelect, LimitName, REPLY_ROWS, Refusal, Reply, Source1, StoreView};
 use std::alloc::{AllocError, Global};
 
-/// The reply to a select that isn't grouped, from the rows that WHERE keeps. They are counted before they are copied.
-#[tactic(auto, using(crate::proofs::Replies::too_many_kept, crate::proofs::Replies::few_kept))]
+/// The reply to a select that isn't grouped, from the rows that WHERE keeps, or from more of them than a reply has. They are
+/// counted before they are copied.
 pub(crate) fn plain_reply(
     alloc: Global,
     kept: LentRows<'_>,
     query: &BoundSelect,
 ) -> Result<Reply, AllocError>
-    ensures { IfOk result (λ reply. reply ≡ reply_of (map (projected query.now.items) (in_order query.now.order kept.entry))) }
+    ensures all { IfOk result (λ reply. reply ≡ reply_of (map (projected query.now.items) (in_order query.now.order kept.entry))) }
+    ensures enough { IfOk result (λ reply. (rows : Seq Values) → IsEnough (Some MOST) rows kept.entry → reply ≡ reply_of (map (projected query.now.items) (in_order query.now.order rows))) }
 {
-    if kept.count() as u64 > REPLY_ROWS {
+    if kept.is_past(Some(REPLY_ROWS)) {
         return Ok(Reply::Refused(Refusal::Limit(LimitName::Reply)));
     }
     let mut rows = kept;

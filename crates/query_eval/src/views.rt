@@ -23,7 +23,7 @@ pub(crate) fn view_rows<V: StoreView>(
     ensures { IfOk result (λ rows. rows ≡ view_rows (V.db view.now).rows definition.now) }
 {
     let query = &definition.query;
-    let mut kept = kept_in_source(alloc, view, &query.source, query.cond.as_ref())?;
+    let mut kept = kept_in_source(alloc, view, &query.source, query.cond.as_ref(), None)?;
     if query.grouped {
         return grouped_rows(alloc, &kept, query);
     }

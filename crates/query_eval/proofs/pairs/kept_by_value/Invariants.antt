@@ -5,12 +5,13 @@ use Rattle.own_model.specs.Db.{Row}
 use Rattle.own_model.specs.Stored.{rows_at}
 use Rattle.query_model.specs.Query.{joined}
 use Rattle.query_model.specs.Truth.{keeps}
+use Rattle.query_eval.specs.Enough.{IsEnough}
 use Rattle.query_eval.specs.TableRows.{rows_left}
 use Rattle.query_eval.proofs.pairs.kept_by_value.Given as goal
 
--- some rows of the left table are gone through, and their pairs are kept
+-- some rows of the left table are gone through, and their pairs are kept, or enough of them
 abbrev pub invariant-loop-left : goal.invariant-loop-left
 invariant-loop-left g l =
     (gone : List Row)
     × (gone ++ rows_left l.left-iterator.run.now l.left-iterator.behind (rows_at (g.V.StoreView.db l.left-iterator.view.now).rows l.left-iterator.table.0) ≡ rows_at (g.V.StoreView.db l.fn.view).rows l.fn.tables.left.0)
-    × (l.kept ≡ filter (keeps (option_copied l.fn.cond)) (joined l.fn.tables.left_column.0 l.fn.tables.right_column.0 gone (rows_at (g.V.StoreView.db l.fn.view).rows l.fn.tables.right.0)))
+    × IsEnough l.fn.most (filter (keeps (option_copied l.fn.cond)) (joined l.fn.tables.left_column.0 l.fn.tables.right_column.0 gone (rows_at (g.V.StoreView.db l.fn.view).rows l.fn.tables.right.0))) l.kept
