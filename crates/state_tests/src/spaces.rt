@@ -7,7 +7,7 @@ ghost use Rattle.txn_space.specs.Sound.{IsBase, IsSpaceOf};
 
 use crate::store::{Store, store_of};
 use own_base::{Change, ColNo, Key, List, Row, RowName, TableNo, Value};
-use own_model::{Schema, StoreView, TableDef};
+use own_model::{FootItem, Footprint, Schema, StoreView, TableDef};
 use std::alloc::{AllocError, Global};
 use std::mem::drop;
 use std::process::Abort;
@@ -178,6 +178,37 @@ fn expect_net(rt: &impl Abort, changes: List<Change>, net: &[(u32, Option<Pair>,
     drop(changes);
 }
 
+/// Both tables as a whole, and one that isn't there.
+fn whole_tables(alloc: Global) -> Result<Footprint, AllocError> {
+    let mut items = List::new(alloc);
+    for number in [1, 0, 2] {
+        items.add(FootItem {
+            table: TableNo(number),
+            key: None,
+            write: false,
+        })?;
+    }
+    Ok(items)
+}
+
+/// The rows of both tables, merged with what a transaction changes.
+fn expect_merged<V: StoreView>(
+    rt: &(impl Abort + AllocGlobal),
+    base: &V,
+    space: &Space,
+    step: &Step,
+)
+    requires base { IsBase (V.db base.now).schema.tables (V.db base.now).rows }
+    requires space { IsSpaceOf (V.db base.now).schema.tables space.now }
+{
+    let whole = whole_tables(rt.alloc()).expect(rt, "memory");
+    let merged = space.merged(rt.alloc(), base, &whole).expect(rt, "memory");
+    expect_rows(rt, &merged, 0, step.1);
+    expect_rows(rt, &merged, 1, step.2);
+    drop(merged);
+    drop(whole);
+}
+
 /// Makes a step.
 fn check_step(rt: &(impl Abort + AllocGlobal), version: &Version, space: &mut Space, step: &Step)
     requires base { IsBase version.now.schema.tables version.now.rows }
@@ -193,6 +224,7 @@ fn check_step(rt: &(impl Abort + AllocGlobal), version: &Version, space: &mut Sp
     let over = space.over(&base);
     expect_rows(rt, &over, 0, step.1);
     expect_rows(rt, &over, 1, step.2);
+    expect_merged(rt, &base, space, step);
     expect_net(
         rt,
         space.changes(rt.alloc(), &base).expect(rt, "memory"),

@@ -8,7 +8,7 @@ use Rattle.own_model.specs.declared.bound.Bound.TheVariants.{Select}
 use Rattle.own_model.specs.declared.footprint.FootItem.{FootItem}
 use Rattle.own_model.specs.declared.reply.Reply.{Reply}
 use Rattle.own_model.specs.declared.schema.Schema.{Schema}
-use Rattle.own_model.specs.Db.{AreRising, Db, Row}
+use Rattle.own_model.specs.Db.{AreRising, Db}
 use Rattle.own_model.specs.Stored.{rows_at}
 use Rattle.page_model.specs.Found.{found}
 use Rattle.query_model.specs.Footprints.{footprint_of, item}

@@ -13,7 +13,8 @@ ghost use Rattle.txn_core.specs.Single.{NetTo};
 
 use crate::single_write::single;
 use own_base::{Change, List};
-use own_model::{Bound, BoundSelect, Refusal, Reply, StoreView};
+use own_model::{Bound, BoundSelect, Footprint, Refusal, Reply, Schema, StoreView};
+use plan_bind::footprint;
 use query_eval::select_reply;
 use std::alloc::{AllocError, Global};
 use std::mem::drop;
@@ -25,6 +26,7 @@ fn read_in<V: StoreView>(
     space: &Space,
     version: &V,
     query: &BoundSelect,
+    scanned: &Footprint,
 ) -> Result<Reply, AllocError>
     requires store { IsStore (V.db version.now) }
     requires space { IsSpaceOf (V.db version.now).schema.tables space.now }
@@ -32,8 +34,8 @@ fn read_in<V: StoreView>(
     requires there { IsThere (V.db version.now).schema query.now }
     ensures { IfOk result (λ reply. reply ≡ reply_of (query_rows (V.db version.now).schema (changed_db (V.db version.now) space.now).rows query.now)) }
 {
-    let over = space.over(version);
-    select_reply(alloc, &over, query)
+    let merged = space.merged(alloc, version, scanned)?;
+    select_reply(alloc, &merged, query)
 }
 
 /// The reply to a bound write over the rows as a transaction changed them, and the net of it; or why it is refused as it runs.
@@ -42,6 +44,7 @@ fn net_over<V: StoreView>(
     space: &Space,
     version: &V,
     bound: &Bound,
+    scanned: &Footprint,
 ) -> Result<(Reply, List<Change>), Refusal>
     requires store { IsStore (V.db version.now) }
     requires space { IsSpaceOf (V.db version.now).schema.tables space.now }
@@ -50,8 +53,10 @@ fn net_over<V: StoreView>(
     ensures ok { IfOk result (λ written. NetTo (changed_db (V.db version.now) space.now) (run_bound (changed_db (V.db version.now) space.now) bound.now) written.0 written.1) }
     ensures err { IfErr result (λ why. why ≢ Memory → (run_bound (changed_db (V.db version.now) space.now) bound.now).reply ≡ Refused why) }
 {
-    let over = space.over(version);
-    single(alloc, &over, bound)
+    match space.merged(alloc, version, scanned) {
+        Ok(merged) => single(alloc, &merged, bound),
+        Err(AllocError) => Err(Refusal::Memory),
+    }
 }
 
 /// The reply to a write that is refused, unless that is for want of memory.
@@ -71,6 +76,7 @@ fn write_in<V: StoreView>(
     space: &mut Space,
     version: &V,
     bound: &Bound,
+    scanned: &Footprint,
 ) -> Result<Reply, AllocError>
     requires store { IsStore (V.db version.now) }
     requires space { IsSpaceOf (V.db version.now).schema.tables space.old }
@@ -79,7 +85,7 @@ fn write_in<V: StoreView>(
     ensures ran { IfOk result (λ reply. HasRun (V.db version.now) bound.now space.old reply space.new) }
     ensures unchanged { OnErr result (space.new ≡ space.old) }
 {
-    match net_over(alloc, space, version, bound) {
+    match net_over(alloc, space, version, bound, scanned) {
         Ok((reply, changes)) => {
             let put = space.put(alloc, version, changes.items());
             drop(changes);
@@ -87,6 +93,14 @@ fn write_in<V: StoreView>(
             Ok(reply)
         }
         Err(why) => refused(why),
+    }
+}
+
+/// What a statement reads of the tables that it may go over as a whole. An INSERT goes over none.
+fn scanned(alloc: Global, schema: &Schema, bound: &Bound) -> Result<Footprint, AllocError> {
+    match bound {
+        Bound::Insert { .. } => Ok(List::new(alloc)),
+        _ => footprint(alloc, schema, bound),
     }
 }
 
@@ -105,10 +119,11 @@ pub(crate) fn run_in<V: StoreView>(
     ensures ran { IfOk result (λ reply. HasRun (V.db version.now) bound.now space.old reply space.new) }
     ensures unchanged { OnErr result (space.new ≡ space.old) }
 {
+    let scanned = scanned(alloc, version.schema(), bound)?;
     match bound {
-        Bound::Select(query) => read_in(alloc, space, version, query),
+        Bound::Select(query) => read_in(alloc, space, version, query, &scanned),
         Bound::Insert { .. } | Bound::Update { .. } | Bound::Delete { .. } => {
-            write_in(alloc, space, version, bound)
+            write_in(alloc, space, version, bound, &scanned)
         }
         Bound::Get(_) | Bound::Forget(_) | Bound::Explain => unreachable!(),
     }

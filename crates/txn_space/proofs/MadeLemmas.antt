@@ -1,20 +1,10 @@
 -- What is made of one item more.
-use Rattle.std.proofs.Common.{◌≡◌, refl, sym, ◌∙◌, ap, subst, ℕ, ◌+◌, ◌<◌, List, [], ◌∷◌, ◌++◌, take, length, get_or, append_assoc, filter_map}
-use Rattle.std.specs.Prelude.{Bool, true, false, cond, Option, Some, None, IfSome}
-use Rattle.std.specs.List.{AllByRecursion as Each, cons_option}
-use Rattle.std.specs.List.Sorted.{IsStrictlySortedBy}
-use Rattle.std.specs.Option.{option_and_then, option_to_list}
-use Rattle.std.specs.Ordering.{is_eq}
-use Rattle.std.specs.declared.cmp.Ordering.TheVariants.{Less}
+use Rattle.std.proofs.Common.{◌≡◌, refl, sym, ◌∙◌, ap, ℕ, ◌+◌, ◌<◌, List, [], ◌∷◌, ◌++◌, take, length, get_or, append_assoc, filter_map}
+use Rattle.std.specs.Prelude.{Option, Some, None}
+use Rattle.std.specs.List.{cons_option}
+use Rattle.std.specs.Option.{option_to_list}
 use Rattle.std.proofs.lemmas.List.{take_more}
 use Rattle.std.proofs.lemmas.List.Elements.{filter_map-append}
-use Rattle.own_base.specs.Key.{key_cmp}
-use Rattle.own_base.specs.declared.value.Key.{Key}
-use Rattle.own_model.proofs.KeyOrder.{key_order}
-use Rattle.page_model.specs.Found.{found}
-use Rattle.page_model.specs.Rising.{IsRising}
-use Rattle.page_model.proofs.Ordered.{above_from_below, equal_from}
-use Rattle.page_model.proofs.RisingLemmas.{each_mapped, each_weaker, rising_behind, rising_tail}
 
 -- what is made of one item more
 pub made_more : {X Y : Type 0} (f : X → Option Y) (xs : List X) (index : ℕ) (x : X) (before : List Y) → index < length xs → x ≡ get_or xs index x

@@ -1,5 +1,5 @@
 -- As a transaction changes them, the keys of each table's rows rise still.
-use Rattle.std.proofs.Common.{◌≡◌, refl, sym, subst, ℕ, zero, suc, ◌+◌, List, [], ◌∷◌, arith}
+use Rattle.std.proofs.Common.{◌≡◌, refl, sym, subst, ℕ, suc, ◌+◌, List, [], ◌∷◌, arith}
 use Rattle.std.specs.Prelude.{Some, slice_get}
 use Rattle.own_model.specs.declared.schema.TableDef.{TableDef}
 use Rattle.own_model.specs.Db.{AreRising, Db, IsOrdered, Row, key_of}

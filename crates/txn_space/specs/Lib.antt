@@ -3,6 +3,9 @@ pub mod ChangedRise
 pub mod Entries
 pub mod EntryNet
 pub mod HasPut
+pub mod Merged
+pub mod OneMerged
 pub mod OneProof
 pub mod Passed
+pub mod RowsLeft
 pub mod Sound

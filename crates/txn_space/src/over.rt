@@ -10,9 +10,9 @@ use own_model::{Schema, StoreView};
 /// A base's rows as a transaction changes them.
 #[derive(Drop)]
 pub struct Over<'a, V: StoreView> {
-    space: &'a Space,
-    base: &'a V,
-    ghost sound: { IsBase (V.db base.now).schema.tables (V.db base.now).rows × IsSpaceOf (V.db base.now).schema.tables space.now } by { sound-prop (V.db base.now).schema.tables (V.db base.now).rows space.now },
+    pub(crate) space: &'a Space,
+    pub(crate) base: &'a V,
+    pub(crate) ghost sound: { IsBase (V.db base.now).schema.tables (V.db base.now).rows × IsSpaceOf (V.db base.now).schema.tables space.now } by { sound-prop (V.db base.now).schema.tables (V.db base.now).rows space.now },
 }
 
 impl<'a, V: StoreView> Over<'a, V> {

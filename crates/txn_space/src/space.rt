@@ -10,15 +10,18 @@ ghost use Rattle.state_model.specs.Put.{put_rows};
 ghost use Rattle.txn_space.specs.Changed.{changed_db, changed_rows};
 ghost use Rattle.txn_space.specs.Entries.{entries_at};
 ghost use Rattle.txn_space.specs.HasPut.{entries_put};
+ghost use Rattle.txn_space.specs.Merged.{AreMerged};
 ghost use Rattle.txn_space.specs.Sound.{IsBase, IsSpaceOf};
 
 use crate::entry::{ByKey, Entries, Entry};
+use crate::merged::{Merged, MergedTable};
+use crate::merging::merged_rows;
 use crate::net::add_changes;
 use crate::over::Over;
 use crate::put::put_all;
 use crate::walk::{count_with, run_from};
 use own_base::{Change, List, MakeCopy, Row, RowName, TableNo};
-use own_model::StoreView;
+use own_model::{FootItem, Footprint, StoreView};
 use page_tree::Pages;
 use row_reading::definition_of;
 use std::alloc::{AllocError, Global};
@@ -67,6 +70,52 @@ impl Space {
         ensures { ⟦<Over<'a, V> as StoreView>⟧.db result ≡ changed_db (V.db base.now) self.now }
     {
         Over::new(self, base)
+    }
+
+    /// Merges the rows of a table with its entries, where it has some and the item names it as a whole, behind the tables that
+    /// are merged.
+    fn merge<'a, V: StoreView>(
+        &'a self,
+        alloc: Global,
+        base: &'a V,
+        item: &FootItem,
+        merged: &mut Vec<MergedTable<'a>>,
+    ) -> Result<(), AllocError>
+        requires base { IsBase (V.db base.now).schema.tables (V.db base.now).rows }
+        requires space { IsSpaceOf (V.db base.now).schema.tables self.now }
+        ensures { OnOk result (AreMerged (changed_db (V.db base.now) self.now).rows merged.old.items → AreMerged (changed_db (V.db base.now) self.now).rows merged.new.items) }
+    {
+        let table = item.table;
+        if item.key.is_some() || table.0 as usize >= base.schema().tables.items().len() {
+            return Ok(());
+        }
+        match self.entries(table) {
+            Some(entries) if entries.len() > 0 => {
+                let rows = merged_rows(alloc, base, table, definition_of(base, table), entries)?;
+                merged.push(MergedTable { table, rows })?;
+                Ok(())
+            }
+            _ => Ok(()),
+        }
+    }
+
+    /// The base's rows, as changed, where the tables that a footprint names as a whole are merged with their changes: a walk
+    /// over such a table goes over each row once.
+    pub fn merged<'a, V: StoreView>(
+        &'a self,
+        alloc: Global,
+        base: &'a V,
+        footprint: &Footprint,
+    ) -> Result<Merged<'a, V>, AllocError>
+        requires base { IsBase (V.db base.now).schema.tables (V.db base.now).rows }
+        requires space { IsSpaceOf (V.db base.now).schema.tables self.now }
+        ensures { IfOk result (λ merged. ⟦<Merged<'a, V> as StoreView>⟧.db merged ≡ changed_db (V.db base.now) self.now) }
+    {
+        let mut tables = Vec::new(alloc);
+        for item in footprint.items() {
+            self.merge(alloc, base, item, &mut tables)?;
+        }
+        Ok(Merged::new(self.over(base), tables))
     }
 
     /// Makes changes, one after another: all of them, or none where memory is refused. The base is that of the tables; what

@@ -12,22 +12,22 @@ use Rattle.txn_core.proofs.Runs.{changed_base, changed_tables}
 use Rattle.txn_core.proofs.running.net_over.Goals as goal
 
 pub single-requires-clause-write : goal.single-requires-clause-write
-single-requires-clause-write g c = subst (λ (db : Db). IsWrite db.schema c.args.bound.now) (sym c.over-over.ensures) c.requires.write
+single-requires-clause-write g c = subst (λ (db : Db). IsWrite db.schema c.args.bound.now) (sym c.in-Ok.ensures) c.requires.write
 
 pub single-requires-clause-tables : goal.single-requires-clause-tables
 single-requires-clause-tables g c =
-    subst (λ (db : Db). AreTables db.schema db.rows) (sym c.over-over.ensures)
+    subst (λ (db : Db). AreTables db.schema db.rows) (sym c.in-Ok.ensures)
     (changed_tables (g.V.StoreView.db c.args.version.now) c.args.space.now c.requires.store c.requires.space c.requires.rows)
 
 pub single-requires-clause-base : goal.single-requires-clause-base
 single-requires-clause-base g c =
-    subst (λ (db : Db). IsBase db.schema.tables db.rows) (sym c.over-over.ensures)
+    subst (λ (db : Db). IsBase db.schema.tables db.rows) (sym c.in-Ok.ensures)
     (changed_base (g.V.StoreView.db c.args.version.now) c.args.space.now c.requires.store c.requires.space)
 
-pub returns-clause-ok : goal.returns-clause-ok
-returns-clause-ok g c =
-    subst (λ (db : Db). IfOk c.single.result (λ written. NetTo db (run_bound db c.args.bound.now) written.0 written.1)) c.over-over.ensures c.single.ensures.ok
+pub returns-in-Ok-clause-ok : goal.returns-in-Ok-clause-ok
+returns-in-Ok-clause-ok g c =
+    subst (λ (db : Db). IfOk c.single.result (λ written. NetTo db (run_bound db c.args.bound.now) written.0 written.1)) c.in-Ok.ensures c.single.ensures.ok
 
-pub returns-clause-err : goal.returns-clause-err
-returns-clause-err g c =
-    subst (λ (db : Db). IfErr c.single.result (λ why. why ≢ Memory → (run_bound db c.args.bound.now).reply ≡ Refused why)) c.over-over.ensures c.single.ensures.err
+pub returns-in-Ok-clause-err : goal.returns-in-Ok-clause-err
+returns-in-Ok-clause-err g c =
+    subst (λ (db : Db). IfErr c.single.result (λ why. why ≢ Memory → (run_bound db c.args.bound.now).reply ≡ Refused why)) c.in-Ok.ensures c.single.ensures.err

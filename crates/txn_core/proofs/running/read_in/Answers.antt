@@ -10,15 +10,15 @@ use Rattle.txn_core.proofs.running.read_in.Goals as goal
 
 pub select_reply-requires-clause-tables : goal.select_reply-requires-clause-tables
 select_reply-requires-clause-tables g c =
-    subst (λ (db : Db). AreTables db.schema db.rows) (sym c.over-over.ensures)
+    subst (λ (db : Db). AreTables db.schema db.rows) (sym c.in_ok-merged.ensures)
     (changed_tables (g.V.StoreView.db c.args.version.now) c.args.space.now c.requires.store c.requires.space c.requires.rows)
 
 pub select_reply-requires-clause-views : goal.select_reply-requires-clause-views
-select_reply-requires-clause-views g c = subst (λ (db : Db). AreViewsThere db.schema) (sym c.over-over.ensures) c.requires.store.views
+select_reply-requires-clause-views g c = subst (λ (db : Db). AreViewsThere db.schema) (sym c.in_ok-merged.ensures) c.requires.store.views
 
 pub select_reply-requires-clause-there : goal.select_reply-requires-clause-there
-select_reply-requires-clause-there g c = subst (λ (db : Db). IsThere db.schema c.args.query.now) (sym c.over-over.ensures) c.requires.there
+select_reply-requires-clause-there g c = subst (λ (db : Db). IsThere db.schema c.args.query.now) (sym c.in_ok-merged.ensures) c.requires.there
 
 pub returns : goal.returns
 returns g c =
-    subst (λ (db : Db). IfOk c.select_reply.result (λ reply. reply ≡ reply_of (query_rows db.schema db.rows c.args.query.now))) c.over-over.ensures c.select_reply.ensures
+    subst (λ (db : Db). IfOk c.select_reply.result (λ reply. reply ≡ reply_of (query_rows db.schema db.rows c.args.query.now))) c.in_ok-merged.ensures c.select_reply.ensures

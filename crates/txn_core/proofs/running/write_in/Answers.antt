@@ -1,4 +1,4 @@
-use Rattle.std.proofs.Common.{◌∙◌, [], List, ap, subst, sym}
+use Rattle.std.proofs.Common.{◌∙◌, List, ap, subst, sym}
 use Rattle.std.proofs.lemmas.Result.{IfOk-weaker}
 use Rattle.own_base.specs.declared.change.Change.{Change}
 use Rattle.own_model.specs.declared.reply.Reply.{Reply}
