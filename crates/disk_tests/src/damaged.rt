@@ -4,7 +4,6 @@ use crate::words::Judgement;
 use disk_fields::{read_u32, read_u64};
 use std::alloc::{AllocError, Global};
 use std::process::Abort;
-use std::test::Fail;
 
 /// An opened area: a gate, the epoch 7, the length 64 of the image, the image; two records; a closed gate and a byte that
 /// doesn't count.
@@ -95,74 +94,106 @@ fn judged(alloc: Global, area: &[u8]) -> Result<Judgement, AllocError> {
     judged_records(alloc, area, records)
 }
 
+/// Compares the two judgements of an area, and answers what they are.
+fn compared(rt: &(impl Abort + AllocGlobal), area: &[u8]) -> Judgement {
+    let wanted = words::judged(area);
+    let found = judged(rt.alloc(), area).expect(rt, "memory");
+    assert_eq!(rt; found, wanted, "at {area:?}");
+    wanted
+}
+
+/// What a few fronts of the area are judged to be, by hand.
+const FRONTS: [(usize, Judgement); 8] = [
+    (17, Judgement::Shut),
+    (80, Judgement::Damaged(17)),
+    (81, Judgement::Damaged(81)),
+    (82, Judgement::Damaged(81)),
+    (154, Judgement::Damaged(154)),
+    (198, Judgement::Damaged(198)),
+    (199, Judgement::Whole(2)),
+    (200, Judgement::Whole(2)),
+];
+
+/// So many bytes of the area, in front.
+fn front(length: usize) -> &'static [u8] {
+    AREA.get(..length).unwrap_or(&AREA)
+}
+
 #[test]
-fn each_front_of_an_area(rt: HostRuntime) -> Result<(), Fail> {
+fn each_front_of_an_area(rt: HostRuntime) {
     for length in 0..=AREA.len() {
-        let front = AREA.get(..length).unwrap_or(&AREA);
-        let wanted = words::judged(front);
-        assert_eq!(rt; judged(rt.alloc(), front)?, wanted, "of {length}");
+        let _ = compared(&rt, front(length));
     }
-    // What a few of them are, by hand.
-    for (length, wanted) in [
-        (17, Judgement::Shut),
-        (80, Judgement::Damaged(17)),
-        (81, Judgement::Damaged(81)),
-        (82, Judgement::Damaged(81)),
-        (154, Judgement::Damaged(154)),
-        (198, Judgement::Damaged(198)),
-        (199, Judgement::Whole(2)),
-        (200, Judgement::Whole(2)),
-    ] {
-        let front = AREA.get(..length).unwrap_or(&AREA);
-        assert_eq!(rt; words::judged(front), wanted, "of {length}");
+    for (length, wanted) in &FRONTS {
+        assert_eq!(rt; words::judged(front(*length)), *wanted, "of {length}");
     }
-    Ok(())
+}
+
+/// The area.
+fn whole_area(rt: &(impl Abort + AllocGlobal)) -> Vec<u8> {
+    Vec::from_slice(rt.alloc(), &AREA).expect(rt, "memory")
 }
 
 /// Compares the two judgements of the area with each other byte at a place. Answers for how many it is whole.
-fn compare_at<R: AllocGlobal + Abort>(rt: &R, place: usize) -> Result<u32, Fail> {
-    let mut area = Vec::from_slice(rt.alloc(), &AREA)?;
+fn compare_at(rt: &(impl Abort + AllocGlobal), place: usize) -> u32 {
+    let mut area = whole_area(rt);
     let mut whole: u32 = 0;
     for byte in 0..=255 {
         if let Some(changed) = area.get_mut(place) {
             *changed = byte;
         }
-        let wanted = words::judged(&area);
-        assert_eq!(rt; judged(rt.alloc(), &area)?, wanted, "{byte} at {place}");
-        if matches!(wanted, Judgement::Whole(_)) {
+        if matches!(compared(rt, &area), Judgement::Whole(_)) {
             whole = whole.saturating_add(1);
         }
     }
-    Ok(whole)
+    whole
 }
 
+/// For how many bytes at a place the area is whole: the gate opens at one byte alone; any epoch will do; a length has to
+/// be right.
+const WHOLE: [(usize, u32); 4] = [(0, 1), (1, 256), (16, 1), (199, 256)];
+
 #[test]
-fn each_change_of_a_byte(rt: HostRuntime) -> Result<(), Fail> {
+fn each_change_of_a_byte(rt: HostRuntime) {
     for place in 0..AREA.len() {
-        let whole = compare_at(&rt, place)?;
+        let whole = compare_at(&rt, place);
         assert!(rt; whole >= 1, "at {place}");
     }
-    // The gate opens at one byte alone; any epoch will do; a length has to be right.
-    for (place, wanted) in [(0, 1), (1, 256), (16, 1), (199, 256)] {
-        assert_eq!(rt; compare_at(&rt, place)?, wanted, "at {place}");
+    for (place, wanted) in &WHOLE {
+        assert_eq!(rt; compare_at(&rt, *place), *wanted, "at {place}");
     }
-    Ok(())
+}
+
+/// An image's front is one exactly where it is whole.
+fn assert_image(rt: &(impl Abort + AllocGlobal), bytes: &[u8], wanted: bool) {
+    let found = is_image(rt.alloc(), bytes).expect(rt, "memory");
+    assert_eq!(rt; found, wanted, "at {bytes:?}");
+    assert_eq!(rt; words::is_image(bytes), wanted, "at {bytes:?}");
+}
+
+/// A payload's front is one exactly where it is whole.
+fn assert_payload(rt: &(impl Abort + AllocGlobal), bytes: &[u8], wanted: bool) {
+    let found = is_payload(rt.alloc(), bytes).expect(rt, "memory");
+    assert_eq!(rt; found, wanted, "at {bytes:?}");
+    assert_eq!(rt; words::is_payload(bytes), wanted, "at {bytes:?}");
+}
+
+/// Where the payloads of the area begin, and their lengths.
+const PAYLOADS: [(usize, usize); 2] = [(86, 68), (159, 39)];
+
+/// So many bytes of the area from a place on.
+fn part(first: usize, length: usize) -> &'static [u8] {
+    AREA.get(first..first.saturating_add(length)).unwrap_or(&[])
 }
 
 #[test]
-fn each_front_of_an_image_and_of_payloads(rt: HostRuntime) -> Result<(), Fail> {
-    let alloc = rt.alloc();
+fn each_front_of_an_image_and_of_payloads(rt: HostRuntime) {
     for length in 0..=64 {
-        let front = AREA.get(17..17 + length).unwrap_or(&[]);
-        assert_eq!(rt; is_image(alloc, front)?, length == 64, "of {length}");
-        assert_eq!(rt; words::is_image(front), length == 64);
+        assert_image(&rt, part(17, length), length == 64);
     }
-    for (first, bytes) in [(86, 68), (159, 39)] {
-        for length in 0..=bytes {
-            let front = AREA.get(first..first + length).unwrap_or(&[]);
-            assert_eq!(rt; is_payload(alloc, front)?, length == bytes, "of {length}");
-            assert_eq!(rt; words::is_payload(front), length == bytes);
+    for (first, bytes) in &PAYLOADS {
+        for length in 0..=*bytes {
+            assert_payload(&rt, part(*first, length), length == *bytes);
         }
     }
-    Ok(())
 }

@@ -8,9 +8,7 @@ use commit_journal::Journal;
 use outer_world::{Disk, Failed, MemDisk};
 use own_base::Area;
 use own_model::JOURNAL_ROOM;
-use std::alloc::{AllocError, Global};
 use std::process::Abort;
-use std::test::Fail;
 
 /// The image of the empty store, and a closed gate.
 const EMPTY: [u8; 14] = [1, 0, 0, 0, 0, 0, 0, 0, 0, 0, 0, 0, 0, 0];
@@ -74,28 +72,25 @@ const SHUT: [u8; 50] = [
 ];
 
 /// A disk of two areas without bytes, of which the calls of these numbers are to fail.
-#[tactic(auto, using(crate::proofs::FreshDisks::fresh_synced))]
-fn new_disk(alloc: Global, fails: &[u32]) -> Result<MemDisk, AllocError>
-    ensures { IfOk result (AreSynced ⟦<MemDisk as Disk>⟧.holds ⟦<MemDisk as Disk>⟧.leaves) }
+fn new_disk(rt: &(impl Abort + AllocGlobal), fails: &[u32]) -> MemDisk
+    ensures { AreSynced ⟦<MemDisk as Disk>⟧.holds ⟦<MemDisk as Disk>⟧.leaves result }
 {
-    MemDisk::new(alloc, fails)
+    MemDisk::new(rt.alloc(), fails).expect(rt, "memory")
 }
 
-/// A disk of these bytes, all of them durable; nothing where a write failed.
-fn disk_of(alloc: Global, a: &[u8], b: &[u8]) -> Result<MemDisk, AllocError>
-    ensures { IfOk result (AreSynced ⟦<MemDisk as Disk>⟧.holds ⟦<MemDisk as Disk>⟧.leaves) }
+/// A disk of these bytes, all of them durable.
+fn disk_of(rt: &(impl Abort + AllocGlobal), a: &[u8], b: &[u8]) -> MemDisk
+    ensures { AreSynced ⟦<MemDisk as Disk>⟧.holds ⟦<MemDisk as Disk>⟧.leaves result }
 {
-    let mut disk = MemDisk::new(alloc, &[])?;
-    match lay(&mut disk, a, b) {
-        Ok(()) => Ok(disk.crash(true)),
-        Err(Failed) => Err(AllocError),
-    }
+    let mut disk = MemDisk::new(rt.alloc(), &[]).expect(rt, "memory");
+    lay(rt, &mut disk, a, b);
+    disk.crash(true)
 }
 
 /// Writes the bytes of both areas.
-fn lay(disk: &mut MemDisk, a: &[u8], b: &[u8]) -> Result<(), Failed> {
-    disk.write_at(Area::A, 0, a)?;
-    disk.write_at(Area::B, 0, b)
+fn lay(rt: &impl Abort, disk: &mut MemDisk, a: &[u8], b: &[u8]) {
+    disk.write_at(Area::A, 0, a).expect(rt, "a write");
+    disk.write_at(Area::B, 0, b).expect(rt, "a write");
 }
 
 /// Begins a journal on a disk whose areas are too short to be opened.
@@ -110,6 +105,14 @@ fn begin(disk: MemDisk, gated: &[u8]) -> Result<Journal<MemDisk>, MemDisk>
     Journal::first(disk, gated)
 }
 
+/// Begins one of the empty store.
+fn begun(rt: &impl Abort, disk: MemDisk) -> Journal<MemDisk>
+    requires synced { AreSynced ⟦<MemDisk as Disk>⟧.holds ⟦<MemDisk as Disk>⟧.leaves disk }
+    ensures { IsAtRest ⟦<MemDisk as Disk>⟧.holds ⟦<MemDisk as Disk>⟧.leaves result }
+{
+    begin(disk, &EMPTY).expect(rt, "a journal")
+}
+
 /// Adds a record where there is room for it.
 fn append(journal: &mut Journal<MemDisk>, framed: &[u8]) -> Result<(), Failed>
     requires rests { IsAtRest ⟦<MemDisk as Disk>⟧.holds ⟦<MemDisk as Disk>⟧.leaves journal.old }
@@ -122,136 +125,145 @@ fn append(journal: &mut Journal<MemDisk>, framed: &[u8]) -> Result<(), Failed>
     journal.append(framed)
 }
 
+/// Adds the record by which a row is forgotten.
+fn forget(rt: &impl Abort, journal: &mut Journal<MemDisk>)
+    requires rests { IsAtRest ⟦<MemDisk as Disk>⟧.holds ⟦<MemDisk as Disk>⟧.leaves journal.old }
+    ensures { IsAtRest ⟦<MemDisk as Disk>⟧.holds ⟦<MemDisk as Disk>⟧.leaves journal.new }
+{
+    append(journal, &FORGET).expect(rt, "a record");
+}
+
+/// Adds the record by which a row is put.
+fn insert(rt: &impl Abort, journal: &mut Journal<MemDisk>)
+    requires rests { IsAtRest ⟦<MemDisk as Disk>⟧.holds ⟦<MemDisk as Disk>⟧.leaves journal.old }
+    ensures { IsAtRest ⟦<MemDisk as Disk>⟧.holds ⟦<MemDisk as Disk>⟧.leaves journal.new }
+{
+    append(journal, &INSERT).expect(rt, "a record");
+}
+
 /// Begins anew with an image where there is room for it.
-fn replace(journal: &mut Journal<MemDisk>, gated: &[u8]) -> Result<(), Failed>
+fn replace(rt: &impl Abort, journal: &mut Journal<MemDisk>, gated: &[u8])
     requires rests { IsAtRest ⟦<MemDisk as Disk>⟧.holds ⟦<MemDisk as Disk>⟧.leaves journal.old }
     requires gated { IsGated gated.now }
-    ensures { OnOk result (IsAtRest ⟦<MemDisk as Disk>⟧.holds ⟦<MemDisk as Disk>⟧.leaves journal.new) }
+    ensures { IsAtRest ⟦<MemDisk as Disk>⟧.holds ⟦<MemDisk as Disk>⟧.leaves journal.new }
 {
-    if journal.failed() || !journal.fits(gated.len() as u64) {
-        return Err(Failed);
-    }
-    journal.replace(gated)
+    assert!(rt; !journal.failed());
+    assert!(rt; journal.fits(gated.len() as u64));
+    journal.replace(gated).expect(rt, "an image");
+}
+
+/// Lends the bytes of an area.
+fn bytes_of(disk: &MemDisk, area: Area) -> &[u8] {
+    disk.bytes(area)
 }
 
 /// Compares the bytes of both areas.
-fn assert_areas<R: Abort>(rt: &R, disk: &MemDisk, a: &[u8], b: &[u8]) {
-    assert_eq!(rt; disk.bytes(Area::A), a);
-    assert_eq!(rt; disk.bytes(Area::B), b);
+fn assert_areas(rt: &impl Abort, disk: &MemDisk, a: &[u8], b: &[u8]) {
+    assert_eq!(rt; bytes_of(disk, Area::A), a);
+    assert_eq!(rt; bytes_of(disk, Area::B), b);
+}
+
+/// So many bytes more have room, and none above.
+fn assert_room(rt: &impl Abort, journal: &Journal<MemDisk>, most: u64) {
+    assert!(rt; journal.fits(most) && !journal.fits(most.saturating_add(1)));
 }
 
 #[test]
-fn records_are_added_one_behind_another(rt: HostRuntime) -> Result<(), Fail> {
-    let Ok(mut journal) = begin(new_disk(rt.alloc(), &[])?, &EMPTY) else {
-        return Err(Fail::from("a disk that failed"));
-    };
+fn records_are_added_one_behind_another(rt: HostRuntime) {
+    let mut journal = begun(&rt, new_disk(&rt, &[]));
     assert_areas(&rt, journal.disk(), &BEGUN, &[0]);
-    assert!(rt; journal.fits(JOURNAL_ROOM - 30) && !journal.fits(JOURNAL_ROOM - 29));
-    let Ok(()) = append(&mut journal, &FORGET) else {
-        return Err(Fail::from("a disk that failed"));
-    };
+    assert_room(&rt, &journal, JOURNAL_ROOM - 30);
+    forget(&rt, &mut journal);
     assert_areas(&rt, journal.disk(), &FORGOTTEN, &[0]);
-    let Ok(()) = append(&mut journal, &INSERT) else {
-        return Err(Fail::from("a disk that failed"));
-    };
+    insert(&rt, &mut journal);
     assert_areas(&rt, journal.disk(), &INSERTED, &[0]);
-    assert!(rt; journal.fits(JOURNAL_ROOM - 94) && !journal.fits(JOURNAL_ROOM - 93));
+    assert_room(&rt, &journal, JOURNAL_ROOM - 94);
     assert!(rt; !journal.failed() && journal.disk().faults() == 0);
     assert_areas(&rt, &journal.close(), &INSERTED, &[0]);
-    Ok(())
 }
 
 #[test]
-fn an_image_takes_the_place_of_what_was_there(rt: HostRuntime) -> Result<(), Fail> {
-    let Ok(mut journal) = begin(new_disk(rt.alloc(), &[])?, &EMPTY) else {
-        return Err(Fail::from("a disk that failed"));
-    };
-    let Ok(()) = append(&mut journal, &FORGET) else {
-        return Err(Fail::from("a disk that failed"));
-    };
-    let Ok(()) = replace(&mut journal, &CREATES) else {
-        return Err(Fail::from("a disk that failed"));
-    };
+fn an_image_takes_the_place_of_what_was_there(rt: HostRuntime) {
+    let mut journal = begun(&rt, new_disk(&rt, &[]));
+    forget(&rt, &mut journal);
+    replace(&rt, &mut journal, &CREATES);
     assert_areas(&rt, journal.disk(), &[0], &REPLACED);
-    let Ok(()) = append(&mut journal, &FORGET) else {
-        return Err(Fail::from("a disk that failed"));
-    };
+    forget(&rt, &mut journal);
     assert_areas(&rt, journal.disk(), &[0], &FORGOTTEN_AGAIN);
-    let Ok(()) = replace(&mut journal, &EMPTY) else {
-        return Err(Fail::from("a disk that failed"));
-    };
+    replace(&rt, &mut journal, &EMPTY);
     assert_areas(&rt, journal.disk(), &THIRD, &[0]);
-    Ok(())
 }
 
+/// What both areas hold where neither is opened.
+const NOT_OPENED: [(&[u8], &[u8]); 3] = [
+    (&[], &[1]),
+    (&[1, 0, 0, 0], &[0]),
+    (&[9], &[1, 1, 1, 1, 1, 1, 1, 1, 1, 1, 1, 1, 1, 1, 1, 1, 1]),
+];
+
 #[test]
-fn a_journal_begins_over_areas_that_are_not_opened(rt: HostRuntime) -> Result<(), Fail> {
-    for (a, b) in [
-        ([].as_slice(), [1].as_slice()),
-        (&[1, 0, 0, 0], &[0]),
-        (&[9], &[1, 1, 1, 1, 1, 1, 1, 1, 1, 1, 1, 1, 1, 1, 1, 1, 1]),
-    ] {
-        let Ok(journal) = begin(disk_of(rt.alloc(), a, b)?, &EMPTY) else {
-            return Err(Fail::from("a disk that failed"));
-        };
+fn a_journal_begins_over_areas_that_are_not_opened(rt: HostRuntime) {
+    for (a, b) in &NOT_OPENED {
+        let journal = begun(&rt, disk_of(&rt, a, b));
         assert_areas(&rt, journal.disk(), &BEGUN, &[0]);
     }
-    Ok(())
+}
+
+/// What the area beside an opened one holds; the last of it is of a lower epoch.
+const BESIDE: [&[u8]; 4] = [&[], &[1], &[0, 1, 0, 0, 0], &FORGOTTEN];
+
+/// Goes on with the journal of an area of two creates.
+fn resumed(rt: &impl Abort, disk: MemDisk) -> Journal<MemDisk>
+    requires synced { AreSynced ⟦<MemDisk as Disk>⟧.holds ⟦<MemDisk as Disk>⟧.leaves disk }
+{
+    Journal::resume(disk, Area::B, 2, 56).expect(rt, "a journal")
 }
 
 #[test]
-fn the_other_area_becomes_one_closed_gate(rt: HostRuntime) -> Result<(), Fail> {
-    for other in [
-        [].as_slice(),
-        &[1],
-        &[0, 1, 0, 0, 0],
-        // of a lower epoch
-        &FORGOTTEN,
-    ] {
-        let disk = disk_of(rt.alloc(), other, &REPLACED)?;
-        let Ok(journal) = Journal::resume(disk, Area::B, 2, 56) else {
-            return Err(Fail::from("a disk that failed"));
-        };
+fn the_other_area_becomes_one_closed_gate(rt: HostRuntime) {
+    for other in &BESIDE {
+        let journal = resumed(&rt, disk_of(&rt, other, &REPLACED));
         assert_areas(&rt, journal.disk(), &[0], &REPLACED);
-        assert!(rt; journal.fits(JOURNAL_ROOM - 56) && !journal.fits(JOURNAL_ROOM - 55));
+        assert_room(&rt, &journal, JOURNAL_ROOM - 56);
         assert!(rt; !journal.failed());
     }
-    Ok(())
 }
 
-/// The bytes of area A after a record was added over a disk whose call of a number failed, where that was a call for the
-/// record.
-fn after_fault(alloc: Global, number: u32) -> Result<Option<MemDisk>, AllocError> {
-    let Ok(mut journal) = begin(new_disk(alloc, &[number])?, &EMPTY) else {
-        return Ok(None);
+/// The disk after a record was added over one whose call of a number failed, where that was a call for the record.
+fn after_fault(rt: &(impl Abort + AllocGlobal), number: u32) -> Option<MemDisk> {
+    let Ok(mut journal) = begin(new_disk(rt, &[number]), &EMPTY) else {
+        return None;
     };
     if append(&mut journal, &FORGET).is_ok() || !journal.failed() || journal.disk().faults() != 1 {
-        return Ok(None);
+        return None;
     }
-    Ok(Some(journal.close()))
+    Some(journal.close())
+}
+
+/// What stands in area A after the first, second .. call for the record has failed, and what a crash then leaves of it
+/// that loses all that isn't durable: the record is written, made durable, its gate opened, and that made durable.
+const LEFT: [(&[u8], &[u8]); 4] = [
+    (&BEGUN, &BEGUN),
+    (&SHUT, &BEGUN),
+    (&SHUT, &SHUT),
+    (&FORGOTTEN, &SHUT),
+];
+
+/// Compares a disk with what has to be left after so many calls for the record and one that failed.
+fn assert_left(rt: &impl Abort, disk: MemDisk, calls: usize) {
+    let (now, durable) = LEFT.get(calls).expect(rt, "no more calls for a record");
+    assert_areas(rt, &disk, now, &[0]);
+    assert_areas(rt, &disk.crash(false), durable, &[0]);
 }
 
 #[test]
-fn a_record_is_durable_before_its_gate_opens(rt: HostRuntime) -> Result<(), Fail> {
-    // What stands in area A after the first, second .. call for the record has failed, and what a crash then leaves of it
-    // that loses all that isn't durable: the record is written, made durable, its gate opened, and that made durable.
-    let mut left = [
-        (BEGUN.as_slice(), BEGUN.as_slice()),
-        (&SHUT, &BEGUN),
-        (&SHUT, &SHUT),
-        (&FORGOTTEN, &SHUT),
-    ]
-    .into_iter();
+fn a_record_is_durable_before_its_gate_opens(rt: HostRuntime) {
+    let mut calls: usize = 0;
     for number in 0..30 {
-        let Some(disk) = after_fault(rt.alloc(), number)? else {
-            continue;
-        };
-        let Some((now, durable)) = left.next() else {
-            return Err(Fail::from("more calls for a record"));
-        };
-        assert_areas(&rt, &disk, now, &[0]);
-        assert_areas(&rt, &disk.crash(false), durable, &[0]);
+        if let Some(disk) = after_fault(&rt, number) {
+            assert_left(&rt, disk, calls);
+            calls = calls.saturating_add(1);
+        }
     }
-    assert!(rt; left.next().is_none());
-    Ok(())
+    assert_eq!(rt; calls, LEFT.len());
 }

@@ -1,12 +1,10 @@
-ghost use Rattle.std.specs.Prelude.{IfOk, IfSome};
 ghost use Rattle.rec_codec.specs.Encodable.{IsEncodable};
 
-use disk_model::Commit;
-use own_base::{Key, TableNo, Value};
+use disk_model::{Commit, Put};
+use own_base::{Key, List, Row, RowName, TableNo, Value};
 use rec_codec::laws::decoded_commit_encodes_to_the_same_bytes;
 use rec_codec::{EncodeFault, decode, encode};
-use std::alloc::{AllocError, Global};
-use std::test::Fail;
+use std::process::Abort;
 
 /// The row (5, 'Ann') is put into table 0.
 const INSERT: [u8; 40] = [
@@ -28,130 +26,165 @@ const TABLE: [u8; 11] = [1, 0, 0, 0, 6, 67, 82, 69, 65, 84, 69];
 
 const VIEW: [u8; 6] = [2, 0, 0, 0, 1, 67];
 
-/// The commit that the bytes are the payload of, which may be encoded.
-fn decoded(alloc: Global, payload: &[u8]) -> Result<Option<Commit>, AllocError>
-    ensures { IfOk result (λ decoded. IfSome decoded IsEncodable) }
+/// The commit that the bytes are the payload of.
+fn commit_of(rt: &(impl Abort + AllocGlobal), payload: &[u8]) -> Commit {
+    let commit = decode(rt.alloc(), payload).expect(rt, "memory");
+    commit.expect(rt, "a payload")
+}
+
+/// The same, which may be encoded.
+fn decoded(rt: &(impl Abort + AllocGlobal), payload: &[u8]) -> Commit
+    ensures { IsEncodable result }
 {
     decoded_commit_encodes_to_the_same_bytes();
-    decode(alloc, payload)
+    let commit = decode(rt.alloc(), payload).expect(rt, "memory");
+    commit.expect(rt, "a payload")
 }
 
-#[test]
-fn an_insert_is_decoded(rt: HostRuntime) -> Result<(), Fail> {
-    let Some(Commit::Changes(puts)) = decode(rt.alloc(), &INSERT)? else {
-        return Err(Fail::from("no changes"));
-    };
-    assert_eq!(rt; puts.items().len(), 1);
-    for put in puts.items() {
-        assert_eq!(rt; put.name.table, TableNo(0));
-        assert!(rt; matches!(put.name.key, Key::Int(5)));
-        let Some(row) = &put.after else {
-            return Err(Fail::from("no row"));
-        };
-        let [Value::Int(5), Value::Text(name)] = row.values() else {
-            return Err(Fail::from("other values"));
-        };
-        assert_eq!(rt; name.as_str(), "Ann");
+/// The rows that a commit changed.
+fn changes_of(commit: Commit) -> Option<List<Put>> {
+    match commit {
+        Commit::Changes(puts) => Some(puts),
+        _ => None,
     }
-    Ok(())
 }
 
-#[test]
-fn a_forget_is_decoded(rt: HostRuntime) -> Result<(), Fail> {
-    let Some(Commit::Forget(name)) = decode(rt.alloc(), &FORGET)? else {
-        return Err(Fail::from("no forget"));
-    };
+/// The data subject whose rows a commit forgot.
+fn forgotten(commit: Commit) -> Option<RowName> {
+    match commit {
+        Commit::Forget(name) => Some(name),
+        _ => None,
+    }
+}
+
+/// The row 5 of table 0.
+fn assert_five(rt: &impl Abort, name: &RowName) {
     assert_eq!(rt; name.table, TableNo(0));
     assert!(rt; matches!(name.key, Key::Int(5)));
-    Ok(())
+}
+
+/// Whether a row is (5, 'Ann').
+fn is_ann(row: &Row) -> bool {
+    match row.values() {
+        [Value::Int(5), Value::Text(name)] => name.as_str() == "Ann",
+        _ => false,
+    }
 }
 
 #[test]
-fn what_was_decoded_is_encoded_again(rt: HostRuntime) -> Result<(), Fail> {
-    for payload in [
+fn an_insert_is_decoded(rt: HostRuntime) {
+    let puts = changes_of(commit_of(&rt, &INSERT)).expect(&rt, "changes");
+    assert_eq!(rt; puts.items().len(), 1);
+    for put in puts.items() {
+        assert_five(&rt, &put.name);
+        assert!(rt; put.after.as_ref().is_some_and(is_ann));
+    }
+}
+
+#[test]
+fn a_forget_is_decoded(rt: HostRuntime) {
+    let name = forgotten(commit_of(&rt, &FORGET)).expect(&rt, "a forget");
+    assert_five(&rt, &name);
+}
+
+/// The payload stands behind its length of four bytes, and a closed gate behind it.
+fn assert_framed(rt: &impl Abort, framed: &[u8], payload: &[u8]) {
+    assert!(rt; payload.len() < 256);
+    assert_eq!(rt; framed.len(), payload.len() + 5);
+    assert!(rt; framed.starts_with(&[0, 0, 0, payload.len() as u8]));
+    assert!(rt; framed.ends_with(&[0]));
+    assert_eq!(rt; framed.get(4..4 + payload.len()), Some(payload));
+}
+
+#[test]
+fn what_was_decoded_is_encoded_again(rt: HostRuntime) {
+    for payload in &[
         INSERT.as_slice(),
         FORGET.as_slice(),
         TWO_CHANGES.as_slice(),
         TABLE.as_slice(),
         VIEW.as_slice(),
     ] {
-        let Some(commit) = decoded(rt.alloc(), payload)? else {
-            return Err(Fail::from("no payload"));
-        };
-        let framed = encode(rt.alloc(), &commit)?;
-        let bytes = framed.items();
-        assert_eq!(rt; bytes.len(), payload.len() + 5);
-        assert!(rt; bytes.starts_with(&[0, 0, 0, payload.len() as u8]));
-        assert!(rt; bytes.ends_with(&[0]));
-        assert_eq!(rt; bytes.get(4..4 + payload.len()), Some(payload));
+        let framed = encode(rt.alloc(), &decoded(&rt, payload)).expect(&rt, "memory");
+        assert_framed(&rt, framed.items(), payload);
     }
-    Ok(())
+}
+
+/// Bytes that are no payload.
+const NO_PAYLOADS: [&[u8]; 10] = [
+    // no change
+    &[3, 0, 0, 0, 0],
+    // no kind, and kinds that there are not
+    &[],
+    &[0, 0, 0, 0, 0],
+    &[5, 0, 0, 0, 0, 1, 0, 0, 0, 0, 0, 0, 0, 5],
+    // a key that is NULL, and one of no kind
+    &[4, 0, 0, 0, 0, 0],
+    &[4, 0, 0, 0, 0, 3, 0, 0, 0, 0, 0, 0, 0, 5],
+    // bytes that are no text
+    &[1, 0, 0, 0, 1, 255],
+    // a row without values
+    &[3, 0, 0, 0, 1, 0, 0, 0, 0, 2, 0, 0, 0, 0, 1, 0, 0, 0, 0],
+    // one row twice
+    &[
+        3, 0, 0, 0, 2, 0, 0, 0, 0, 2, 0, 0, 0, 0, 0, 0, 0, 0, 0, 2, 0, 0, 0, 0, 0,
+    ],
+    // the higher table first
+    &[
+        3, 0, 0, 0, 2, 0, 0, 0, 1, 2, 0, 0, 0, 0, 0, 0, 0, 0, 0, 2, 0, 0, 0, 0, 0,
+    ],
+];
+
+/// The bytes aren't decoded.
+fn assert_none(rt: &(impl Abort + AllocGlobal), payload: &[u8]) {
+    let commit = decode(rt.alloc(), payload).expect(rt, "memory");
+    assert!(rt; commit.is_none(), "at {payload:?}");
+}
+
+/// The INSERT, and these bytes behind it.
+fn insert_and(rt: &(impl Abort + AllocGlobal), behind: &[u8]) -> Vec<u8> {
+    let mut bytes = Vec::from_slice(rt.alloc(), &INSERT).expect(rt, "memory");
+    bytes.extend_from_slice(behind).expect(rt, "memory");
+    bytes
 }
 
 #[test]
-fn payloads_that_are_none(rt: HostRuntime) -> Result<(), Fail> {
-    let mut longer = Vec::from_slice(rt.alloc(), &INSERT)?;
-    longer.push(0)?;
-    let mut other_tag = Vec::from_slice(rt.alloc(), &INSERT)?;
+fn payloads_that_are_none(rt: HostRuntime) {
+    // a byte less, a byte more, and another tag before the row
+    assert_none(&rt, &INSERT[..39]);
+    assert_none(&rt, &insert_and(&rt, &[0]));
+    let mut other_tag = insert_and(&rt, &[]);
     if let Some(tag) = other_tag.get_mut(18) {
         *tag = 2;
     }
-    for payload in [
-        // a byte less, a byte more, no change, and another tag before the row
-        &INSERT[..39],
-        longer.as_slice(),
-        [3, 0, 0, 0, 0].as_slice(),
-        other_tag.as_slice(),
-        // no kind, and kinds that there are not
-        [].as_slice(),
-        [0, 0, 0, 0, 0].as_slice(),
-        [5, 0, 0, 0, 0, 1, 0, 0, 0, 0, 0, 0, 0, 5].as_slice(),
-        // a key that is NULL, and one of no kind
-        [4, 0, 0, 0, 0, 0].as_slice(),
-        [4, 0, 0, 0, 0, 3, 0, 0, 0, 0, 0, 0, 0, 5].as_slice(),
-        // bytes that are no text
-        [1, 0, 0, 0, 1, 255].as_slice(),
-        // a row without values
-        [3, 0, 0, 0, 1, 0, 0, 0, 0, 2, 0, 0, 0, 0, 1, 0, 0, 0, 0].as_slice(),
-        // one row twice
-        [
-            3, 0, 0, 0, 2, 0, 0, 0, 0, 2, 0, 0, 0, 0, 0, 0, 0, 0, 0, 2, 0, 0, 0, 0, 0,
-        ]
-        .as_slice(),
-        // the higher table first
-        [
-            3, 0, 0, 0, 2, 0, 0, 0, 1, 2, 0, 0, 0, 0, 0, 0, 0, 0, 0, 2, 0, 0, 0, 0, 0,
-        ]
-        .as_slice(),
-    ] {
-        assert!(rt; decode(rt.alloc(), payload)?.is_none(), "at {payload:?}");
+    assert_none(&rt, &other_tag);
+    for payload in &NO_PAYLOADS {
+        assert_none(&rt, payload);
     }
-    Ok(())
 }
 
 /// The payload of a CREATE TABLE whose text has so many bytes, fewer than 2 ^ 32.
-fn long_text(alloc: Global, length: u32) -> Result<Vec<u8>, AllocError> {
-    let mut payload = Vec::from_slice(alloc, &[1])?;
-    payload.extend_from_slice(&length.to_be_bytes())?;
-    payload.resize(5 + length as usize, 97)?;
-    Ok(payload)
+fn long_text(rt: &(impl Abort + AllocGlobal), length: u32) -> Vec<u8> {
+    let mut payload = Vec::from_slice(rt.alloc(), &[1]).expect(rt, "memory");
+    payload
+        .extend_from_slice(&length.to_be_bytes())
+        .expect(rt, "memory");
+    payload.resize(5 + length as usize, 97).expect(rt, "memory");
+    payload
+}
+
+/// How many bytes such a payload is encoded to.
+fn encoded_length(rt: &(impl Abort + AllocGlobal), length: u32) -> Result<usize, EncodeFault> {
+    let commit = decoded(rt, &long_text(rt, length));
+    let framed = encode(rt.alloc(), &commit)?;
+    Ok(framed.items().len())
 }
 
 #[test]
-fn a_payload_of_the_limit_is_encoded_and_none_above(rt: HostRuntime) -> Result<(), Fail> {
-    let alloc = rt.alloc();
-    for (length, too_big) in [(16_777_211, None), (16_777_212, Some(16_777_217))] {
-        let Some(commit) = decoded(alloc, &long_text(alloc, length)?)? else {
-            return Err(Fail::from("no payload"));
-        };
-        match encode(alloc, &commit) {
-            Ok(framed) => {
-                assert!(rt; too_big.is_none());
-                assert_eq!(rt; framed.items().len(), 16_777_221);
-            }
-            Err(EncodeFault::TooBig(bytes)) => assert_eq!(rt; Some(bytes), too_big),
-            Err(EncodeFault::Memory) => return Err(Fail::from("out of memory")),
-        }
-    }
-    Ok(())
+fn a_payload_of_the_limit_is_encoded_and_none_above(rt: HostRuntime) {
+    assert_eq!(rt; encoded_length(&rt, 16_777_211), Ok(16_777_221));
+    assert_eq!(rt;
+        encoded_length(&rt, 16_777_212),
+        Err(EncodeFault::TooBig(16_777_217))
+    );
 }

@@ -5,10 +5,11 @@ use crate::selects::reply_to;
 use crate::small::Small;
 use crate::within::{are_tables_within, are_views_within, is_select_within, is_statement_within};
 use own_base::{List, Row, SessionNo, TableNo, Text};
-use own_model::{Bound, CreateTable, CreateView, Refusal, Reply, Statement};
+use own_model::{Bound, BoundSelect, CreateTable, CreateView, Refusal, Reply, Statement};
 use plan_bind::{bind, bind_view};
 use sql_print::print_reply;
 use sql_reader::read_statement;
+use std::mem::{drop, replace};
 use std::process::Abort;
 
 /// What a statement means over the schema of a small store.
@@ -40,16 +41,38 @@ fn create_view(rt: &(impl Abort + AllocGlobal), small: &mut Small, create: &Crea
 /// Gives a table its rows.
 fn fill(rt: &impl Abort, small: &mut Small, table: TableNo, rows: List<Row>) -> Reply {
     let count = rows.items().len() as u64;
-    *small.rows.get_mut(table.0 as usize).expect(rt, "a table") = rows;
+    let held = small.rows.get_mut(table.0 as usize).expect(rt, "a table");
+    drop(replace(held, rows));
     Reply::Counted(count)
 }
 
-/// The reply to a statement other than a CREATE. Only selects and INSERTs are run.
-fn run_bound(rt: &(impl Abort + AllocGlobal), small: &mut Small, statement: &Statement) -> Reply {
+/// The reply to a bound select.
+fn answer(rt: &(impl Abort + AllocGlobal), small: &Small, query: BoundSelect) -> Reply {
+    let reply = reply_to(rt, small, &query);
+    drop(query);
+    reply
+}
+
+/// The reply to a bound statement. Only selects and INSERTs are run.
+fn run_bound(rt: &(impl Abort + AllocGlobal), small: &mut Small, bound: Bound) -> Reply {
+    match bound {
+        Bound::Select(query) => answer(rt, small, query),
+        Bound::Insert { table, rows } => fill(rt, small, table, rows),
+        bound => {
+            drop(bound);
+            Reply::Done
+        }
+    }
+}
+
+/// The reply to a statement other than a CREATE.
+fn bind_and_run(
+    rt: &(impl Abort + AllocGlobal),
+    small: &mut Small,
+    statement: &Statement,
+) -> Reply {
     match bound(rt, small, statement) {
-        Ok(Bound::Select(query)) => reply_to(rt, small, &query),
-        Ok(Bound::Insert { table, rows }) => fill(rt, small, table, rows),
-        Ok(_) => Reply::Done,
+        Ok(bound) => run_bound(rt, small, bound),
         Err(refusal) => Reply::Refused(refusal),
     }
 }
@@ -67,26 +90,44 @@ fn run(rt: &(impl Abort + AllocGlobal), small: &mut Small, statement: &Statement
     match statement {
         Statement::CreateTable(create) => create_table(rt, small, create),
         Statement::CreateView(create) => create_view(rt, small, create),
-        _ => run_bound(rt, small, statement),
+        _ => bind_and_run(rt, small, statement),
     }
 }
 
-/// The lines of the reply to a text, the first call of session 1.
-fn lines(rt: &(impl Abort + AllocGlobal), small: &mut Small, text: &str) -> Text {
+/// The statement that a text is.
+pub fn read(rt: &(impl Abort + AllocGlobal), text: &str) -> Statement {
     assert!(rt; text.len() < 10000);
-    let statement = read_statement(rt.alloc(), text).expect(rt, "memory");
+    read_statement(rt.alloc(), text).expect(rt, "memory")
+}
+
+/// The lines of a reply to the first call of session 1.
+fn lines_of(rt: &(impl Abort + AllocGlobal), reply: Reply) -> Text {
+    let lines = print_reply(rt.alloc(), None, SessionNo(1), 1, &reply).expect(rt, "memory");
+    drop(reply);
+    lines
+}
+
+/// The lines of the reply to a text.
+fn lines(rt: &(impl Abort + AllocGlobal), small: &mut Small, text: &str) -> Text {
+    let statement = read(rt, text);
     let reply = run(rt, small, &statement);
-    print_reply(rt.alloc(), None, SessionNo(1), 1, &reply).expect(rt, "memory")
+    drop(statement);
+    lines_of(rt, reply)
+}
+
+/// Adds the line of this number of a reply.
+fn add_line(rt: &impl Abort, text: &mut String, number: usize, line: &str) {
+    text.push_str(if number == 0 { "- 1.1 " } else { "  " })
+        .expect(rt, "memory");
+    text.push_str(line).expect(rt, "memory");
+    text.push('\n').expect(rt, "memory");
 }
 
 /// The lines of a reply, as a row has them: each row of it stands behind ` / `.
 fn reply_lines(rt: &(impl Abort + AllocGlobal), wanted: &str) -> String {
     let mut text = String::new(rt.alloc());
     for (number, line) in wanted.split(" / ").enumerate() {
-        text.push_str(if number == 0 { "- 1.1 " } else { "  " })
-            .expect(rt, "memory");
-        text.push_str(line).expect(rt, "memory");
-        text.push('\n').expect(rt, "memory");
+        add_line(rt, &mut text, number, line);
     }
     text
 }
@@ -122,4 +163,5 @@ pub fn check_tables(rt: &(impl Abort + AllocGlobal), tables: &[&str]) {
     for rows in tables {
         check_calls(rt, &mut small, rows);
     }
+    drop(small);
 }

@@ -3,6 +3,7 @@
 use own_base::{Boxed, ColNo, List, Row, Value};
 use own_model::{BoundCond, BoundOperand, Cmp, Truth};
 use pred_eval::{keeps, truth};
+use std::mem::drop;
 use std::process::Abort;
 
 /// The row 1, 0, NULL.
@@ -29,6 +30,20 @@ fn two(rt: &(impl Abort + AllocGlobal), left: u32, right: u32) -> List<BoundCond
     List::from_vec(parts)
 }
 
+/// How a condition stands.
+fn standing(row: &Row, cond: BoundCond) -> Truth {
+    let stands = truth(&cond, row, None);
+    drop(cond);
+    stands
+}
+
+/// Whether a row, or a pair of rows, is kept by a condition.
+fn is_kept(row: &Row, right: Option<&Row>, cond: BoundCond) -> bool {
+    let kept = keeps(Some(&cond), row, right);
+    drop(cond);
+    kept
+}
+
 /// Two columns, of which 0 is 1, 1 isn't and 2 is NULL: whether both are 1, and whether one is.
 type Joined = (u32, u32, Truth, Truth);
 
@@ -47,9 +62,8 @@ const JOINED: [Joined; 9] = [
 /// Whether two columns stand so, joined.
 fn are_joined(rt: &(impl Abort + AllocGlobal), row: &Row, case: &Joined) -> bool {
     let (left, right, every, some) = *case;
-    let all = BoundCond::Every(two(rt, left, right));
-    let any = BoundCond::Some1(two(rt, left, right));
-    truth(&all, row, None) == every && truth(&any, row, None) == some
+    standing(row, BoundCond::Every(two(rt, left, right))) == every
+        && standing(row, BoundCond::Some1(two(rt, left, right))) == some
 }
 
 #[test]
@@ -67,16 +81,20 @@ const NEGATED: [(u32, Truth, Truth); 3] = [
     (2, Truth::Unknown, Truth::Unknown),
 ];
 
-/// How a column stands where it is to be 1, and whether the row is kept.
-fn plain(row: &Row, column: u32) -> (Truth, bool) {
-    let cond = is_one(column);
-    (truth(&cond, row, None), keeps(Some(&cond), row, None))
+/// Whether a column is not 1.
+fn is_not_one(rt: &(impl Abort + AllocGlobal), column: u32) -> BoundCond {
+    BoundCond::Not(Boxed::new(rt.alloc(), is_one(column)).expect(rt, "memory"))
 }
 
-/// How a column stands where it is not to be 1, and whether the row is kept.
-fn negated(rt: &(impl Abort + AllocGlobal), row: &Row, column: u32) -> (Truth, bool) {
-    let cond = BoundCond::Not(Boxed::new(rt.alloc(), is_one(column)).expect(rt, "memory"));
-    (truth(&cond, row, None), keeps(Some(&cond), row, None))
+/// Whether a column stands so where it is to be 1, and the row is kept where it is 1.
+fn holds(row: &Row, column: u32, wanted: Truth) -> bool {
+    standing(row, is_one(column)) == wanted && is_kept(row, None, is_one(column)) == (column == 0)
+}
+
+/// Whether a column stands so where it is not to be 1, and the row is kept where it is 0.
+fn fails(rt: &(impl Abort + AllocGlobal), row: &Row, column: u32, wanted: Truth) -> bool {
+    standing(row, is_not_one(rt, column)) == wanted
+        && is_kept(row, None, is_not_one(rt, column)) == (column == 1)
 }
 
 /// A row is kept where its condition is True, and not where it is Unknown.
@@ -84,47 +102,42 @@ fn negated(rt: &(impl Abort + AllocGlobal), row: &Row, column: u32) -> (Truth, b
 fn conditions_are_negated(rt: HostRuntime) {
     let row = row(&rt);
     assert!(rt; keeps(None, &row, None));
-    for (column, holds, fails) in &NEGATED {
-        assert!(rt; plain(&row, *column) == (*holds, *column == 0), "{column}");
-        assert!(rt;
-            negated(&rt, &row, *column) == (*fails, *column == 1),
-            "NOT {column}"
-        );
+    for (column, plain, negated) in &NEGATED {
+        assert!(rt; holds(&row, *column, *plain), "{column}");
+        assert!(rt; fails(&rt, &row, *column, *negated), "NOT {column}");
     }
 }
 
-/// Signs, and whether each takes 0 and 1, 1 and 1, 1 and 0.
-const TAKEN: [(Cmp, [Truth; 3]); 6] = [
-    (Cmp::Eq, [Truth::False, Truth::True, Truth::False]),
-    (Cmp::Ne, [Truth::True, Truth::False, Truth::True]),
-    (Cmp::Lt, [Truth::True, Truth::False, Truth::False]),
-    (Cmp::Le, [Truth::True, Truth::True, Truth::False]),
-    (Cmp::Gt, [Truth::False, Truth::False, Truth::True]),
-    (Cmp::Ge, [Truth::False, Truth::True, Truth::True]),
+/// A sign, and whether it takes 0 and 1, 1 and 1, 1 and 0.
+type Taken = (Cmp, Truth, Truth, Truth);
+
+const TAKEN: [Taken; 6] = [
+    (Cmp::Eq, Truth::False, Truth::True, Truth::False),
+    (Cmp::Ne, Truth::True, Truth::False, Truth::True),
+    (Cmp::Lt, Truth::True, Truth::False, Truth::False),
+    (Cmp::Le, Truth::True, Truth::True, Truth::False),
+    (Cmp::Gt, Truth::False, Truth::False, Truth::True),
+    (Cmp::Ge, Truth::False, Truth::True, Truth::True),
 ];
 
-/// How a comparison stands.
-fn standing(row: &Row, cond: BoundCond) -> Truth {
-    truth(&cond, row, None)
+/// How a comparison of a column with a number stands.
+fn against(row: &Row, column: u32, sign: Cmp, number: i64) -> Truth {
+    standing(row, compared(column, sign, Value::Int(number)))
+}
+
+/// Whether a sign takes values so.
+fn takes(row: &Row, case: &Taken) -> bool {
+    let (sign, less, equal, greater) = *case;
+    against(row, 1, sign, 1) == less
+        && against(row, 0, sign, 1) == equal
+        && against(row, 0, sign, 0) == greater
 }
 
 #[test]
 fn signs_take_values(rt: HostRuntime) {
     let row = row(&rt);
-    for (sign, taken) in &TAKEN {
-        let [less, equal, greater] = *taken;
-        assert!(rt;
-            standing(&row, compared(1, *sign, Value::Int(1))) == less,
-            "{sign:?}"
-        );
-        assert!(rt;
-            standing(&row, compared(0, *sign, Value::Int(1))) == equal,
-            "{sign:?}"
-        );
-        assert!(rt;
-            standing(&row, compared(0, *sign, Value::Int(0))) == greater,
-            "{sign:?}"
-        );
+    for case in &TAKEN {
+        assert!(rt; takes(&row, case), "{:?}", case.0);
     }
 }
 
@@ -151,16 +164,21 @@ fn are_pairs_unknown(row: &Row, sign: Cmp) -> bool {
 #[test]
 fn null_is_compared_with_nothing(rt: HostRuntime) {
     let row = row(&rt);
-    for (sign, _) in &TAKEN {
-        assert!(rt; are_unknown(&row, *sign), "{sign:?}");
-        assert!(rt; are_pairs_unknown(&row, *sign), "{sign:?}");
+    for case in &TAKEN {
+        assert!(rt; are_unknown(&row, case.0), "{:?}", case.0);
+        assert!(rt; are_pairs_unknown(&row, case.0), "{:?}", case.0);
     }
 }
 
 /// Whether a pair of rows is kept where a column is to be NULL, or not to be.
-fn is_kept(left: &Row, right: &Row, column: u32, not: bool) -> bool {
-    let cond = BoundCond::IsNull(ColNo(column), not);
-    keeps(Some(&cond), left, Some(right))
+fn is_pair_kept(left: &Row, right: &Row, column: u32, not: bool) -> bool {
+    is_kept(left, Some(right), BoundCond::IsNull(ColNo(column), not))
+}
+
+/// Whether a column of a pair is found to be NULL, or not to be.
+fn is_found(left: &Row, right: &Row, column: u32, is_null: bool) -> bool {
+    is_pair_kept(left, right, column, false) == is_null
+        && is_pair_kept(left, right, column, true) == !is_null
 }
 
 /// Columns of a pair, and whether each is NULL.
@@ -172,13 +190,6 @@ fn null_is_found(rt: HostRuntime) {
     let left = row(&rt);
     let right = row(&rt);
     for (column, is_null) in &NULLS {
-        assert!(rt;
-            is_kept(&left, &right, *column, false) == *is_null,
-            "{column}"
-        );
-        assert!(rt;
-            is_kept(&left, &right, *column, true) == !*is_null,
-            "{column}"
-        );
+        assert!(rt; is_found(&left, &right, *column, *is_null), "{column}");
     }
 }

@@ -3,6 +3,7 @@
 use own_base::{ColNo, List, Row, Value};
 use own_model::BoundExpr;
 use pred_eval::{ValueFault, value};
+use std::mem::drop;
 use std::process::Abort;
 
 /// The row of this number and NULL.
@@ -39,30 +40,42 @@ const LESS: [Case; 8] = [
 /// The value of an expression, or whether it is out of range.
 fn given(
     rt: &(impl Abort + AllocGlobal),
-    expr: &BoundExpr,
+    expr: BoundExpr,
     number: i64,
 ) -> Result<Value, ValueFault> {
     let row = row(rt, number);
-    value(rt.alloc(), expr, &row)
+    let given = value(rt.alloc(), &expr, &row);
+    drop(row);
+    drop(expr);
+    given
+}
+
+/// Whether an expression comes to this, or is out of range where that is none.
+fn comes_to(
+    rt: &(impl Abort + AllocGlobal),
+    expr: BoundExpr,
+    number: i64,
+    wanted: Option<i64>,
+) -> bool {
+    let wanted = wanted.map(Value::Int).ok_or(ValueFault::Range);
+    given(rt, expr, number) == wanted
 }
 
 #[test]
 fn sums_keep_to_their_range(rt: HostRuntime) {
     for (number, more, sum) in &MORE {
-        let wanted = (*sum).map(Value::Int).ok_or(ValueFault::Range);
-        let given = given(&rt, &BoundExpr::Plus(ColNo(0), *more), *number);
-        assert_eq!(rt; given, wanted, "{number} + {more}");
+        let plus = BoundExpr::Plus(ColNo(0), *more);
+        assert!(rt; comes_to(&rt, plus, *number, *sum), "{number} + {more}");
     }
     for (number, less, rest) in &LESS {
-        let wanted = (*rest).map(Value::Int).ok_or(ValueFault::Range);
-        let given = given(&rt, &BoundExpr::Minus(ColNo(0), *less), *number);
-        assert_eq!(rt; given, wanted, "{number} - {less}");
+        let minus = BoundExpr::Minus(ColNo(0), *less);
+        assert!(rt; comes_to(&rt, minus, *number, *rest), "{number} - {less}");
     }
 }
 
 /// Whether an expression gives a value over the row of 5.
 fn gives(rt: &(impl Abort + AllocGlobal), expr: BoundExpr, wanted: Value) -> bool {
-    given(rt, &expr, 5) == Ok(wanted)
+    given(rt, expr, 5) == Ok(wanted)
 }
 
 /// A sum with NULL is NULL, and a literal and a column are given as they are.

@@ -1,6 +1,7 @@
 ghost use Rattle.std.specs.Prelude.{◌≡◌, slice_index_or};
 ghost use Rattle.own_base.specs.Key.{key_cmp};
 ghost use Rattle.own_model.specs.Db.{as_key, key_of};
+ghost use Rattle.own_base.specs.declared.value.Key.TheVariants as key;
 ghost use Rattle.own_base.specs.declared.value.Value.TheVariants.{Null};
 ghost use Rattle.query_tests.specs.KeyRef.{key_seen};
 
@@ -9,7 +10,7 @@ use own_model::TableDef;
 use std::cmp::Ordering;
 
 /// A key of a row, lent.
-#[derive(Clone, Copy, Debug)]
+#[derive(Clone, Copy)]
 pub enum KeyRef<'a> {
     Int(i64),
     Text(&'a Text),
@@ -44,14 +45,32 @@ pub fn lent(key: &Key) -> KeyRef<'_>
     }
 }
 
+/// How a number stands to a key.
+fn compare_number(left: i64, right: KeyRef) -> Ordering
+    ensures { result ≡ key_cmp (key.Int left) (key_seen right.entry) }
+{
+    match right {
+        KeyRef::Int(right) => left.cmp(&right),
+        KeyRef::Text(_) => Ordering::Less,
+    }
+}
+
+/// How a text stands to a key.
+fn compare_text(left: &Text, right: KeyRef) -> Ordering
+    ensures { result ≡ key_cmp (key.Text left.now) (key_seen right.entry) }
+{
+    match right {
+        KeyRef::Int(_) => Ordering::Greater,
+        KeyRef::Text(right) => left.cmp(right),
+    }
+}
+
 /// How one key stands to another.
 pub fn compare(left: KeyRef, right: KeyRef) -> Ordering
     ensures { result ≡ key_cmp (key_seen left.entry) (key_seen right.entry) }
 {
-    match (left, right) {
-        (KeyRef::Int(left), KeyRef::Int(right)) => left.cmp(&right),
-        (KeyRef::Int(_), KeyRef::Text(_)) => Ordering::Less,
-        (KeyRef::Text(_), KeyRef::Int(_)) => Ordering::Greater,
-        (KeyRef::Text(left), KeyRef::Text(right)) => left.cmp(right),
+    match left {
+        KeyRef::Int(left) => compare_number(left, right),
+        KeyRef::Text(left) => compare_text(left, right),
     }
 }

@@ -1,12 +1,12 @@
 //! What statements mean, and what they may read or write, as derived texts.
 
-use crate::calls::{bound, check_calls, parts};
+use crate::calls::{bound, check_calls, parts, read};
 use crate::small::Small;
-use own_base::ColNo;
-use own_model::{Bound, FootItem};
+use own_base::{ColNo, Key, List};
+use own_model::{Bound, BoundCond, FootItem};
 use plan_bind::footprint;
 use pred_eval::pinned_key;
-use sql_reader::read_statement;
+use std::mem::drop;
 use std::process::Abort;
 
 const CREATES: &str = "\
@@ -68,26 +68,43 @@ id = 5 AND (n = 1 OR n = 2) => Some(Int(5))
 n = 1 AND (id = 5) => Some(Int(5))
 id IS NULL => None";
 
+/// What a letter of a row represents, where it isn't itself.
+fn represented(letter: char) -> Option<&'static str> {
+    match letter {
+        '<' => Some("ColNo("),
+        '>' => Some(")"),
+        '[' => Some("List { items: ["),
+        ']' => Some("] }"),
+        _ => None,
+    }
+}
+
+/// Adds what a letter of a row represents.
+fn write_out(rt: &impl Abort, text: &mut String, letter: char) {
+    match represented(letter) {
+        Some(words) => text.push_str(words).expect(rt, "memory"),
+        None => text.push(letter).expect(rt, "memory"),
+    }
+}
+
 /// The derived text that a row represents.
 fn written_out(rt: &(impl Abort + AllocGlobal), row: &str) -> String {
     let mut text = String::new(rt.alloc());
     for letter in row.chars() {
-        match letter {
-            '<' => text.push_str("ColNo(").expect(rt, "memory"),
-            '>' => text.push(')').expect(rt, "memory"),
-            '[' => text.push_str("List { items: [").expect(rt, "memory"),
-            ']' => text.push_str("] }").expect(rt, "memory"),
-            _ => text.push(letter).expect(rt, "memory"),
-        }
+        write_out(rt, &mut text, letter);
     }
     text
 }
 
 /// What a text means.
 fn meant(rt: &(impl Abort + AllocGlobal), small: &Small, text: &str) -> Bound {
-    assert!(rt; text.len() < 10000);
-    let statement = read_statement(rt.alloc(), text).expect(rt, "memory");
-    bound(rt, small, &statement).expect(rt, "a meaning")
+    let statement = read(rt, text);
+    let bound = bound(rt, small, &statement);
+    drop(statement);
+    match bound {
+        Ok(bound) => bound,
+        Err(_) => panic!(rt; "no meaning: {text}"),
+    }
 }
 
 /// Adds an item of a footprint, as a row has it.
@@ -111,10 +128,17 @@ fn reported(rt: &(impl Abort + AllocGlobal), items: &[FootItem]) -> String {
     text
 }
 
-/// One row of `MEANINGS`.
-fn check_meaning(rt: &(impl Abort + AllocGlobal), small: &Small, text: &str, wanted: &str) {
+/// What a text means, as a derived text.
+fn meaning(rt: &(impl Abort + AllocGlobal), small: &Small, text: &str) -> String {
     let bound = meant(rt, small, text);
     let reported = format!(in rt.alloc(); "{bound:?}").expect(rt, "memory");
+    drop(bound);
+    reported
+}
+
+/// One row of `MEANINGS`.
+fn check_meaning(rt: &(impl Abort + AllocGlobal), small: &Small, text: &str, wanted: &str) {
+    let reported = meaning(rt, small, text);
     let wanted = written_out(rt, wanted);
     assert_eq!(rt; reported.as_str(), wanted.as_str(), "{text}");
 }
@@ -128,13 +152,22 @@ fn statements_have_meanings(rt: HostRuntime) {
             check_meaning(&rt, &small, text, wanted);
         }
     }
+    drop(small);
+}
+
+/// The footprint of a text.
+fn footprint_of(rt: &(impl Abort + AllocGlobal), small: &Small, text: &str) -> List<FootItem> {
+    let bound = meant(rt, small, text);
+    let items = footprint(rt.alloc(), &small.schema, &bound).expect(rt, "memory");
+    drop(bound);
+    items
 }
 
 /// One row of `FOOTPRINTS`.
 fn check_footprint(rt: &(impl Abort + AllocGlobal), small: &Small, text: &str, wanted: &str) {
-    let bound = meant(rt, small, text);
-    let items = footprint(rt.alloc(), &small.schema, &bound).expect(rt, "memory");
+    let items = footprint_of(rt, small, text);
     let reported = reported(rt, items.items());
+    drop(items);
     assert_eq!(rt; reported.as_str(), wanted, "{text}");
 }
 
@@ -147,16 +180,39 @@ fn statements_have_footprints(rt: HostRuntime) {
             check_footprint(&rt, &small, text, wanted);
         }
     }
+    drop(small);
+}
+
+/// The condition of a bound DELETE.
+fn condition_of<'a>(rt: &impl Abort, bound: &'a Bound) -> &'a BoundCond {
+    match bound {
+        Bound::Delete {
+            cond: Some(cond),
+            ..
+        } => cond,
+        _ => panic!(rt; "no DELETE with a condition"),
+    }
+}
+
+/// A key, if there is one, as a derived text.
+fn reported_key(rt: &(impl Abort + AllocGlobal), key: Option<Key>) -> String {
+    let reported = format!(in rt.alloc(); "{key:?}").expect(rt, "memory");
+    drop(key);
+    reported
+}
+
+/// The key that a condition pins, as a derived text.
+fn pinned(rt: &(impl Abort + AllocGlobal), cond: &BoundCond) -> String {
+    let key = pinned_key(rt.alloc(), Some(cond), ColNo(0)).expect(rt, "memory");
+    reported_key(rt, key)
 }
 
 /// One row of `PINNED`.
 fn check_pin(rt: &(impl Abort + AllocGlobal), small: &Small, cond: &str, wanted: &str) {
     let text = format!(in rt.alloc(); "DELETE FROM t WHERE {cond}").expect(rt, "memory");
-    let Bound::Delete { cond, .. } = meant(rt, small, text.as_str()) else {
-        panic!(rt; "no DELETE");
-    };
-    let key = pinned_key(rt.alloc(), cond.as_ref(), ColNo(0)).expect(rt, "memory");
-    let reported = format!(in rt.alloc(); "{key:?}").expect(rt, "memory");
+    let bound = meant(rt, small, text.as_str());
+    let reported = pinned(rt, condition_of(rt, &bound));
+    drop(bound);
     assert_eq!(rt; reported.as_str(), wanted, "{text}");
 }
 
@@ -169,4 +225,5 @@ fn conditions_pin_keys(rt: HostRuntime) {
             check_pin(&rt, &small, cond, wanted);
         }
     }
+    drop(small);
 }

@@ -3,6 +3,7 @@
 
 use crate::calls::{check_calls, check_tables};
 use crate::small::Small;
+use std::mem::drop;
 
 const CREATES: &str = "\
 CREATE TABLE t (id INT PRIMARY KEY, n INT, s TEXT, r TEXT, q INT NOT NULL) => ok
@@ -227,4 +228,5 @@ fn views_are_few(rt: HostRuntime) {
         check_calls(&rt, &mut small, line.as_str());
     }
     check_calls(&rt, &mut small, FULL);
+    drop(small);
 }

@@ -3,5 +3,5 @@ use Rattle.outer_world.specs.MemDisk.{DiskState}
 use Rattle.disk_tests.proofs.FreshDisks.{fresh_synced}
 use Rattle.disk_tests.proofs.journals.disk_of.Goals as goal
 
-pub returns-in-Ok : goal.returns-in-Ok
-returns-in-Ok c = fresh_synced c.crash.result (ap (λ (disk : DiskState). disk.calls) c.crash.ensures)
+pub returns : goal.returns
+returns g c = fresh_synced c.crash.result (ap (λ (disk : DiskState). disk.calls) c.crash.ensures)

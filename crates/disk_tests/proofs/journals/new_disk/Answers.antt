@@ -1,0 +1,7 @@
+use Rattle.std.proofs.Common.{ap}
+use Rattle.outer_world.specs.MemDisk.{DiskState}
+use Rattle.disk_tests.proofs.FreshDisks.{fresh_synced}
+use Rattle.disk_tests.proofs.journals.new_disk.Goals as goal
+
+pub returns : goal.returns
+returns g c = fresh_synced c.expect.result (ap (λ (disk : DiskState). disk.calls) (rw c.expect.ensures at c.new.ensures))
