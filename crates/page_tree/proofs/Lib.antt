@@ -1,6 +1,7 @@
 mod AmongLemmas
 mod ChangeLemmas
 mod InPlaceLemmas
+mod LikelyLemmas
 mod NodeLemmas
 mod NodeOfLemmas
 mod SearchLemmas

@@ -4,6 +4,7 @@ ghost use Rattle.page_model.specs.Page.{joined};
 ghost use Rattle.page_tree.specs.Body.{pages_of};
 
 use crate::node::{Body, Node, first_of, parted};
+use crate::page::Page;
 use own_base::MakeCopy;
 use page_model::PAGE_ITEMS;
 use std::alloc::{AllocError, Global};
@@ -13,15 +14,21 @@ use std::sync::Arc;
 const INNER_NODES: usize = 8;
 
 /// A node of one page.
-fn leaf<T: MakeCopy + Drop>(alloc: Global, page: Vec<T>) -> Result<Arc<Node<T>, Global>, AllocError>
-    requires { 0 < length page.items }
-    ensures { IfOk result (λ node. node.value.pages ≡ page.items ∷ []) }
+fn leaf<T: MakeCopy + Drop>(
+    alloc: Global,
+    page: Page<T>,
+) -> Result<Arc<Node<T>, Global>, AllocError>
+    requires { 0 < length page.items.items }
+    ensures { IfOk result (λ node. node.value.pages ≡ page.items.items ∷ []) }
 {
+    let Page { items, hints } = page;
     let node = Node {
-        first: page[0].copy(alloc)?,
-        items: page.len(),
+        first: items[0].copy(alloc)?,
+        hint: hints.first().copied().unwrap_or(0),
+        items: items.len(),
         pages: 1,
-        body: Body::Leaf(page),
+        hints,
+        body: Body::Leaf(items),
     };
     Ok(Arc::new(alloc, node)?)
 }
@@ -41,6 +48,16 @@ fn counts<T>(nodes: &[Arc<Node<T>, Global>]) -> Result<(usize, usize), AllocErro
     Ok((items, pages))
 }
 
+/// The hints of the first items of some nodes.
+fn hints_of<T>(alloc: Global, nodes: &[Arc<Node<T>, Global>]) -> Result<Vec<u64>, AllocError> {
+    let mut hints = Vec::new(alloc);
+    hints.reserve_exact(nodes.len())?;
+    for node in nodes {
+        hints.push(node.hint())?;
+    }
+    Ok(hints)
+}
+
 /// A node above these, with their pages in their order.
 fn inner<T: MakeCopy + Drop>(
     alloc: Global,
@@ -50,10 +67,13 @@ fn inner<T: MakeCopy + Drop>(
     ensures { IfOk result (λ node. node.value.pages ≡ pages_of nodes.items) }
 {
     let (items, pages) = counts(nodes.as_slice())?;
+    let hints = hints_of(alloc, nodes.as_slice())?;
     let node = Node {
         first: first_of(nodes.as_slice()).copy(alloc)?,
+        hint: hints.first().copied().unwrap_or(0),
         items,
         pages,
+        hints,
         body: Body::Inner(nodes),
     };
     Ok(Arc::new(alloc, node)?)
@@ -76,20 +96,20 @@ pub(crate) fn push_nodes<T: Drop>(
 /// Puts items last as pages: none, one, or two where they are too many for one.
 pub(crate) fn push_pages<T: MakeCopy + Drop>(
     alloc: Global,
-    items: Vec<T>,
+    items: Page<T>,
     made: &mut Vec<Arc<Node<T>, Global>>,
 ) -> Result<(), AllocError>
-    requires { length items.items ≤ 2 * PAGE_ITEMS }
-    ensures { OnOk result (AddsPages items.items (pages_of made.old.items) (pages_of made.new.items)) }
+    requires { length items.items.items ≤ 2 * PAGE_ITEMS }
+    ensures { OnOk result (AddsPages items.items.items (pages_of made.old.items) (pages_of made.new.items)) }
 {
-    let mut items = items;
-    if items.len() > PAGE_ITEMS {
-        let others = items.split_off(items.len() / 2)?;
-        items.shrink_to_fit();
-        made.push(leaf(alloc, items)?)?;
+    let mut page = items;
+    let count = page.items.len();
+    if count > PAGE_ITEMS {
+        let others = page.split_off(count / 2)?;
+        made.push(leaf(alloc, page)?)?;
         made.push(leaf(alloc, others)?)?;
-    } else if !items.is_empty() {
-        made.push(leaf(alloc, items)?)?;
+    } else if count > 0 {
+        made.push(leaf(alloc, page)?)?;
     }
     Ok(())
 }

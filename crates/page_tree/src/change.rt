@@ -9,6 +9,7 @@ ghost use Rattle.page_model.specs.Rising.{IsRising};
 ghost use Rattle.page_tree.specs.Body.{pages_of};
 
 use crate::build::{push_above, push_nodes, push_pages};
+use crate::hints::{first_hints, last_hints};
 use crate::key::{ChangeOf, KeyOf};
 use crate::merge::merged;
 use crate::node::{Body, Node, around, first_of};
@@ -32,11 +33,12 @@ fn split_at<'a, T, By: KeyOf<T>, C: ChangeOf<T, By::Key>>(
     changes.split_at(changes.partition_point(|change| by.compare(item, change.key()).is_gt()))
 }
 
-/// Puts the pages last that changes make of some items, with fewer changes at each step.
+/// Puts the pages last that changes make of some items, beside which hints stand, with fewer changes at each step.
 pub(crate) fn fill<T: MakeCopy + Drop, By: KeyOf<T>, C: ChangeOf<T, By::Key>>(
     alloc: Global,
     by: By,
     items: &[T],
+    hints: &[u64],
     changes: &[C],
     made: &mut Vec<Arc<Node<T>, Global>>,
 ) -> Result<(), AllocError>
@@ -47,12 +49,19 @@ pub(crate) fn fill<T: MakeCopy + Drop, By: KeyOf<T>, C: ChangeOf<T, By::Key>>(
     ensures { OnOk result (AddsPages (with_changes (By.key_of by) By.key_cmp C.changed C.put changes.now items.now) (pages_of made.old.items) (pages_of made.new.items)) }
 {
     if changes.len() <= PAGE_ITEMS {
-        return push_pages(alloc, merged(alloc, by, items, changes)?, made);
+        return push_pages(alloc, merged(alloc, by, items, hints, changes)?, made);
     }
     let (below, others) = changes.split_at(changes.len() / 2);
-    let (front, back) = items.split_at(place_of(by, items, others[0].key()));
-    fill(alloc, by, front, below, made)?;
-    fill(alloc, by, back, others, made)
+    let (front, back) = items.split_at(place_of(by, items, hints, others[0].key()));
+    fill(
+        alloc,
+        by,
+        front,
+        first_hints(hints, front.len()),
+        below,
+        made,
+    )?;
+    fill(alloc, by, back, last_hints(hints, back.len()), others, made)
 }
 
 /// Puts the pages of a node last, with changes.
@@ -71,23 +80,25 @@ pub(crate) fn change_node<T: MakeCopy + Drop, By: KeyOf<T>, C: ChangeOf<T, By::K
     requires keyed { AreKeyed (By.key_of by) C.changed C.put changes.now }
     ensures { OnOk result (AddsChanged (By.key_of by) By.key_cmp C.changed C.put node.now.pages changes.now (pages_of made.old.items) (pages_of made.new.items)) }
 {
+    let hints = node.hints.as_slice();
     match &node.body {
-        Body::Leaf(page) => fill(alloc, by, page.as_slice(), changes, made),
+        Body::Leaf(page) => fill(alloc, by, page.as_slice(), hints, changes, made),
         Body::Inner(nodes) => {
             let mut above = Vec::new(alloc);
             above.reserve_exact(nodes.len().saturating_add(1))?;
-            change_nodes(alloc, by, nodes.as_slice(), changes, &mut above)?;
+            change_nodes(alloc, by, nodes.as_slice(), hints, changes, &mut above)?;
             push_above(alloc, above, made)
         }
     }
 }
 
-/// Puts the pages of nodes last, with changes: those into which no change falls are shared.
+/// Puts the pages of nodes last, beside which hints stand, with changes: those into which no change falls are shared.
 #[cycle(change)]
 fn change_nodes<T: MakeCopy + Drop, By: KeyOf<T>, C: ChangeOf<T, By::Key>>(
     alloc: Global,
     by: By,
     nodes: &[Arc<Node<T>, Global>],
+    hints: &[u64],
     changes: &[C],
     made: &mut Vec<Arc<Node<T>, Global>>,
 ) -> Result<(), AllocError>
@@ -101,12 +112,13 @@ fn change_nodes<T: MakeCopy + Drop, By: KeyOf<T>, C: ChangeOf<T, By::Key>>(
     let Some(change) = changes.first() else {
         return push_nodes(nodes, made);
     };
-    let (front, node, behind) = around(nodes, node_of(by, nodes, change.key()));
+    let (front, node, behind) = around(nodes, node_of(by, nodes, hints, change.key()));
     push_nodes(front, made)?;
     if behind.is_empty() {
         return change_node(alloc, by, node, changes, made);
     }
     let (here, others) = split_at(by, changes, first_of(behind));
     change_node(alloc, by, node, here, made)?;
-    change_nodes(alloc, by, behind, others, made)
+    let hints = last_hints(hints, behind.len());
+    change_nodes(alloc, by, behind, hints, others, made)
 }

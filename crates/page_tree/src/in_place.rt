@@ -1,10 +1,12 @@
-ghost use Rattle.std.specs.Prelude.{◌≡◌, ◌<◌, ◌∷◌, [], length, IfSome, IfNone, MatchBool};
+ghost use Rattle.std.specs.Prelude.{◌≡◌, ◌<◌, ◌≤◌, ◌∷◌, [], length, IfSome, IfNone, MatchBool, if◌then◌else◌};
+ghost use Rattle.std.specs.List.{insert};
 ghost use Rattle.page_model.specs.Changed.{AreKeyed};
 ghost use Rattle.page_model.specs.Page.{joined, ArePages, IsPage};
 ghost use Rattle.page_model.specs.Rising.{IsRising};
 ghost use Rattle.page_tree.specs.Body.{pages_of};
 ghost use Rattle.page_tree.specs.InPlace.{InPlace};
 
+use crate::hints::remove_hint;
 use crate::key::{ChangeOf, KeyOf};
 use crate::merge::above_from;
 use crate::node::{Body, Node};
@@ -14,19 +16,42 @@ use page_model::PAGE_ITEMS;
 use std::alloc::Global;
 use std::sync::Arc;
 
-/// Puts a change into a page, unless it falls to the first item, or the page is full, or memory is refused. Answers
-/// whether it did.
+/// Puts an item between those of a page, and its hint between theirs, unless memory is refused. Answers whether it did.
+fn insert_at<T: Drop>(
+    page: &mut Vec<T>,
+    hints: &mut Vec<u64>,
+    place: usize,
+    item: T,
+    hint: u64,
+) -> bool
+    requires { place ≤ length page.old.items }
+    ensures { page.new.items ≡ (if result then insert page.old.items place item else page.old.items) }
+{
+    let beside = place.min(hints.len());
+    if hints.insert(beside, hint).is_err() {
+        return false;
+    }
+    if page.insert(place, item).is_err() {
+        remove_hint(hints, beside);
+        return false;
+    }
+    true
+}
+
+/// Puts a change into a page, beside which hints stand, unless it falls to the first item, or the page is full, or memory
+/// is refused. Answers whether it did.
 fn change_page<T: MakeCopy + Drop, By: KeyOf<T>, C: ChangeOf<T, By::Key>>(
     alloc: Global,
     by: By,
     page: &mut Vec<T>,
+    hints: &mut Vec<u64>,
     change: &C,
 ) -> bool
     requires page { IsPage page.old.items }
     requires rising { IsRising (By.key_of by) By.key_cmp page.old.items }
     ensures { MatchBool result (InPlace (By.key_of by) By.key_cmp C.changed C.put (page.old.items ∷ []) change.now (page.new.items ∷ [])) (page.new.items ≡ page.old.items) }
 {
-    let place = place_of(by, page.as_slice(), change.key());
+    let place = place_of(by, page.as_slice(), hints.as_slice(), change.key());
     let behind = above_from(by, page.as_slice(), change.key(), place);
     if place == 0 {
         return false;
@@ -34,9 +59,11 @@ fn change_page<T: MakeCopy + Drop, By: KeyOf<T>, C: ChangeOf<T, By::Key>>(
     let Some(item) = change.item() else {
         if place < behind {
             drop(page.remove(place));
+            remove_hint(hints, place);
         }
         return true;
     };
+    let hint = by.item_hint(item);
     let Ok(item) = item.copy(alloc) else {
         return false;
     };
@@ -44,7 +71,7 @@ fn change_page<T: MakeCopy + Drop, By: KeyOf<T>, C: ChangeOf<T, By::Key>>(
         page[place] = item;
         return true;
     }
-    page.len() < PAGE_ITEMS && page.insert(place, item).is_ok()
+    page.len() < PAGE_ITEMS && insert_at(page, hints, place, item, hint)
 }
 
 /// Puts a change into a page of a node, where nobody shares the node nor what is below it on the way to the page, and
@@ -83,13 +110,20 @@ fn change_within<T: MakeCopy + Drop, By: KeyOf<T>, C: ChangeOf<T, By::Key>>(
     let items = node.items;
     match &mut node.body {
         Body::Leaf(page) => {
-            if !change_page(alloc, by, page, change) {
+            if !change_page(alloc, by, page, &mut node.hints, change) {
                 return false;
             }
             node.items = page.len();
             true
         }
-        Body::Inner(nodes) => match change_among(alloc, by, nodes, items, change) {
+        Body::Inner(nodes) => match change_among(
+            alloc,
+            by,
+            nodes,
+            node.hints.as_slice(),
+            items,
+            change,
+        ) {
             None => false,
             Some(items) => {
                 node.items = items;
@@ -99,13 +133,14 @@ fn change_within<T: MakeCopy + Drop, By: KeyOf<T>, C: ChangeOf<T, By::Key>>(
     }
 }
 
-/// Puts a change into a page of some nodes, which have so many items, where nobody shares the way to it. Answers how
-/// many items they have then.
+/// Puts a change into a page of some nodes, beside which hints stand and which have so many items, where nobody shares the
+/// way to it. Answers how many items they have then.
 #[cycle(place)]
 fn change_among<T: MakeCopy + Drop, By: KeyOf<T>, C: ChangeOf<T, By::Key>>(
     alloc: Global,
     by: By,
     nodes: &mut Vec<Arc<Node<T>, Global>>,
+    hints: &[u64],
     items: usize,
     change: &C,
 ) -> Option<usize>
@@ -121,7 +156,7 @@ fn change_among<T: MakeCopy + Drop, By: KeyOf<T>, C: ChangeOf<T, By::Key>>(
     if items == usize::MAX {
         return None;
     }
-    let number = node_of(by, nodes.as_slice(), change.key());
+    let number = node_of(by, nodes.as_slice(), hints, change.key());
     let before = nodes[number].items();
     if !change_alone(alloc, by, &mut nodes[number], change) {
         return None;

@@ -19,6 +19,13 @@ pub trait KeyOf<T>: Copy {
     fn compare(self, item: &T, key: &Self::Key) -> Ordering
         ensures { result ≡ key_cmp (key_of self item.now) key.now };
 
+    /// A number for the key of an item, by which it is looked for. It is advice alone: it should rise as keys rise, and
+    /// be that of `key_hint` for this key; where it isn't, that costs time and never truth.
+    fn item_hint(self, item: &T) -> u64;
+
+    /// The number for a key, as `item_hint` has it for an item of this key.
+    fn key_hint(self, key: &Self::Key) -> u64;
+
     // The order is total.
     ghost total: { IsTotalOrder key_cmp };
 }

@@ -3,12 +3,15 @@
 
 mod build;
 mod change;
+mod hints;
 mod in_place;
 mod items;
 mod key;
 mod lent;
+mod likely;
 mod merge;
 mod node;
+mod page;
 mod pages;
 mod search;
 

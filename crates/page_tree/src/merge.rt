@@ -4,35 +4,40 @@ ghost use Rattle.page_model.specs.Changed.{above_key, below_key, with_changes, A
 ghost use Rattle.page_model.specs.Place.{IsPlaceOf};
 ghost use Rattle.page_model.specs.Rising.{IsRising};
 
+use crate::hints::{first_hints, last_hints};
 use crate::key::{ChangeOf, KeyOf};
+use crate::page::Page;
 use crate::search::place_of;
 use own_base::MakeCopy;
 use std::alloc::{AllocError, Global};
 
-/// Puts copies of items last, in their order.
+/// Puts copies of items last, in their order, and the hints that stand beside them.
 fn push_copies<T: MakeCopy + Drop>(
     alloc: Global,
     items: &[T],
-    made: &mut Vec<T>,
+    hints: &[u64],
+    made: &mut Page<T>,
 ) -> Result<(), AllocError>
-    ensures { OnOk result (made.new.items ≡ made.old.items ++ items.now) }
+    ensures { OnOk result (made.new.items.items ≡ made.old.items.items ++ items.now) }
 {
     for item in items {
-        made.push(item.copy(alloc)?)?;
+        made.items.push(item.copy(alloc)?)?;
     }
-    Ok(())
+    made.hints.extend_from_slice(hints)
 }
 
-/// Puts a copy of an item last, where there is one.
-fn push_copy<T: MakeCopy + Drop>(
+/// Puts a copy of an item last, where there is one, and its hint.
+fn push_copy<T: MakeCopy + Drop, By: KeyOf<T>>(
     alloc: Global,
+    by: By,
     item: Option<&T>,
-    made: &mut Vec<T>,
+    made: &mut Page<T>,
 ) -> Result<(), AllocError>
-    ensures { OnOk result (made.new.items ≡ made.old.items ++ option_to_list (option_copied item.entry)) }
+    ensures { OnOk result (made.new.items.items ≡ made.old.items.items ++ option_to_list (option_copied item.entry)) }
 {
     if let Some(item) = item {
-        made.push(item.copy(alloc)?)?;
+        made.items.push(item.copy(alloc)?)?;
+        made.hints.push(by.item_hint(item))?;
     }
     Ok(())
 }
@@ -56,42 +61,45 @@ pub(crate) fn above_from<T, By: KeyOf<T>>(by: By, items: &[T], key: &By::Key, pl
     }
 }
 
-/// Puts copies of the items below a change's key last, and of the item that it puts. Answers the items above the key.
+/// Puts copies of the items below a change's key last, and of the item that it puts, with their hints. Answers the items
+/// above the key.
 fn merge_change<'a, T: MakeCopy + Drop, By: KeyOf<T>, C: ChangeOf<T, By::Key>>(
     alloc: Global,
     by: By,
     items: &'a [T],
+    hints: &[u64],
     change: &C,
-    made: &mut Vec<T>,
+    made: &mut Page<T>,
 ) -> Result<&'a [T], AllocError>
     requires { IsRising (By.key_of by) By.key_cmp items.now }
-    ensures added { OnOk result (made.new.items ≡ made.old.items ++ (below_key (By.key_of by) By.key_cmp (C.changed change.now) items.now ++ option_to_list (C.put change.now))) }
+    ensures added { OnOk result (made.new.items.items ≡ made.old.items.items ++ (below_key (By.key_of by) By.key_cmp (C.changed change.now) items.now ++ option_to_list (C.put change.now))) }
     ensures left { IfOk result (λ left. left.now ≡ above_key (By.key_of by) By.key_cmp (C.changed change.now) items.now) }
 {
-    let place = place_of(by, items, change.key());
-    push_copies(alloc, &items[..place], made)?;
-    push_copy(alloc, change.item(), made)?;
+    let place = place_of(by, items, hints, change.key());
+    push_copies(alloc, &items[..place], first_hints(hints, place), made)?;
+    push_copy(alloc, by, change.item(), made)?;
     Ok(&items[above_from(by, items, change.key(), place)..])
 }
 
-/// The items after changes.
+/// The items after changes. Hints are made for those that are put; those of the others are taken over.
 pub(crate) fn merged<T: MakeCopy + Drop, By: KeyOf<T>, C: ChangeOf<T, By::Key>>(
     alloc: Global,
     by: By,
     items: &[T],
+    hints: &[u64],
     changes: &[C],
-) -> Result<Vec<T>, AllocError>
+) -> Result<Page<T>, AllocError>
     requires rising { IsRising (By.key_of by) By.key_cmp items.now }
     requires changes { IsRising C.changed By.key_cmp changes.now }
     requires keyed { AreKeyed (By.key_of by) C.changed C.put changes.now }
-    ensures { IfOk result (λ made. made.items ≡ with_changes (By.key_of by) By.key_cmp C.changed C.put changes.now items.now) }
+    ensures { IfOk result (λ made. made.items.items ≡ with_changes (By.key_of by) By.key_cmp C.changed C.put changes.now items.now) }
 {
-    let mut made = Vec::new(alloc);
-    made.reserve_exact(items.len().saturating_add(changes.len()))?;
+    let mut made = Page::with_room(alloc, items.len().saturating_add(changes.len()))?;
     let mut left = items;
     for change in changes {
-        left = merge_change(alloc, by, left, change, &mut made)?;
+        let beside = last_hints(hints, left.len());
+        left = merge_change(alloc, by, left, beside, change, &mut made)?;
     }
-    push_copies(alloc, left, &mut made)?;
+    push_copies(alloc, left, last_hints(hints, left.len()), &mut made)?;
     Ok(made)
 }

@@ -9,13 +9,16 @@ use std::marker::Model;
 use std::sync::Arc;
 
 /// A node of the tree: a page, or some nodes and their pages in their order. The first item and the counts stand beside
-/// them, so that nothing below has to be looked at for those.
+/// them, so that nothing below has to be looked at for those, and so do hints: for the items of a page, or for the first
+/// items of the nodes.
 #[cycle(node)]
 #[derive(Drop)]
 pub(crate) struct Node<T> {
     pub(crate) first: T,
+    pub(crate) hint: u64,
     pub(crate) items: usize,
     pub(crate) pages: usize,
+    pub(crate) hints: Vec<u64>,
     pub(crate) body: Body<T>,
 }
 
@@ -67,6 +70,11 @@ impl<T> Node<T> {
         ensures { IsFirst result.now self.now.pages }
     {
         &self.first
+    }
+
+    /// The hint of the first item. Takes no memory.
+    pub(crate) fn hint(&self) -> u64 {
+        self.hint
     }
 
     /// The page of a number, counted from 0. Takes no memory.

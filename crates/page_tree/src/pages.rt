@@ -18,7 +18,7 @@ use crate::items::Items;
 use crate::key::{ChangeOf, KeyOf};
 use crate::lent::Lent;
 use crate::node::Node;
-use crate::search::item_in;
+use crate::search::get_in;
 use own_base::MakeCopy;
 use std::alloc::{AllocError, Global};
 use std::marker::Model;
@@ -84,7 +84,7 @@ impl<T, By: KeyOf<T>> Pages<T, By> {
     {
         match &self.root {
             None => None,
-            Some(root) => item_in(self.by, root, key),
+            Some(root) => get_in(self.by, root, key),
         }
     }
 
@@ -141,7 +141,7 @@ impl<T: MakeCopy + Drop, By: KeyOf<T>> Pages<T, By> {
     {
         let mut made = Vec::new(alloc);
         let Some(root) = &self.root else {
-            fill(alloc, self.by, &[], changes, &mut made)?;
+            fill(alloc, self.by, &[], &[], changes, &mut made)?;
             return Ok(made);
         };
         if changes.is_empty() {

@@ -1,36 +1,63 @@
-ghost use Rattle.std.specs.Prelude.{◌≡◌, ◌<◌, length};
+ghost use Rattle.std.specs.Prelude.{◌≡◌, ◌<◌, ◌≤◌, false, drop, length, take};
+ghost use Rattle.std.specs.List.{AllByRecursion};
 ghost use Rattle.std.specs.Option.{option_copied};
+ghost use Rattle.std.specs.declared.cmp.Ordering.TheVariants.{Less};
 ghost use Rattle.page_model.specs.Found.{found};
 ghost use Rattle.page_model.specs.Page.{joined};
 ghost use Rattle.page_model.specs.Place.{IsPlaceOf};
 ghost use Rattle.page_model.specs.Rising.{IsRising};
 ghost use Rattle.page_tree.specs.Body.{pages_of};
-ghost use Rattle.page_tree.specs.NodeOf.{IsNodeOf};
+ghost use Rattle.page_tree.specs.NodeOf.{Begin, IsNodeOf};
 
+use crate::hints::{count_below, count_upto};
 use crate::key::KeyOf;
+use crate::likely::likely_in;
 use crate::node::{Body, Node};
 use std::alloc::Global;
 use std::sync::Arc;
 
-/// How many of these items are below a key. Takes no memory.
-pub(crate) fn place_of<T, By: KeyOf<T>>(by: By, items: &[T], key: &By::Key) -> usize
+/// A place with only items below a key before it: the one that hints tell, if the item there or the one before it shows
+/// that, else the first. Takes no memory.
+fn place_from<T, By: KeyOf<T>>(by: By, items: &[T], hints: &[u64], key: &By::Key) -> usize
+    requires { IsRising (By.key_of by) By.key_cmp items.now }
+    ensures within { result ≤ length items.now }
+    ensures before { AllByRecursion (λ item. By.key_cmp (By.key_of by item) key.now ≡ Less) (take result items.now) }
+{
+    let place = count_below(hints, by.key_hint(key));
+    if place < items.len() && !by.compare(&items[place], key).is_gt() {
+        return place;
+    }
+    if 0 < place && place <= items.len() && by.compare(&items[place - 1], key).is_lt() {
+        return place;
+    }
+    0
+}
+
+/// How many of these items, beside which hints stand, are below a key. Takes no memory.
+pub(crate) fn place_of<T, By: KeyOf<T>>(by: By, items: &[T], hints: &[u64], key: &By::Key) -> usize
     requires { IsRising (By.key_of by) By.key_cmp items.now }
     ensures { IsPlaceOf (By.key_of by) By.key_cmp key.now items.now result }
 {
-    for (place, item) in items.iter().enumerate() {
-        if !by.compare(item, key).is_lt() {
+    let from = place_from(by, items, hints, key);
+    for place in from..items.len() {
+        if !by.compare(&items[place], key).is_lt() {
             return place;
         }
     }
     items.len()
 }
 
-/// The item of a key among these items. Takes no memory.
-fn item_of<'a, T, By: KeyOf<T>>(by: By, items: &'a [T], key: &By::Key) -> Option<&'a T>
+/// The item of a key among these items, beside which hints stand. Takes no memory.
+fn item_of<'a, T, By: KeyOf<T>>(
+    by: By,
+    items: &'a [T],
+    hints: &[u64],
+    key: &By::Key,
+) -> Option<&'a T>
     requires { IsRising (By.key_of by) By.key_cmp items.now }
     ensures { option_copied result ≡ found (By.key_of by) By.key_cmp key.now items.now }
 {
-    let place = place_of(by, items, key);
+    let place = place_of(by, items, hints, key);
     let item = items.get(place)?;
     if by.compare(item, key).is_eq() {
         Some(item)
@@ -39,17 +66,39 @@ fn item_of<'a, T, By: KeyOf<T>>(by: By, items: &'a [T], key: &By::Key) -> Option
     }
 }
 
-/// The number of the node into which a key falls: the last whose first item isn't above it, else the first. Takes no
-/// memory.
+/// The number of a node whose first item isn't above a key: the one that hints tell, if that is so, else of the first
+/// node. Takes no memory.
+fn node_from<T, By: KeyOf<T>>(
+    by: By,
+    nodes: &[Arc<Node<T>, Global>],
+    hints: &[u64],
+    key: &By::Key,
+) -> usize
+    requires { 0 < length nodes.now }
+    ensures within { result < length nodes.now }
+    ensures begins { 0 < result → Begin (By.key_of by) By.key_cmp key.now false (pages_of (drop result nodes.now)) }
+{
+    let number = count_upto(hints, by.key_hint(key)).saturating_sub(1);
+    if 0 < number && number < nodes.len() && !by.compare(nodes[number].first(), key).is_gt() {
+        number
+    } else {
+        0
+    }
+}
+
+/// The number of the node into which a key falls, of nodes beside which hints stand: the last whose first item isn't above
+/// it, else the first. Takes no memory.
 pub(crate) fn node_of<T, By: KeyOf<T>>(
     by: By,
     nodes: &[Arc<Node<T>, Global>],
+    hints: &[u64],
     key: &By::Key,
 ) -> usize
     requires { 0 < length nodes.now }
     ensures { IsNodeOf (By.key_of by) By.key_cmp key.now nodes.now result }
 {
-    for number in 1..nodes.len() {
+    let from = node_from(by, nodes, hints, key);
+    for number in from + 1..nodes.len() {
         if by.compare(nodes[number].first(), key).is_gt() {
             return number - 1;
         }
@@ -57,32 +106,42 @@ pub(crate) fn node_of<T, By: KeyOf<T>>(
     nodes.len() - 1
 }
 
-/// The item of a key among the items of a node. Takes no memory.
-#[cycle(get)]
-pub(crate) fn item_in<'a, T, By: KeyOf<T>>(
-    by: By,
-    node: &'a Node<T>,
-    key: &By::Key,
-) -> Option<&'a T>
+/// The item of a key among the items of a node: the one to which hints lead, if it has the key, else the one that is found
+/// where each step is checked. Takes no memory.
+pub(crate) fn get_in<'a, T, By: KeyOf<T>>(by: By, node: &'a Node<T>, key: &By::Key) -> Option<&'a T>
     requires { IsRising (By.key_of by) By.key_cmp (joined node.now.pages) }
     ensures { option_copied result ≡ found (By.key_of by) By.key_cmp key.now (joined node.now.pages) }
 {
-    match &node.body {
-        Body::Leaf(page) => item_of(by, page.as_slice(), key),
-        Body::Inner(nodes) => item_among(by, nodes.as_slice(), key),
+    match likely_in(node, by.key_hint(key)) {
+        Some(item) if by.compare(item, key).is_eq() => Some(item),
+        _ => item_in(by, node, key),
     }
 }
 
-/// The item of a key among the items of some nodes: that of the node into which the key falls.
+/// The item of a key among the items of a node, where each step is checked. Takes no memory.
+#[cycle(get)]
+fn item_in<'a, T, By: KeyOf<T>>(by: By, node: &'a Node<T>, key: &By::Key) -> Option<&'a T>
+    requires { IsRising (By.key_of by) By.key_cmp (joined node.now.pages) }
+    ensures { option_copied result ≡ found (By.key_of by) By.key_cmp key.now (joined node.now.pages) }
+{
+    let hints = node.hints.as_slice();
+    match &node.body {
+        Body::Leaf(page) => item_of(by, page.as_slice(), hints, key),
+        Body::Inner(nodes) => item_among(by, nodes.as_slice(), hints, key),
+    }
+}
+
+/// The item of a key among the items of some nodes, beside which hints stand: that of the node into which the key falls.
 #[cycle(get)]
 fn item_among<'a, T, By: KeyOf<T>>(
     by: By,
     nodes: &'a [Arc<Node<T>, Global>],
+    hints: &[u64],
     key: &By::Key,
 ) -> Option<&'a T>
     requires some { 0 < length nodes.now }
     requires rising { IsRising (By.key_of by) By.key_cmp (joined (pages_of nodes.now)) }
     ensures { option_copied result ≡ found (By.key_of by) By.key_cmp key.now (joined (pages_of nodes.now)) }
 {
-    item_in(by, &nodes[node_of(by, nodes, key)], key)
+    item_in(by, &nodes[node_of(by, nodes, hints, key)], key)
 }

@@ -1,5 +1,5 @@
 use Rattle.std.proofs.Common.{◌≡◌, ◌<◌, ◌≤◌, ◌∷◌, [], ◌++◌, ◌∙◌, refl, suc, ap, sym, subst, length, take, drop, take-append-drop, Some, None, arith}
-use Rattle.std.specs.Prelude.{cond, slice_set}
+use Rattle.std.specs.Prelude.{slice_set}
 use Rattle.std.specs.Option.{option_copied, option_to_list}
 use Rattle.std.specs.List.{insert}
 use Rattle.std.proofs.lemmas.List.{length-set}
@@ -21,10 +21,10 @@ returns-then-place-behind g c =
     let some : 0 < place = omega (arith, c.if-place-eq0.false) in
     let is : IsPlaceOf key_of cmp key page place = subst (λ k. IsPlaceOf key_of cmp k page place) c.key.ensures (subst (λ xs. IsPlaceOf key_of cmp c.key.result.now xs place) c.as_slice.ensures.value c.place_of-place.ensures) in
     let above : above_key key_of cmp key page ≡ drop behind page =
-    subst (λ k. above_key key_of cmp k page ≡ drop behind page) c.key-2.ensures (subst (λ xs. above_key key_of cmp c.key-2.result.now xs ≡ drop behind xs) c.as_slice-2.ensures.value c.above_from-behind.ensures.above) in
+    subst (λ k. above_key key_of cmp k page ≡ drop behind page) c.key-2.ensures (subst (λ xs. above_key key_of cmp c.key-2.result.now xs ≡ drop behind xs) c.as_slice-3.ensures.value c.above_from-behind.ensures.above) in
     let none : g.C.ChangeOf.put c.args.change.now ≡ None = sym c.item.ensures ∙ ap option_copied c.in_default.is in
     let next : behind ≡ suc place = omega (arith, c.above_from-behind.ensures.near, c.if-place-behind.true) in
-    let within : behind ≤ length page = subst (λ xs. behind ≤ length xs) c.as_slice-2.ensures.value c.above_from-behind.ensures.within in
+    let within : behind ≤ length page = subst (λ xs. behind ≤ length xs) c.as_slice-3.ensures.value c.above_from-behind.ensures.within in
     let parts : c.remove.new.self.items ≡ take place page ++ (option_to_list (g.C.ChangeOf.put c.args.change.now) ++ drop behind page) = rw (none, next) c.remove.ensures.items in
     let shorter = c.remove.ensures.len in
     page_changed key_of g.met.By.KeyOf.total g.C.ChangeOf.changed g.C.ChangeOf.put c.args.change.now page c.remove.new.self.items place behind some c.requires.page (omega (arith, shorter, c.requires.page.fits)) (omega (arith, shorter, within)) is above parts
@@ -41,7 +41,7 @@ returns-else-place-behind g c =
     let some : 0 < place = omega (arith, c.if-place-eq0.false) in
     let is : IsPlaceOf key_of cmp key page place = subst (λ k. IsPlaceOf key_of cmp k page place) c.key.ensures (subst (λ xs. IsPlaceOf key_of cmp c.key.result.now xs place) c.as_slice.ensures.value c.place_of-place.ensures) in
     let above : above_key key_of cmp key page ≡ drop behind page =
-    subst (λ k. above_key key_of cmp k page ≡ drop behind page) c.key-2.ensures (subst (λ xs. above_key key_of cmp c.key-2.result.now xs ≡ drop behind xs) c.as_slice-2.ensures.value c.above_from-behind.ensures.above) in
+    subst (λ k. above_key key_of cmp k page ≡ drop behind page) c.key-2.ensures (subst (λ xs. above_key key_of cmp c.key-2.result.now xs ≡ drop behind xs) c.as_slice-3.ensures.value c.above_from-behind.ensures.above) in
     let none : g.C.ChangeOf.put c.args.change.now ≡ None = sym c.item.ensures ∙ ap option_copied c.in_default.is in
     let same : behind ≡ place = omega (arith, c.above_from-behind.ensures.behind, c.if-place-behind.false) in
     let parts : page ≡ take place page ++ (option_to_list (g.C.ChangeOf.put c.args.change.now) ++ drop behind page) = rw (none, same) (sym (take-append-drop place page)) in
@@ -59,11 +59,11 @@ returns-then-place-behind-2 g c =
     let some : 0 < place = omega (arith, c.if-place-eq0.false) in
     let is : IsPlaceOf key_of cmp key page place = subst (λ k. IsPlaceOf key_of cmp k page place) c.key.ensures (subst (λ xs. IsPlaceOf key_of cmp c.key.result.now xs place) c.as_slice.ensures.value c.place_of-place.ensures) in
     let above : above_key key_of cmp key page ≡ drop behind page =
-    subst (λ k. above_key key_of cmp k page ≡ drop behind page) c.key-2.ensures (subst (λ xs. above_key key_of cmp c.key-2.result.now xs ≡ drop behind xs) c.as_slice-2.ensures.value c.above_from-behind.ensures.above) in
+    subst (λ k. above_key key_of cmp k page ≡ drop behind page) c.key-2.ensures (subst (λ xs. above_key key_of cmp c.key-2.result.now xs ≡ drop behind xs) c.as_slice-3.ensures.value c.above_from-behind.ensures.above) in
     let item = c.in-Ok.item in
     let put : g.C.ChangeOf.put c.args.change.now ≡ Some item = sym c.item.ensures ∙ (ap option_copied c.in-Some.is ∙ ap Some (sym c.in-Ok.ensures)) in
     let next : behind ≡ suc place = omega (arith, c.above_from-behind.ensures.near, c.if-place-behind-2.true) in
-    let within : behind ≤ length page = subst (λ xs. behind ≤ length xs) c.as_slice-2.ensures.value c.above_from-behind.ensures.within in
+    let within : behind ≤ length page = subst (λ xs. behind ≤ length xs) c.as_slice-3.ensures.value c.above_from-behind.ensures.within in
     let long : length (slice_set page place item) ≡ length page = length-set page place item in
     let parts : slice_set page place item ≡ take place page ++ (option_to_list (g.C.ChangeOf.put c.args.change.now) ++ drop behind page) = rw (put, next) (set_parts page place item (omega (arith, within))) in
     page_changed key_of g.met.By.KeyOf.total g.C.ChangeOf.changed g.C.ChangeOf.put c.args.change.now page (slice_set page place item) place behind some c.requires.page (rw long c.requires.page.fits) (rw long c.requires.page.some) is above parts
@@ -80,12 +80,11 @@ returns-then-len-lt-PAGE_ITEMS g c =
     let some : 0 < place = omega (arith, c.if-place-eq0.false) in
     let is : IsPlaceOf key_of cmp key page place = subst (λ k. IsPlaceOf key_of cmp k page place) c.key.ensures (subst (λ xs. IsPlaceOf key_of cmp c.key.result.now xs place) c.as_slice.ensures.value c.place_of-place.ensures) in
     let above : above_key key_of cmp key page ≡ drop behind page =
-    subst (λ k. above_key key_of cmp k page ≡ drop behind page) c.key-2.ensures (subst (λ xs. above_key key_of cmp c.key-2.result.now xs ≡ drop behind xs) c.as_slice-2.ensures.value c.above_from-behind.ensures.above) in
+    subst (λ k. above_key key_of cmp k page ≡ drop behind page) c.key-2.ensures (subst (λ xs. above_key key_of cmp c.key-2.result.now xs ≡ drop behind xs) c.as_slice-3.ensures.value c.above_from-behind.ensures.above) in
     let item = c.in-Ok.item in
     let put : g.C.ChangeOf.put c.args.change.now ≡ Some item = sym c.item.ensures ∙ (ap option_copied c.in-Some.is ∙ ap Some (sym c.in-Ok.ensures)) in
     let same : behind ≡ place = omega (arith, c.above_from-behind.ensures.behind, c.if-place-behind-2.false) in
     let parts : insert page place item ≡ take place page ++ (option_to_list (g.C.ChangeOf.put c.args.change.now) ++ drop behind page) = rw (put, same) refl in
     let longer = insert_length page place item in
-    let made : c.insert.new.self.items ≡ cond c.is_ok.result (insert page place item) page = subst (λ made. c.insert.new.self.items ≡ cond made (insert page place item) page) (sym c.is_ok.ensures.value) c.insert.ensures.items in
-    match_made (λ new. InPlace key_of cmp g.C.ChangeOf.changed g.C.ChangeOf.put (page ∷ []) c.args.change.now (new ∷ [])) c.is_ok.result page c.insert.new.self.items (insert page place item) made
+    match_made (λ new. InPlace key_of cmp g.C.ChangeOf.changed g.C.ChangeOf.put (page ∷ []) c.args.change.now (new ∷ [])) c.insert_at.result page c.insert_at.new.page.items (insert page place item) c.insert_at.ensures
     (page_changed key_of g.met.By.KeyOf.total g.C.ChangeOf.changed g.C.ChangeOf.put c.args.change.now page (insert page place item) place behind some c.requires.page (omega (arith, c.if-len-lt-PAGE_ITEMS.true, c.len.ensures)) (omega arith) is above parts)

@@ -14,5 +14,5 @@ returns-clause-added g c =
     subst (λ key. below_key key_of g.By.KeyOf.key_cmp key c.args.items.now ≡ front) c.key.ensures (below_is key_of g.met.By.KeyOf.total c.key.result.now c.args.items.now c.place_of-place.result c.place_of-place.ensures) in
     let copied = c.in_ok-push_copies.ensures in
     let last = c.in_ok-push_copy.ensures in
-    last ∙ (ap (λ o. c.push_copies.new.made.items ++ option_to_list o) c.item.ensures
-    ∙ (ap (λ xs. xs ++ put) copied ∙ (append_assoc c.args.made.now.items front put ∙ ap (λ xs. c.args.made.now.items ++ (xs ++ put)) (sym below))))
+    last ∙ (ap (λ o. c.push_copies.new.made.items.items ++ option_to_list o) c.item.ensures
+    ∙ (ap (λ xs. xs ++ put) copied ∙ (append_assoc c.args.made.now.items.items front put ∙ ap (λ xs. c.args.made.now.items.items ++ (xs ++ put)) (sym below))))

@@ -13,7 +13,7 @@ loop-change-preserved g c =
     let above = c.in_ok-left.ensures.left in
     record {
       rising = subst (IsRising key_of g.By.KeyOf.key_cmp) (sym above) (rising_filter key_of order g.C.ChangeOf.changed g.C.ChangeOf.put _ c.loop-change.left.now c.loop-change.invariant.rising);
-      items = merged_next key_of order g.C.ChangeOf.changed g.C.ChangeOf.put c.args.changes.now c.loop-change.change-index c.change-item.result c.loop-change.made.items c.merge_change.new.made.items c.loop-change.left.now c.in_ok-left.left.now _
+      items = merged_next key_of order g.C.ChangeOf.changed g.C.ChangeOf.put c.args.changes.now c.loop-change.change-index c.change-item.result c.loop-change.made.items.items c.merge_change.new.made.items.items c.loop-change.left.now c.in_ok-left.left.now _
           c.loop-change-test.true c.change-item.is c.requires.changes c.requires.keyed added above c.loop-change.invariant.items;
     }
 
@@ -24,4 +24,4 @@ returns g c =
     let cmp = g.By.KeyOf.key_cmp in
     let after = with_changes key_of cmp g.C.ChangeOf.changed g.C.ChangeOf.put in
     let none = drop_all c.loop-change.change-index c.args.changes.now (omega arith) in
-    c.in_ok-push_copies.ensures ∙ (ap (λ cs. c.loop-change.made.items ++ after cs c.loop-change.left.now) (sym none) ∙ c.loop-change.invariant.items)
+    c.in_ok-push_copies.ensures ∙ (ap (λ cs. c.loop-change.made.items.items ++ after cs c.loop-change.left.now) (sym none) ∙ c.loop-change.invariant.items)

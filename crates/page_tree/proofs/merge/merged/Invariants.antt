@@ -11,5 +11,5 @@ invariant-loop-change g l =
     let after = with_changes key_of cmp g.C.ChangeOf.changed g.C.ChangeOf.put in
     record {
       rising : IsRising key_of cmp l.left;
-      items : l.made.items ++ after (drop l.change-index l.changes) l.left ≡ after l.changes l.fn.items;
+      items : l.made.items.items ++ after (drop l.change-index l.changes) l.left ≡ after l.changes l.fn.items;
     }

@@ -1,0 +1,29 @@
+//! Hints are numbers that stand beside items, or beside nodes for their first items, and tell where a key may be without
+//! a look at an item. They are advice: whatever they say, what a caller does with them has to be right.
+
+/// How many hints are below another. Takes no memory.
+pub(crate) fn count_below(hints: &[u64], hint: u64) -> usize {
+    hints.partition_point(|each| *each < hint)
+}
+
+/// How many hints aren't above another. Takes no memory.
+pub(crate) fn count_upto(hints: &[u64], hint: u64) -> usize {
+    hints.partition_point(|each| *each <= hint)
+}
+
+/// The hints of so many items that stand first. Takes no memory.
+pub(crate) fn first_hints(hints: &[u64], count: usize) -> &[u64] {
+    &hints[..count.min(hints.len())]
+}
+
+/// The hints of so many items that stand last. Takes no memory.
+pub(crate) fn last_hints(hints: &[u64], count: usize) -> &[u64] {
+    &hints[hints.len().saturating_sub(count)..]
+}
+
+/// Takes away the hint at a place, where there is one.
+pub(crate) fn remove_hint(hints: &mut Vec<u64>, place: usize) {
+    if place < hints.len() {
+        drop(hints.remove(place));
+    }
+}
