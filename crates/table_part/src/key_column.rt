@@ -1,5 +1,6 @@
 ghost use Rattle.table_part.specs.KeyIn.{key_in};
 
+use crate::hint::{hint_of_key, hint_of_value};
 use own_base::{ColNo, Key, Row, Value};
 use page_tree::KeyOf;
 use std::cmp::Ordering;
@@ -27,6 +28,14 @@ impl KeyOf<Row> for KeyColumn {
             (Some(Value::Null | Value::Sum(_)) | None, Key::Int(right)) => 0.cmp(right),
             (_, Key::Text(_)) => Ordering::Less,
         }
+    }
+
+    fn item_hint(self, row: &Row) -> u64 {
+        hint_of_value(row.values().get(self.0.0 as usize))
+    }
+
+    fn key_hint(self, key: &Key) -> u64 {
+        hint_of_key(key)
     }
 
     ghost total = { key_order };

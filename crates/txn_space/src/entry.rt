@@ -5,6 +5,7 @@ use own_base::{Key, MakeCopy, Row};
 use page_tree::{ChangeOf, KeyOf, Pages};
 use std::alloc::{AllocError, Global};
 use std::cmp::Ordering;
+use table_part::hint_of_key;
 
 /// What becomes of the row of a key: the row that stands there, None where it is taken away.
 #[derive(Debug, Drop)]
@@ -37,6 +38,14 @@ impl KeyOf<Entry> for ByKey {
 
     fn compare(self, entry: &Entry, key: &Key) -> Ordering {
         entry.key.compare(key)
+    }
+
+    fn item_hint(self, entry: &Entry) -> u64 {
+        hint_of_key(&entry.key)
+    }
+
+    fn key_hint(self, key: &Key) -> u64 {
+        hint_of_key(key)
     }
 
     ghost total = { key_order };
