@@ -3,15 +3,12 @@ ghost use Rattle.page_model.specs.ChangedPages.{AddsPages};
 ghost use Rattle.page_model.specs.Page.{joined};
 ghost use Rattle.page_tree.specs.Body.{pages_of};
 
-use crate::node::{Body, Node, first_of, parted};
+use crate::node::{Body, INNER_NODES, Node, first_of, parted};
 use crate::page::Page;
 use own_base::MakeCopy;
 use page_model::PAGE_ITEMS;
 use std::alloc::{AllocError, Global};
 use std::sync::Arc;
-
-/// The most nodes right below a node.
-const INNER_NODES: usize = 8;
 
 /// A node of one page.
 fn leaf<T: MakeCopy + Drop>(
@@ -24,10 +21,11 @@ fn leaf<T: MakeCopy + Drop>(
     let Page { items, hints } = page;
     let node = Node {
         first: items[0].copy(alloc)?,
-        hint: hints.first().copied().unwrap_or(0),
         items: items.len(),
         pages: 1,
-        hints,
+        hint: hints.first().copied().unwrap_or(0),
+        node_hints: [u64::MAX; INNER_NODES],
+        item_hints: hints,
         body: Body::Leaf(items),
     };
     Ok(Arc::new(alloc, node)?)
@@ -48,14 +46,13 @@ fn counts<T>(nodes: &[Arc<Node<T>, Global>]) -> Result<(usize, usize), AllocErro
     Ok((items, pages))
 }
 
-/// The hints of the first items of some nodes.
-fn hints_of<T>(alloc: Global, nodes: &[Arc<Node<T>, Global>]) -> Result<Vec<u64>, AllocError> {
-    let mut hints = Vec::new(alloc);
-    hints.reserve_exact(nodes.len())?;
-    for node in nodes {
-        hints.push(node.hint())?;
+/// The hints of the first items of some nodes, and the greatest number where there is no node. Takes no memory.
+fn hints_of<T>(nodes: &[Arc<Node<T>, Global>]) -> [u64; INNER_NODES] {
+    let mut hints = [u64::MAX; INNER_NODES];
+    for (hint, node) in hints.iter_mut().zip(nodes) {
+        *hint = node.hint();
     }
-    Ok(hints)
+    hints
 }
 
 /// A node above these, with their pages in their order.
@@ -67,13 +64,14 @@ fn inner<T: MakeCopy + Drop>(
     ensures { IfOk result (λ node. node.value.pages ≡ pages_of nodes.items) }
 {
     let (items, pages) = counts(nodes.as_slice())?;
-    let hints = hints_of(alloc, nodes.as_slice())?;
+    let node_hints = hints_of(nodes.as_slice());
     let node = Node {
         first: first_of(nodes.as_slice()).copy(alloc)?,
-        hint: hints.first().copied().unwrap_or(0),
         items,
         pages,
-        hints,
+        hint: node_hints[0],
+        node_hints,
+        item_hints: Vec::new(alloc),
         body: Body::Inner(nodes),
     };
     Ok(Arc::new(alloc, node)?)

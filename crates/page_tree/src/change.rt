@@ -9,7 +9,7 @@ ghost use Rattle.page_model.specs.Rising.{IsRising};
 ghost use Rattle.page_tree.specs.Body.{pages_of};
 
 use crate::build::{push_above, push_nodes, push_pages};
-use crate::hints::{first_hints, last_hints};
+use crate::hints::{first_hints, hints_behind};
 use crate::key::{ChangeOf, KeyOf};
 use crate::merge::merged;
 use crate::node::{Body, Node, around, first_of};
@@ -61,7 +61,7 @@ pub(crate) fn fill<T: MakeCopy + Drop, By: KeyOf<T>, C: ChangeOf<T, By::Key>>(
         below,
         made,
     )?;
-    fill(alloc, by, back, last_hints(hints, back.len()), others, made)
+    fill(alloc, by, back, hints_behind(hints, front.len()), others, made)
 }
 
 /// Puts the pages of a node last, with changes.
@@ -80,10 +80,13 @@ pub(crate) fn change_node<T: MakeCopy + Drop, By: KeyOf<T>, C: ChangeOf<T, By::K
     requires keyed { AreKeyed (By.key_of by) C.changed C.put changes.now }
     ensures { OnOk result (AddsChanged (By.key_of by) By.key_cmp C.changed C.put node.now.pages changes.now (pages_of made.old.items) (pages_of made.new.items)) }
 {
-    let hints = node.hints.as_slice();
     match &node.body {
-        Body::Leaf(page) => fill(alloc, by, page.as_slice(), hints, changes, made),
+        Body::Leaf(page) => {
+            let hints = node.item_hints.as_slice();
+            fill(alloc, by, page.as_slice(), hints, changes, made)
+        }
         Body::Inner(nodes) => {
+            let hints = node.node_hints.as_slice();
             let mut above = Vec::new(alloc);
             above.reserve_exact(nodes.len().saturating_add(1))?;
             change_nodes(alloc, by, nodes.as_slice(), hints, changes, &mut above)?;
@@ -119,6 +122,6 @@ fn change_nodes<T: MakeCopy + Drop, By: KeyOf<T>, C: ChangeOf<T, By::Key>>(
     }
     let (here, others) = split_at(by, changes, first_of(behind));
     change_node(alloc, by, node, here, made)?;
-    let hints = last_hints(hints, behind.len());
+    let hints = hints_behind(hints, nodes.len().saturating_sub(behind.len()));
     change_nodes(alloc, by, behind, hints, others, made)
 }

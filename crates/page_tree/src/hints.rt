@@ -8,7 +8,7 @@ pub(crate) fn count_below(hints: &[u64], hint: u64) -> usize {
 
 /// How many hints aren't above another. Takes no memory.
 pub(crate) fn count_upto(hints: &[u64], hint: u64) -> usize {
-    hints.partition_point(|each| *each <= hint)
+    hints.iter().filter(|each| **each <= hint).count()
 }
 
 /// The hints of so many items that stand first. Takes no memory.
@@ -16,9 +16,9 @@ pub(crate) fn first_hints(hints: &[u64], count: usize) -> &[u64] {
     &hints[..count.min(hints.len())]
 }
 
-/// The hints of so many items that stand last. Takes no memory.
-pub(crate) fn last_hints(hints: &[u64], count: usize) -> &[u64] {
-    &hints[hints.len().saturating_sub(count)..]
+/// The hints of the items behind so many. Takes no memory.
+pub(crate) fn hints_behind(hints: &[u64], count: usize) -> &[u64] {
+    &hints[count.min(hints.len())..]
 }
 
 /// Takes away the hint at a place, where there is one.

@@ -110,7 +110,7 @@ fn change_within<T: MakeCopy + Drop, By: KeyOf<T>, C: ChangeOf<T, By::Key>>(
     let items = node.items;
     match &mut node.body {
         Body::Leaf(page) => {
-            if !change_page(alloc, by, page, &mut node.hints, change) {
+            if !change_page(alloc, by, page, &mut node.item_hints, change) {
                 return false;
             }
             node.items = page.len();
@@ -120,7 +120,7 @@ fn change_within<T: MakeCopy + Drop, By: KeyOf<T>, C: ChangeOf<T, By::Key>>(
             alloc,
             by,
             nodes,
-            node.hints.as_slice(),
+            node.node_hints.as_slice(),
             items,
             change,
         ) {

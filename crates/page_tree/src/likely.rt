@@ -14,10 +14,9 @@ use std::sync::Arc;
 pub(crate) fn likely_in<T>(node: &Node<T>, hint: u64) -> Option<&T>
     ensures { IfSome result (λ item. Contains (joined node.now.pages) item.now) }
 {
-    let hints = node.hints.as_slice();
     match &node.body {
-        Body::Leaf(page) => page.get(count_below(hints, hint)),
-        Body::Inner(nodes) => likely_among(nodes.as_slice(), hints, hint),
+        Body::Leaf(page) => page.get(count_below(node.item_hints.as_slice(), hint)),
+        Body::Inner(nodes) => likely_among(nodes.as_slice(), node.node_hints.as_slice(), hint),
     }
 }
 

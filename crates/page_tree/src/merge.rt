@@ -4,7 +4,7 @@ ghost use Rattle.page_model.specs.Changed.{above_key, below_key, with_changes, A
 ghost use Rattle.page_model.specs.Place.{IsPlaceOf};
 ghost use Rattle.page_model.specs.Rising.{IsRising};
 
-use crate::hints::{first_hints, last_hints};
+use crate::hints::{first_hints, hints_behind};
 use crate::key::{ChangeOf, KeyOf};
 use crate::page::Page;
 use crate::search::place_of;
@@ -97,9 +97,10 @@ pub(crate) fn merged<T: MakeCopy + Drop, By: KeyOf<T>, C: ChangeOf<T, By::Key>>(
     let mut made = Page::with_room(alloc, items.len().saturating_add(changes.len()))?;
     let mut left = items;
     for change in changes {
-        let beside = last_hints(hints, left.len());
+        let beside = hints_behind(hints, items.len().saturating_sub(left.len()));
         left = merge_change(alloc, by, left, beside, change, &mut made)?;
     }
-    push_copies(alloc, left, last_hints(hints, left.len()), &mut made)?;
+    let beside = hints_behind(hints, items.len().saturating_sub(left.len()));
+    push_copies(alloc, left, beside, &mut made)?;
     Ok(made)
 }

@@ -8,18 +8,22 @@ use std::alloc::Global;
 use std::marker::Model;
 use std::sync::Arc;
 
-/// A node of the tree: a page, or some nodes and their pages in their order. The first item and the counts stand beside
-/// them, so that nothing below has to be looked at for those, and so do hints: for the items of a page, or for the first
-/// items of the nodes.
+/// The most nodes right below a node.
+pub(crate) const INNER_NODES: usize = 8;
+
+/// A node of the tree: a page, or some nodes and their pages in their order. The counts and the first item stand beside
+/// them, so that nothing below has to be looked at for those, and so do hints: for the first item, for the first items of
+/// the nodes, with the greatest number where there is no node, and for the items of a page.
 #[cycle(node)]
 #[derive(Drop)]
 pub(crate) struct Node<T> {
-    pub(crate) first: T,
-    pub(crate) hint: u64,
     pub(crate) items: usize,
     pub(crate) pages: usize,
-    pub(crate) hints: Vec<u64>,
+    pub(crate) hint: u64,
+    pub(crate) node_hints: [u64; INNER_NODES],
+    pub(crate) item_hints: Vec<u64>,
     pub(crate) body: Body<T>,
+    pub(crate) first: T,
 }
 
 /// What a node holds.

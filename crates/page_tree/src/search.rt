@@ -124,10 +124,9 @@ fn item_in<'a, T, By: KeyOf<T>>(by: By, node: &'a Node<T>, key: &By::Key) -> Opt
     requires { IsRising (By.key_of by) By.key_cmp (joined node.now.pages) }
     ensures { option_copied result ≡ found (By.key_of by) By.key_cmp key.now (joined node.now.pages) }
 {
-    let hints = node.hints.as_slice();
     match &node.body {
-        Body::Leaf(page) => item_of(by, page.as_slice(), hints, key),
-        Body::Inner(nodes) => item_among(by, nodes.as_slice(), hints, key),
+        Body::Leaf(page) => item_of(by, page.as_slice(), node.item_hints.as_slice(), key),
+        Body::Inner(nodes) => item_among(by, nodes.as_slice(), node.node_hints.as_slice(), key),
     }
 }
 
