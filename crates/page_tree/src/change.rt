@@ -86,22 +86,21 @@ pub(crate) fn change_node<T: MakeCopy + Drop, By: KeyOf<T>, C: ChangeOf<T, By::K
             fill(alloc, by, page.as_slice(), hints, changes, made)
         }
         Body::Inner(nodes) => {
-            let hints = node.node_hints.as_slice();
             let mut above = Vec::new(alloc);
             above.reserve_exact(nodes.len().saturating_add(1))?;
-            change_nodes(alloc, by, nodes.as_slice(), hints, changes, &mut above)?;
+            change_nodes(alloc, by, nodes.as_slice(), changes, &mut above)?;
             push_above(alloc, above, made)
         }
     }
 }
 
-/// Puts the pages of nodes last, beside which hints stand, with changes: those into which no change falls are shared.
+/// Puts the pages of nodes last, with changes: those into which no change falls are shared. The node of a change is looked
+/// for without hints, since each node is looked at where it is shared.
 #[cycle(change)]
 fn change_nodes<T: MakeCopy + Drop, By: KeyOf<T>, C: ChangeOf<T, By::Key>>(
     alloc: Global,
     by: By,
     nodes: &[Arc<Node<T>, Global>],
-    hints: &[u64],
     changes: &[C],
     made: &mut Vec<Arc<Node<T>, Global>>,
 ) -> Result<(), AllocError>
@@ -115,13 +114,12 @@ fn change_nodes<T: MakeCopy + Drop, By: KeyOf<T>, C: ChangeOf<T, By::Key>>(
     let Some(change) = changes.first() else {
         return push_nodes(nodes, made);
     };
-    let (front, node, behind) = around(nodes, node_of(by, nodes, hints, change.key()));
+    let (front, node, behind) = around(nodes, node_of(by, nodes, &[], change.key()));
     push_nodes(front, made)?;
     if behind.is_empty() {
         return change_node(alloc, by, node, changes, made);
     }
     let (here, others) = split_at(by, changes, first_of(behind));
     change_node(alloc, by, node, here, made)?;
-    let hints = hints_behind(hints, nodes.len().saturating_sub(behind.len()));
-    change_nodes(alloc, by, behind, hints, others, made)
+    change_nodes(alloc, by, behind, others, made)
 }

@@ -8,7 +8,7 @@ pub(crate) fn count_below(hints: &[u64], hint: u64) -> usize {
 
 /// How many hints aren't above another. Takes no memory.
 pub(crate) fn count_upto(hints: &[u64], hint: u64) -> usize {
-    hints.iter().filter(|each| **each <= hint).count()
+    hints.partition_point(|each| *each <= hint)
 }
 
 /// The hints of so many items that stand first. Takes no memory.

@@ -75,7 +75,9 @@ fn merge_change<'a, T: MakeCopy + Drop, By: KeyOf<T>, C: ChangeOf<T, By::Key>>(
     ensures added { OnOk result (made.new.items.items ≡ made.old.items.items ++ (below_key (By.key_of by) By.key_cmp (C.changed change.now) items.now ++ option_to_list (C.put change.now))) }
     ensures left { IfOk result (λ left. left.now ≡ above_key (By.key_of by) By.key_cmp (C.changed change.now) items.now) }
 {
-    let place = place_of(by, items, hints, change.key());
+    // Without hints, all items up to the place are looked at. They are copied next, and a copy counts up and waits for
+    // its item, while a search lets the processor fetch many.
+    let place = place_of(by, items, &[], change.key());
     push_copies(alloc, &items[..place], first_hints(hints, place), made)?;
     push_copy(alloc, by, change.item(), made)?;
     Ok(&items[above_from(by, items, change.key(), place)..])
