@@ -61,7 +61,14 @@ pub(crate) fn fill<T: MakeCopy + Drop, By: KeyOf<T>, C: ChangeOf<T, By::Key>>(
         below,
         made,
     )?;
-    fill(alloc, by, back, hints_behind(hints, front.len()), others, made)
+    fill(
+        alloc,
+        by,
+        back,
+        hints_behind(hints, front.len()),
+        others,
+        made,
+    )
 }
 
 /// Puts the pages of a node last, with changes.

@@ -20,10 +20,10 @@ pub(crate) struct Node<T> {
     pub(crate) items: usize,
     pub(crate) pages: usize,
     pub(crate) hint: u64,
-    pub(crate) node_hints: [u64; INNER_NODES],
-    pub(crate) item_hints: Vec<u64>,
-    pub(crate) body: Body<T>,
     pub(crate) first: T,
+    pub(crate) body: Body<T>,
+    pub(crate) item_hints: Vec<u64>,
+    pub(crate) node_hints: [u64; INNER_NODES],
 }
 
 /// What a node holds.
