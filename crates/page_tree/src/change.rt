@@ -53,22 +53,10 @@ pub(crate) fn fill<T: MakeCopy + Drop, By: KeyOf<T>, C: ChangeOf<T, By::Key>>(
     }
     let (below, others) = changes.split_at(changes.len() / 2);
     let (front, back) = items.split_at(place_of(by, items, hints, others[0].key()));
-    fill(
-        alloc,
-        by,
-        front,
-        first_hints(hints, front.len()),
-        below,
-        made,
-    )?;
-    fill(
-        alloc,
-        by,
-        back,
-        hints_behind(hints, front.len()),
-        others,
-        made,
-    )
+    let beside = first_hints(hints, front.len());
+    fill(alloc, by, front, beside, below, made)?;
+    let beside = hints_behind(hints, front.len());
+    fill(alloc, by, back, beside, others, made)
 }
 
 /// Puts the pages of a node last, with changes.
