@@ -39,10 +39,15 @@ fn create_view(rt: &(impl Abort + AllocGlobal), small: &mut Small, create: &Crea
 }
 
 /// Gives a table its rows.
-fn fill(rt: &impl Abort, small: &mut Small, table: TableNo, rows: List<Row>) -> Reply {
-    let count = rows.items().len() as u64;
+pub fn put_rows(rt: &impl Abort, small: &mut Small, table: TableNo, rows: List<Row>) {
     let held = small.rows.get_mut(table.0 as usize).expect(rt, "a table");
     drop(replace(held, rows));
+}
+
+/// Gives a table the rows of an INSERT.
+fn fill(rt: &impl Abort, small: &mut Small, table: TableNo, rows: List<Row>) -> Reply {
+    let count = rows.items().len() as u64;
+    put_rows(rt, small, table, rows);
     Reply::Counted(count)
 }
 
@@ -107,12 +112,12 @@ fn lines_of(rt: &(impl Abort + AllocGlobal), reply: Reply) -> Text {
     lines
 }
 
-/// The lines of the reply to a text.
-fn lines(rt: &(impl Abort + AllocGlobal), small: &mut Small, text: &str) -> Text {
+/// The reply to a text.
+fn reply(rt: &(impl Abort + AllocGlobal), small: &mut Small, text: &str) -> Reply {
     let statement = read(rt, text);
     let reply = run(rt, small, &statement);
     drop(statement);
-    lines_of(rt, reply)
+    reply
 }
 
 /// Adds the line of this number of a reply.
@@ -141,11 +146,17 @@ pub fn parts<'a>(rt: &impl Abort, row: &'a str) -> Option<(&'a str, &'a str)> {
     }
 }
 
-/// One row of a table: a statement and its reply.
-fn check_call(rt: &(impl Abort + AllocGlobal), small: &mut Small, text: &str, wanted: &str) {
-    let lines = lines(rt, small, text);
+/// Compares the reply to a statement with the one that a row has.
+pub fn check_reply(rt: &(impl Abort + AllocGlobal), text: &str, reply: Reply, wanted: &str) {
+    let lines = lines_of(rt, reply);
     let wanted = reply_lines(rt, wanted);
     assert_eq!(rt; lines.as_str(), wanted.as_str(), "{text}");
+}
+
+/// One row of a table: a statement and its reply.
+fn check_call(rt: &(impl Abort + AllocGlobal), small: &mut Small, text: &str, wanted: &str) {
+    let reply = reply(rt, small, text);
+    check_reply(rt, text, reply, wanted)
 }
 
 /// Makes the calls of a table, one behind the other.

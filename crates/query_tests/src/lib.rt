@@ -11,6 +11,8 @@ mod created;
 mod expressions;
 pub mod key_ref;
 #[cfg(test)]
+mod looks;
+#[cfg(test)]
 mod meanings;
 #[cfg(test)]
 mod queries;

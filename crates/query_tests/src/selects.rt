@@ -43,14 +43,14 @@ fn read_tables(schema: &Schema, views: &[ViewDef]) -> bool
 }
 
 /// Whether each view reads tables that are there.
-fn are_views_there(schema: &Schema) -> bool
+pub fn are_views_there(schema: &Schema) -> bool
     ensures { MatchBool result (AreViewsThere schema.now) ⊤ }
 {
     read_tables(schema, schema.views.items())
 }
 
 /// Whether the source of a select is there.
-fn is_source_there(schema: &Schema, query: &BoundSelect) -> bool
+pub fn is_source_there(schema: &Schema, query: &BoundSelect) -> bool
     ensures { MatchBool result (IsThere schema.now query.now) ⊤ }
 {
     match &query.source {
