@@ -14,6 +14,8 @@ mod kept;
 #[cfg(test)]
 mod locks;
 #[cfg(test)]
+mod looks;
+#[cfg(test)]
 mod owning;
 #[cfg(test)]
 mod reading;

@@ -15,7 +15,7 @@ use crate::kept::{bound, row_bound};
 use crate::store::store_of;
 use crate::texts::{check_lines, read};
 use own_base::{Key, Place, RowName, SessionNo, TableNo};
-use own_model::{Bound, Refusal, Reply};
+use own_model::{Bound, Refusal, Reply, StoreView};
 use std::alloc::{AllocError, Global};
 use std::mem::drop;
 use std::process::Abort;
@@ -37,23 +37,22 @@ fn refused(rt: &impl Abort, why: Refusal) -> Reply
 }
 
 /// The reply to a bound statement in the open transaction of a session.
-fn reply_to_statement(
+pub fn reply_to_statement<V: StoreView>(
     rt: &(impl Abort + AllocGlobal),
-    version: &Version,
+    version: &V,
     txns: &mut Txns,
     session: SessionNo,
     bound: &Bound,
 ) -> Reply
-    requires sound { Sound version.now }
+    requires sound { Sound (V.db version.now) }
     requires session { session.0 ≤ SESSIONS }
-    requires ready { AreReady version.now txns.old }
+    requires ready { AreReady (V.db version.now) txns.old }
     requires open { is_open (state_by txns.old.states session.0) ≡ true }
-    requires bound { IsRowStatement version.now.schema bound.now }
-    requires well_formed { (db : Db) → IsWellFormed db → db.schema ≡ version.now.schema → IsWellFormed (run_bound db bound.now).db }
-    ensures { AreReady version.now txns.new }
+    requires bound { IsRowStatement (V.db version.now).schema bound.now }
+    requires well_formed { (db : Db) → IsWellFormed db → db.schema ≡ (V.db version.now).schema → IsWellFormed (run_bound db bound.now).db }
+    ensures { AreReady (V.db version.now) txns.new }
 {
-    let shown = Shown { version };
-    match txns.statement(rt.alloc(), &shown, session, bound) {
+    match txns.statement(rt.alloc(), version, session, bound) {
         Ok(reply) => reply,
         Err(why) => refused(rt, why),
     }
@@ -77,7 +76,8 @@ fn check_statement(
     let bound = row_bound(rt, version, &statement);
     drop(statement);
     assert!(rt; txns.is_open(session));
-    let reply = reply_to_statement(rt, version, txns, session, &bound);
+    let shown = Shown { version };
+    let reply = reply_to_statement(rt, &shown, txns, session, &bound);
     drop(bound);
     check_lines(rt, reply, wanted)
 }
@@ -178,7 +178,7 @@ fn check_ends(rt: &impl Abort, txns: &mut Txns) {
 }
 
 /// The transactions of sessions 1 and 2, both begun.
-fn begun(alloc: Global, version: &Version) -> Result<Txns, AllocError>
+pub fn begun(alloc: Global, version: &Version) -> Result<Txns, AllocError>
     requires { IsWellFormed version.now }
     ensures { IfOk result (AreReady version.now) }
 {
