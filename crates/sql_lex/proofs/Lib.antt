@@ -1,5 +1,6 @@
 pub mod Fillers
 pub mod FirstByte
+pub mod Keywords
 pub mod Marks
 pub mod Nexts
 pub mod Once

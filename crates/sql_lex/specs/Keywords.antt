@@ -1,5 +1,5 @@
 -- The words that can't be names.
-use Rattle.std.specs.Prelude.{ℕ, Bool, List, [], ◌∷◌, codes}
+use Rattle.std.specs.Prelude.{ℕ, Bool, List, [], ◌∷◌, ◌==◌, codes, filter, length}
 use Rattle.std.specs.List.{list_any}
 use Rattle.std.specs.Str.{str_eq_ignore_ascii_case}
 
@@ -19,3 +19,7 @@ keywords =
 -- a keyword, in any case
 abbrev pub is_keyword : List ℕ → Bool
 is_keyword word = list_any (λ keyword. str_eq_ignore_ascii_case keyword word) keywords
+
+-- those of so many letters
+abbrev pub of_length : ℕ → List (List ℕ) → List (List ℕ)
+of_length letters words = filter (λ word. length word == letters) words
