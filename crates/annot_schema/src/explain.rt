@@ -38,7 +38,7 @@ fn table_line(
     line.push(table.name.as_str())?;
     line.push(" ")?;
     line.push(class_word(schema, number))?;
-    Ok(line.into_text())
+    Ok(line.into_text()?)
 }
 
 /// The word of a kind of references.
@@ -145,7 +145,7 @@ fn edge_line(alloc: Global, schema: &Schema, edge: &Edge) -> Result<Text, AllocE
     line.push(" ")?;
     line.push(table_name(schema, named_table(edge)))?;
     push_rules(&mut line, schema, edge)?;
-    Ok(line.into_text())
+    Ok(line.into_text()?)
 }
 
 /// Adds the lines of the edges that a table holds.

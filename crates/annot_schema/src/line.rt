@@ -1,4 +1,4 @@
-ghost use Rattle.std.specs.Prelude.{◌≡◌, [], ◌++◌, OnOk};
+ghost use Rattle.std.specs.Prelude.{◌≡◌, [], ◌++◌, IfOk, OnOk};
 
 use own_base::Text;
 use std::alloc::{AllocError, Global};
@@ -35,9 +35,9 @@ impl Line {
         self.text.push_str(piece)
     }
 
-    /// The text that was written. Takes no memory.
-    pub fn into_text(self) -> Text
-        ensures { result ≡ self }
+    /// The text that was written.
+    pub fn into_text(self) -> Result<Text, AllocError>
+        ensures { IfOk result (λ text. text ≡ self) }
     {
         Text::from_string(self.text)
     }

@@ -40,7 +40,8 @@ fn has_bytes(rt: &(impl Abort + AllocGlobal), held: &str, bytes: &[u8]) -> bool 
     let text = Text::from_str(rt.alloc(), held).expect(rt, "memory");
     let copy = text.copy(rt.alloc()).expect(rt, "memory");
     let string = String::from_str(rt.alloc(), held).expect(rt, "memory");
-    text.bytes() == bytes && copy.as_str() == held && Text::from_string(string).as_str() == held
+    let taken_over = Text::from_string(string).expect(rt, "memory");
+    text.bytes() == bytes && copy.as_str() == held && taken_over.as_str() == held
 }
 
 #[test]

@@ -104,7 +104,7 @@ pub fn bind_condition<'a>(
 pub fn bind_where<'a>(
     alloc: Global,
     scope: &Scope<'a>,
-    cond: &'a Option<Cond>,
+    cond: &'a Option<Boxed<Cond>>,
     least: &mut Least<'a>,
 ) -> Result<Option<BoundCond>, AllocError>
     ensures noted { OnOk result (least.new ≡ after least.old (where_faults scope.now cond.now)) }
@@ -112,6 +112,6 @@ pub fn bind_where<'a>(
 {
     match cond {
         None => Ok(None),
-        Some(cond) => Ok(Some(bind_condition(alloc, scope, cond, least)?)),
+        Some(cond) => Ok(Some(bind_condition(alloc, scope, cond.get(), least)?)),
     }
 }

@@ -21,7 +21,7 @@ fn lent<'a>(value: Option<&'a Value>) -> Option<LentValue<'a>>
     match value {
         Some(Value::Int(number)) => Some(LentValue::Int(*number)),
         Some(Value::Text(text)) => Some(LentValue::Text(text)),
-        Some(Value::Sum(number)) => Some(LentValue::Sum(*number)),
+        Some(Value::Sum(sum)) => Some(LentValue::Sum(sum.get())),
         Some(Value::Null) | None => None,
     }
 }

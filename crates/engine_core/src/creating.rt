@@ -113,7 +113,13 @@ pub(crate) fn create(
 {
     match statement {
         Statement::CreateTable(create) => create_table(alloc, version, weighs, create, statement),
-        Statement::CreateView(create) => create_view(alloc, version, weighs, create, statement),
+        Statement::CreateView(create) => create_view(
+            alloc,
+            version,
+            weighs,
+            create.get(),
+            statement,
+        ),
         _ => unreachable!(),
     }
 }

@@ -47,7 +47,7 @@ fn serve_undoomed(
             state.txns.finish(entry.session);
             Ok(Reply::Ended)
         }
-        Request::Run(statement) => serve_statement(alloc, state, history, entry, statement),
+        Request::Run(statement) => serve_statement(alloc, state, history, entry, statement.get()),
     }
 }
 

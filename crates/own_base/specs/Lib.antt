@@ -1,5 +1,5 @@
 pub mod Key
-pub mod HeldValues
+pub mod RowValues
 pub mod Name
 pub mod Row
 pub mod formers

@@ -1,10 +1,11 @@
 ghost use Rattle.std.specs.Prelude.{◌≡◌, IfOk};
 
 use std::alloc::{AllocError, Global};
+use std::fmt;
 use std::marker::Model;
 
 /// A value on the heap, which contracts see as that value. A type holds itself through it.
-#[derive(Debug, Drop)]
+#[derive(Drop)]
 pub struct Boxed<T> {
     inner: Box<T>,
 }
@@ -41,5 +42,12 @@ impl<T: Drop> Boxed<T> {
     {
         let inner = Box::new(alloc, value)?;
         Ok(Boxed { inner })
+    }
+}
+
+impl<T: fmt::Debug> fmt::Debug for Boxed<T> {
+    /// Writes the value, as if it weren't boxed.
+    fn fmt<W: fmt::Write>(&self, f: &mut fmt::Formatter<W>) -> fmt::Result {
+        self.get().fmt(f)
     }
 }

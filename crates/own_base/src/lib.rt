@@ -4,12 +4,13 @@
 
 mod boxed;
 mod change;
-mod held_values;
 mod list;
 mod make_copy;
 mod number;
 mod row;
 mod row_name;
+mod row_values;
+mod sum;
 mod text;
 mod value;
 
@@ -20,5 +21,6 @@ pub use make_copy::MakeCopy;
 pub use number::{Area, ColNo, ColumnSet, EdgeNo, Place, SessionNo, TableNo, ViewNo};
 pub use row::{ROW_SIZE, Row};
 pub use row_name::{RowName, Subject};
+pub use sum::Sum;
 pub use text::{NAME_BYTES, Name, Text};
 pub use value::{Key, VALUE_SIZE, Value};

@@ -52,6 +52,13 @@ impl<T> List<T> {
         self.items.as_slice()
     }
 
+    /// Gives back the room that no item takes. Takes no memory.
+    pub fn shrink_to_fit(&mut self)
+        ensures { self.new ≡ self.old }
+    {
+        self.items.shrink_to_fit();
+    }
+
     /// Puts the item last. Where memory is refused, the item comes back.
     pub fn push(&mut self, item: T) -> Result<(), (AllocError, T)>
         ensures added { OnOk result (self.new ≡ self.old ++ item ∷ []) }

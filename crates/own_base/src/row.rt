@@ -2,10 +2,10 @@ ghost use Rattle.std.specs.Prelude.{◌≡◌, ◌<◌, ◌≤◌, ◌^◌, slic
 ghost use Rattle.std.specs.Option.{option_copied};
 ghost use Rattle.own_base.specs.Row.{row_size};
 
-use crate::held_values::HeldValues;
 use crate::list::List;
 use crate::make_copy::MakeCopy;
 use crate::number::ColNo;
+use crate::row_values::RowValues;
 use crate::value::Value;
 use std::alloc::{AllocError, Global};
 use std::marker::Model;
@@ -14,17 +14,17 @@ use std::marker::Model;
 /// with its copies, no contract sees.
 #[derive(Debug, Drop)]
 pub struct Row {
-    held: HeldValues,
+    values: RowValues,
 }
 
 impl Model for Row {
     ghost use Rattle.std.specs.Prelude.{List};
     ghost use Rattle.own_base.specs.declared.value.Value.{Value as Seen};
-    ghost use Rattle.own_base.specs.HeldValues.{values_of};
+    ghost use Rattle.own_base.specs.RowValues.{values_of};
 
     ghost Value = { List Seen };
 
-    ghost view = { λ row. values_of row.held };
+    ghost view = { λ row. values_of row.values };
 }
 
 /// The size of a row without columns, in the unit of the weight limit.
@@ -36,7 +36,7 @@ impl Row {
         ensures { result ≡ values }
     {
         Row {
-            held: HeldValues::Alone(values),
+            values: RowValues::Alone(values),
         }
     }
 
@@ -45,16 +45,16 @@ impl Row {
     pub fn into_shared(self, alloc: Global) -> Result<Row, AllocError>
         ensures { IfOk result (λ row. row ≡ self) }
     {
-        let Row { held } = self;
-        let held = held.into_shared(alloc)?;
-        Ok(Row { held })
+        let Row { values } = self;
+        let values = values.into_shared(alloc)?;
+        Ok(Row { values })
     }
 
     /// Lends the values, by column number. Takes no memory.
     pub fn values(&self) -> &[Value]
         ensures { result.now ≡ self.now }
     {
-        self.held.values()
+        self.values.values()
     }
 
     /// The value in a column. Takes no memory.
@@ -81,7 +81,7 @@ impl MakeCopy for Row {
     /// A row that equals this one. A copy of a shared row is a count more on what it shares; `AllocError` comes there
     /// only where that count is full.
     fn copy(&self, alloc: Global) -> Result<Row, AllocError> {
-        let held = self.held.copy(alloc)?;
-        Ok(Row { held })
+        let values = self.values.copy(alloc)?;
+        Ok(Row { values })
     }
 }

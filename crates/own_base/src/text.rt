@@ -6,19 +6,25 @@ use std::alloc::{AllocError, Global};
 use std::cmp::Ordering;
 use std::hash::{Hash, Hasher};
 use std::marker::Model;
+use std::sync::ArcStr;
 
-/// A text, which contracts see as its UTF-8 bytes. It is compared and ordered by its bytes.
+/// A text, which contracts see as its UTF-8 bytes. It is compared and ordered by its bytes, and shares them with its
+/// copies, behind one pointer.
 #[derive(Debug, Drop)]
 pub struct Text {
-    text: String,
+    text: ArcStr<Global>,
 }
 
+/// The size of a text in memory, besides what it shares: one pointer.
+const _: () = prove!(size_of::<Text>() == 8);
+
 impl Model for Text {
-    ghost use Rattle.std.specs.Prelude.{List, ℕ, string_bytes};
+    ghost use Rattle.std.specs.Prelude.{List, ℕ};
+    ghost use Rattle.std.specs.Arc.{arc_str_bytes};
 
     ghost Value = { List ℕ };
 
-    ghost view = { λ text. string_bytes text.text };
+    ghost view = { λ text. arc_str_bytes text.text };
 }
 
 impl Text {
@@ -26,15 +32,16 @@ impl Text {
     pub fn from_str(alloc: Global, text: &str) -> Result<Text, AllocError>
         ensures { IfOk result (λ held. held ≡ text.now) }
     {
-        let text = String::from_str(alloc, text)?;
+        let text = ArcStr::from_str(alloc, text)?;
         Ok(Text { text })
     }
 
-    /// Holds the bytes of a string. Takes no memory.
-    pub fn from_string(text: String) -> Text
-        ensures { result ≡ string_bytes text }
+    /// Holds the bytes of a string, which it takes over.
+    pub fn from_string(text: String) -> Result<Text, AllocError>
+        ensures { IfOk result (λ held. held ≡ string_bytes text) }
     {
-        Text { text }
+        let text = ArcStr::from_string(text)?;
+        Ok(Text { text })
     }
 
     /// Lends the bytes. Takes no memory.
@@ -54,8 +61,10 @@ impl Text {
 }
 
 impl MakeCopy for Text {
-    fn copy(&self, alloc: Global) -> Result<Text, AllocError> {
-        Text::from_str(alloc, self.as_str())
+    /// A text that equals this one and shares its bytes; `AllocError` comes only where their count of texts is full.
+    fn copy(&self, _alloc: Global) -> Result<Text, AllocError> {
+        let text = self.text.clone()?;
+        Ok(Text { text })
     }
 }
 
@@ -70,7 +79,7 @@ impl PartialEq for Text {
     ghost laws = { Prim.search (comparing, rules) };
 
     fn eq(&self, other: &Text) -> bool {
-        self.text.as_bytes() == other.text.as_bytes()
+        self.bytes() == other.bytes()
     }
 }
 
@@ -96,7 +105,7 @@ impl Ord for Text {
     ghost matches_eq = { Prim.search (comparing, rules) };
 
     fn cmp(&self, other: &Text) -> Ordering {
-        self.text.as_bytes().cmp(other.text.as_bytes())
+        self.bytes().cmp(other.bytes())
     }
 }
 

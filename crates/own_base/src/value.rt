@@ -3,6 +3,7 @@ ghost use Rattle.own_base.specs.Key.{key_cmp};
 ghost use Rattle.own_base.specs.Row.{value_size};
 
 use crate::make_copy::MakeCopy;
+use crate::sum::Sum;
 use crate::text::Text;
 use std::alloc::{AllocError, Global};
 use std::cmp::Ordering;
@@ -13,8 +14,11 @@ pub enum Value {
     Null,
     Int(i64),
     Text(Text),
-    Sum(i128),
+    Sum(Sum),
 }
+
+/// What a value takes in its row, in bytes: a text's bytes and a sum's number lie beside it.
+const _: () = prove!(size_of::<Value>() == 16);
 
 /// A value of a primary key. Numbers are ordered by value, texts by bytes.
 #[derive(Debug, Drop, PartialEq, Eq, PartialOrd, Ord)]
@@ -53,7 +57,7 @@ impl MakeCopy for Value {
             Value::Null => Ok(Value::Null),
             Value::Int(number) => Ok(Value::Int(*number)),
             Value::Text(text) => Ok(Value::Text(text.copy(alloc)?)),
-            Value::Sum(number) => Ok(Value::Sum(*number)),
+            Value::Sum(sum) => Ok(Value::Sum(sum.copy(alloc)?)),
         }
     }
 }

@@ -16,7 +16,10 @@ pub enum Verdict {
 #[derive(Debug, Drop)]
 pub struct Entry {
     pub session: SessionNo,
+    pub verdict: Verdict,
     pub call: u32,
     pub request: Request,
-    pub verdict: Verdict,
 }
+
+/// What an entry takes besides its statement, in bytes.
+const _: () = prove!(size_of::<Entry>() == 24);

@@ -54,6 +54,9 @@ pub struct ScriptCall {
     pub request: Request,
 }
 
+/// What a call takes besides its statement, in bytes.
+const _: () = prove!(size_of::<ScriptCall>() == 24);
+
 /// The calls of one session, in order, each with its number.
 #[derive(Debug, Drop)]
 pub struct SessionCalls {

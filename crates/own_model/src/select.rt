@@ -1,5 +1,5 @@
 use crate::condition::Cond;
-use own_base::{List, Name};
+use own_base::{Boxed, List, Name};
 
 /// A select as it is read.
 #[derive(Debug, Drop)]
@@ -7,7 +7,7 @@ pub struct Select {
     pub items: Items,
     pub from: Name,
     pub join: Option<Join>,
-    pub cond: Option<Cond>,
+    pub cond: Option<Boxed<Cond>>,
     pub group: Option<ColRef>,
     pub order: Option<Order>,
 }

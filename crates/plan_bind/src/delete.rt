@@ -9,7 +9,7 @@ ghost use Rattle.bind_scope.specs.After.{after};
 
 use crate::target::target_scope;
 use bind_scope::{Least, bind_table, bind_where, number_of};
-use own_base::Name;
+use own_base::{Boxed, Name};
 use own_model::{Bound, Cond, Schema};
 use std::alloc::{AllocError, Global};
 
@@ -19,7 +19,7 @@ pub fn bind_delete<'a>(
     alloc: Global,
     schema: &'a Schema,
     table: &'a Name,
-    cond: &'a Option<Cond>,
+    cond: &'a Option<Boxed<Cond>>,
     least: &mut Least<'a>,
 ) -> Result<Bound, AllocError>
     requires tables { IsWithinLimits schema.now }

@@ -29,7 +29,12 @@ fn bind_meaning<'a>(
     ensures noted { OnOk result (least.new ≡ after least.old (faults schema.now statement.now)) }
 {
     match statement {
-        Statement::Select(select) => Ok(Bound::Select(bind_select(alloc, schema, select, least)?)),
+        Statement::Select(select) => Ok(Bound::Select(bind_select(
+            alloc,
+            schema,
+            select.get(),
+            least,
+        )?)),
         Statement::Insert {
             table,
             columns,

@@ -18,7 +18,7 @@ use crate::numbered_column::{NumberedColumn, bind_name, column_number};
 use crate::repeats::note_repeated;
 use crate::target::target_scope;
 use bind_scope::{Fault, Least, NumberedTable, bind_table, bind_where, number_of};
-use own_base::{ColNo, List, Name};
+use own_base::{Boxed, ColNo, List, Name};
 use own_model::{Bound, BoundExpr, Cond, Expr, Schema, TABLE_COLUMNS, TableDef};
 use std::alloc::{AllocError, Global};
 
@@ -116,7 +116,7 @@ pub fn bind_update<'a>(
     schema: &'a Schema,
     table: &'a Name,
     sets: &'a List<(Name, Expr)>,
-    cond: &'a Option<Cond>,
+    cond: &'a Option<Boxed<Cond>>,
     least: &mut Least<'a>,
 ) -> Result<Bound, AllocError>
     requires tables { IsWithinLimits schema.now }

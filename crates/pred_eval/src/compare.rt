@@ -12,9 +12,9 @@ pub fn compared(left: &Value, right: &Value) -> Option<Ordering>
 {
     match (left, right) {
         (Value::Int(left), Value::Int(right)) => Some(left.cmp(right)),
-        (Value::Int(left), Value::Sum(right)) => Some((*left as i128).cmp(right)),
-        (Value::Sum(left), Value::Int(right)) => Some(left.cmp(&(*right as i128))),
-        (Value::Sum(left), Value::Sum(right)) => Some(left.cmp(right)),
+        (Value::Int(left), Value::Sum(right)) => Some((*left as i128).cmp(&right.get())),
+        (Value::Sum(left), Value::Int(right)) => Some(left.get().cmp(&(*right as i128))),
+        (Value::Sum(left), Value::Sum(right)) => Some(left.get().cmp(&right.get())),
         (Value::Text(left), Value::Text(right)) => Some(left.cmp(right)),
         _ => None,
     }
@@ -33,8 +33,8 @@ pub fn compare_values(left: &Value, right: &Value) -> Ordering
         (Value::Text(_), _) => Ordering::Greater,
         (_, Value::Text(_)) => Ordering::Less,
         (Value::Int(left), Value::Int(right)) => left.cmp(right),
-        (Value::Int(left), Value::Sum(right)) => (*left as i128).cmp(right),
-        (Value::Sum(left), Value::Int(right)) => left.cmp(&(*right as i128)),
-        (Value::Sum(left), Value::Sum(right)) => left.cmp(right),
+        (Value::Int(left), Value::Sum(right)) => (*left as i128).cmp(&right.get()),
+        (Value::Sum(left), Value::Int(right)) => left.get().cmp(&(*right as i128)),
+        (Value::Sum(left), Value::Sum(right)) => left.get().cmp(&right.get()),
     }
 }

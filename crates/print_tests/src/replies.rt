@@ -1,6 +1,6 @@
 //! Replies, and their lines.
 
-use own_base::{List, Name, Place, Row, SessionNo, Text, Value};
+use own_base::{List, Name, Place, Row, SessionNo, Sum, Text, Value};
 use own_model::{Cell, GotRow, Reply};
 use sql_print::print_reply;
 use std::alloc::{AllocError, Global};
@@ -16,7 +16,8 @@ fn values(alloc: Global) -> Result<Vec<Value>, AllocError> {
 /// A row of those values, and one of a sum.
 fn rows(alloc: Global) -> Result<Reply, AllocError> {
     let first = Row::from_values(List::from_vec(values(alloc)?));
-    let sums = vec![in alloc; Value::Sum(-170_141_183_460_469_231_731)]?;
+    let sum = Sum::new(alloc, -170_141_183_460_469_231_731)?;
+    let sums = vec![in alloc; Value::Sum(sum)]?;
     let rows = vec![in alloc; first, Row::from_values(List::from_vec(sums))]?;
     Ok(Reply::Rows(List::from_vec(rows)))
 }

@@ -1,8 +1,9 @@
 //! Values as a reply shows them.
 
-use own_base::{Text, Value};
+use own_base::{Sum, Text, Value};
 use sql_print::print_value;
 use std::alloc::{AllocError, Global};
+use std::process::Abort;
 
 /// A text as a reply shows it.
 fn shown(alloc: Global, text: &str) -> Result<Text, AllocError> {
@@ -44,14 +45,18 @@ const NUMBERS: [&str; 6] = [
     "9223372036854775807000000",
 ];
 
-fn number(which: usize) -> Value {
+fn sum(rt: &(impl Abort + AllocGlobal), number: i128) -> Value {
+    Value::Sum(Sum::new(rt.alloc(), number).expect(rt, "memory"))
+}
+
+fn number(rt: &(impl Abort + AllocGlobal), which: usize) -> Value {
     match which {
         0 => Value::Null,
         1 => Value::Int(0),
         2 => Value::Int(9_223_372_036_854_775_807),
         3 => Value::Int(-9_223_372_036_854_775_807 - 1),
-        4 => Value::Sum(-1),
-        _ => Value::Sum(9_223_372_036_854_775_807_000_000),
+        4 => sum(rt, -1),
+        _ => sum(rt, 9_223_372_036_854_775_807_000_000),
     }
 }
 
@@ -59,7 +64,7 @@ fn number(which: usize) -> Value {
 fn numbers_are_shown_in_decimal(rt: HostRuntime) {
     for (which, wanted) in NUMBERS.iter().enumerate() {
         assert_eq!(rt;
-            print_value(rt.alloc(), &number(which))
+            print_value(rt.alloc(), &number(&rt, which))
                 .expect(&rt, "memory")
                 .as_str(),
             *wanted

@@ -57,7 +57,7 @@ impl ItemTally {
         match self {
             ItemTally::Group => value.copied(alloc),
             ItemTally::Count(rows) => Ok(Value::Int(*rows as i64)),
-            ItemTally::Sum(_, numbers) => Ok(numbers.shown()),
+            ItemTally::Sum(_, numbers) => numbers.shown(alloc),
         }
     }
 }

@@ -1,7 +1,8 @@
-ghost use Rattle.std.specs.Prelude.{◌≡◌, ◌+◌, ◌<◌, ◌^◌, []};
+ghost use Rattle.std.specs.Prelude.{◌≡◌, ◌+◌, ◌<◌, ◌^◌, [], IfOk};
 ghost use Rattle.query_eval.specs.Numbers.{numbers_of, shown_sum, with_number};
 
-use own_base::Value;
+use own_base::{Sum, Value};
+use std::alloc::{AllocError, Global};
 use std::marker::Model;
 
 /// The numbers of a column so far: how many, and their sum.
@@ -38,14 +39,13 @@ impl NumberTally {
         self.sum += *number as i128;
     }
 
-    /// What SUM shows of them. Takes no memory.
-    pub(crate) fn shown(&self) -> Value
-        ensures { result ≡ shown_sum self.now }
+    /// What SUM shows of them.
+    pub(crate) fn shown(&self, alloc: Global) -> Result<Value, AllocError>
+        ensures { IfOk result (λ shown. shown ≡ shown_sum self.now) }
     {
         if self.count == 0 {
-            Value::Null
-        } else {
-            Value::Sum(self.sum)
+            return Ok(Value::Null);
         }
+        Ok(Value::Sum(Sum::new(alloc, self.sum)?))
     }
 }

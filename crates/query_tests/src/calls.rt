@@ -94,7 +94,7 @@ fn create_table(rt: &(impl Abort + AllocGlobal), small: &mut Small, create: &Cre
 fn run(rt: &(impl Abort + AllocGlobal), small: &mut Small, statement: &Statement) -> Reply {
     match statement {
         Statement::CreateTable(create) => create_table(rt, small, create),
-        Statement::CreateView(create) => create_view(rt, small, create),
+        Statement::CreateView(create) => create_view(rt, small, create.get()),
         _ => bind_and_run(rt, small, statement),
     }
 }

@@ -19,7 +19,7 @@ CREATE VIEW g AS SELECT n, SUM(n) FROM t GROUP BY n => ok";
 
 /// Statements and what they mean: `<1>` is column 1, and brackets hold a list (`written_out`).
 const MEANINGS: &str = "\
-SELECT s, t.n AS m FROM t WHERE n = 1 AND NOT s IS NOT NULL ORDER BY id DESC => Select(BoundSelect { source: Table(TableNo(1)), items: [Column(<2>), Column(<1>)], cond: Some(Every([Compare(<1>, Eq, Literal(Int(1))), Not(Boxed { inner: IsNull(<2>, true) })])), grouped: false, group: None, order: Some((<0>, true)) })
+SELECT s, t.n AS m FROM t WHERE n = 1 AND NOT s IS NOT NULL ORDER BY id DESC => Select(BoundSelect { source: Table(TableNo(1)), items: [Column(<2>), Column(<1>)], cond: Some(Every([Compare(<1>, Eq, Literal(Int(1))), Not(IsNull(<2>, true))])), grouped: false, group: None, order: Some((<0>, true)) })
 SELECT * FROM v WHERE n > 1 OR s IS NULL => Select(BoundSelect { source: View(ViewNo(0)), items: [Column(<0>), Column(<1>)], cond: Some(Some1([Compare(<0>, Gt, Literal(Int(1))), IsNull(<1>, false)])), grouped: false, group: None, order: None })
 -- a join's columns count in their own tables, all others over the pair; ON may name the right one first
 SELECT mail FROM p JOIN t ON s = mail WHERE t.n <> p.n ORDER BY id => Select(BoundSelect { source: Pair { left: TableNo(2), right: TableNo(1), left_column: <0>, right_column: <2> }, items: [Column(<0>)], cond: Some(Compare(<3>, Ne, Column(<1>))), grouped: false, group: None, order: Some((<2>, false)) })

@@ -56,7 +56,7 @@ pub fn is_statement_within(statement: &Statement) -> bool
     ensures { MatchBool result (IsStatementWithin statement.now) ⊤ }
 {
     match statement {
-        Statement::Select(select) => is_select_within(select),
+        Statement::Select(select) => is_select_within(select.get()),
         Statement::Insert { rows, .. } => rows.items().iter().all(|tuple| is_tuple_within(tuple)),
         _ => true,
     }

@@ -85,7 +85,7 @@ const CONDITIONS: [(&str, &str); 6] = [
     (
         "delete from t where a = 1 or b <= 2 and not c > d or e is null",
         "Delete { table: <t>, cond: Some(Some1([Compare(«a», Eq, Literal(Int(1))), \
-         Every([Compare(«b», Le, Literal(Int(2))), Not(Boxed { inner: Compare(«c», Gt, Column(«d»)) })]), \
+         Every([Compare(«b», Le, Literal(Int(2))), Not(Compare(«c», Gt, Column(«d»)))]), \
          IsNull(«e», false)])) }",
     ),
     (
@@ -95,8 +95,8 @@ const CONDITIONS: [(&str, &str); 6] = [
     ),
     (
         "delete from T where not (a=1 or b != 'x') and c is null",
-        "Delete { table: <t>, cond: Some(Every([Not(Boxed { inner: Some1([Compare(«a», Eq, Literal(Int(1))), \
-         Compare(«b», Ne, Literal(Text(Text { text: \"x\" })))]) }), IsNull(«c», false)])) }",
+        "Delete { table: <t>, cond: Some(Every([Not(Some1([Compare(«a», Eq, Literal(Int(1))), \
+         Compare(«b», Ne, Literal(Text(Text { text: \"x\" })))])), IsNull(«c», false)])) }",
     ),
     (
         "delete from t where (a = 1 or b = 2) or c = null",
@@ -105,10 +105,10 @@ const CONDITIONS: [(&str, &str); 6] = [
     ),
     (
         "delete from t where not not (a = 1 and b = t.c) and not (d = 1)",
-        "Delete { table: <t>, cond: Some(Every([Not(Boxed { inner: Not(Boxed { inner: \
+        "Delete { table: <t>, cond: Some(Every([Not(Not(\
          Every([Compare(«a», Eq, Literal(Int(1))), \
-         Compare(«b», Eq, Column(ColRef { table: Some(<t>), column: <c> }))]) }) }), \
-         Not(Boxed { inner: Compare(«d», Eq, Literal(Int(1))) })])) }",
+         Compare(«b», Eq, Column(ColRef { table: Some(<t>), column: <c> }))]))), \
+         Not(Compare(«d», Eq, Literal(Int(1))))])) }",
     ),
 ];
 

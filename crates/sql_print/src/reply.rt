@@ -11,6 +11,12 @@ use own_base::{Place, Row, SessionNo, Text, Value};
 use own_model::{Cell, GotRow, Reply};
 use std::alloc::{AllocError, Global};
 
+/// The room for a reply's first line, in bytes.
+const LINE_BYTES: usize = 48;
+
+/// The room for a value of a reply's rows, in bytes.
+const VALUE_BYTES: usize = 12;
+
 /// Writes a place, or `-` for none.
 fn push_place(buffer: &mut TextBuffer, place: Option<Place>) -> Result<(), AllocError>
     ensures { OnOk result (buffer.new ≡ buffer.old ++ place_text (option_map (λ place. place.0) place)) }
@@ -163,6 +169,22 @@ fn push_lines_below(buffer: &mut TextBuffer, reply: &Reply) -> Result<(), AllocE
     }
 }
 
+/// How many bytes the lines of a reply take, more or less: some 12 for each value of its rows.
+fn bytes_of(reply: &Reply) -> usize {
+    match reply {
+        Reply::Rows(rows) => match rows.items() {
+            [] => LINE_BYTES,
+            [first, ..] => rows
+                .items()
+                .len()
+                .saturating_mul(first.values().len())
+                .saturating_mul(VALUE_BYTES)
+                .saturating_add(LINE_BYTES),
+        },
+        _ => LINE_BYTES,
+    }
+}
+
 /// The lines of a reply: `PLACE SESSION.CALL REPLY`, with `-` for no place, and a line for each row. Each line ends
 /// with a line feed.
 #[tactic(auto, unfolding(text_model::specs::Lines::reply_lines))]
@@ -175,7 +197,7 @@ pub fn print_reply(
 ) -> Result<Text, AllocError>
     ensures { IfOk result (λ text. text ≡ reply_lines (option_map (λ place. place.0) place) session.0 call reply.now) }
 {
-    let mut buffer = TextBuffer::new(alloc);
+    let mut buffer = TextBuffer::with_capacity(alloc, bytes_of(reply))?;
     push_place(&mut buffer, place)?;
     buffer.push(" ")?;
     buffer.push_number(u64::from(session.0))?;
@@ -185,5 +207,5 @@ pub fn print_reply(
     push_reply(&mut buffer, reply)?;
     buffer.push("\n")?;
     push_lines_below(&mut buffer, reply)?;
-    Ok(buffer.into_text())
+    Ok(buffer.into_text()?)
 }

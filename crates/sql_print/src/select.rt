@@ -7,7 +7,7 @@ ghost use Rattle.sql_print.specs.Spaces.{after_spaces};
 use crate::condition::push_condition;
 use crate::text_buffer::TextBuffer;
 use crate::word::{Worded, push_listed};
-use own_base::Name;
+use own_base::{Boxed, Name};
 use own_model::{ColRef, Cond, Item, Items, Join, Order, Select, What};
 use std::alloc::AllocError;
 
@@ -95,13 +95,13 @@ impl Worded for Order {
 }
 
 /// Writes the WHERE of a statement, if it has one.
-pub fn push_where(buffer: &mut TextBuffer, cond: &Option<Cond>) -> Result<(), AllocError>
+pub fn push_where(buffer: &mut TextBuffer, cond: &Option<Boxed<Cond>>) -> Result<(), AllocError>
     ensures { OnOk result (buffer.new ≡ buffer.old ++ after_spaces (where_words cond.now)) }
 {
     match cond {
         Some(cond) => {
             buffer.push(" WHERE")?;
-            push_condition(buffer, cond)?;
+            push_condition(buffer, cond.get())?;
             Ok(())
         }
         None => Ok(()),

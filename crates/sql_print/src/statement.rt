@@ -9,7 +9,7 @@ use crate::create::{push_create, push_view};
 use crate::select::{push_select, push_where};
 use crate::text_buffer::TextBuffer;
 use crate::word::{Worded, push_bracketed, push_listed};
-use own_base::{Key, List, Name, Text, Value};
+use own_base::{Boxed, Key, List, Name, Text, Value};
 use own_model::{Cond, Expr, Statement};
 use std::alloc::{AllocError, Global};
 
@@ -97,7 +97,7 @@ fn push_update(
     buffer: &mut TextBuffer,
     table: &Name,
     sets: &List<(Name, Expr)>,
-    cond: &Option<Cond>,
+    cond: &Option<Boxed<Cond>>,
 ) -> Result<(), AllocError>
     ensures { OnOk result (buffer.new ≡ buffer.old ++ spaced (codes "UPDATE" ∷ table.now ∷ codes "SET" ∷ (listed set_words sets.now ++ where_words cond.now))) }
 {
@@ -111,7 +111,11 @@ fn push_update(
 
 /// Writes a DELETE.
 
-fn push_delete(buffer: &mut TextBuffer, table: &Name, cond: &Option<Cond>) -> Result<(), AllocError>
+fn push_delete(
+    buffer: &mut TextBuffer,
+    table: &Name,
+    cond: &Option<Boxed<Cond>>,
+) -> Result<(), AllocError>
     ensures { OnOk result (buffer.new ≡ buffer.old ++ spaced (codes "DELETE" ∷ codes "FROM" ∷ table.now ∷ where_words cond.now)) }
 {
     buffer.push("DELETE FROM")?;
@@ -137,7 +141,7 @@ fn push_statement(buffer: &mut TextBuffer, statement: &Statement) -> Result<(), 
 {
     match statement {
         Statement::CreateTable(create) => push_create(buffer, create),
-        Statement::CreateView(view) => push_view(buffer, view),
+        Statement::CreateView(view) => push_view(buffer, view.get()),
         Statement::Insert {
             table,
             columns,
@@ -145,7 +149,7 @@ fn push_statement(buffer: &mut TextBuffer, statement: &Statement) -> Result<(), 
         } => push_insert(buffer, table, columns, rows),
         Statement::Update { table, sets, cond } => push_update(buffer, table, sets, cond),
         Statement::Delete { table, cond } => push_delete(buffer, table, cond),
-        Statement::Select(select) => push_select(buffer, select),
+        Statement::Select(select) => push_select(buffer, select.get()),
         Statement::Begin => buffer.push("BEGIN"),
         Statement::Commit => buffer.push("COMMIT"),
         Statement::Rollback => buffer.push("ROLLBACK"),
@@ -164,5 +168,5 @@ pub fn print_statement(alloc: Global, statement: &Statement) -> Result<Text, All
 {
     let mut buffer = TextBuffer::new(alloc);
     push_statement(&mut buffer, statement)?;
-    Ok(buffer.into_text())
+    Ok(buffer.into_text()?)
 }

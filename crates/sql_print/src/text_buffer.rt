@@ -1,6 +1,7 @@
-ghost use Rattle.std.specs.Prelude.{◌≡◌, ◌<◌, [], ◌∷◌, ◌++◌, OnOk};
+ghost use Rattle.std.specs.Prelude.{◌≡◌, ◌<◌, [], ◌∷◌, ◌++◌, IfOk, OnOk};
 ghost use Rattle.std.specs.Fmt.{decimal, signed_decimal};
 
+use itoa::Buffer;
 use own_base::Text;
 use std::alloc::{AllocError, Global};
 use std::marker::Model;
@@ -8,7 +9,6 @@ use std::marker::Model;
 /// A text that is being written, which contracts see as its bytes so far.
 #[derive(Drop)]
 pub struct TextBuffer {
-    alloc: Global,
     text: String,
 }
 
@@ -26,9 +26,16 @@ impl TextBuffer {
         ensures { result ≡ [] }
     {
         TextBuffer {
-            alloc,
             text: String::new(alloc),
         }
+    }
+
+    /// The empty text, with room for so many bytes.
+    pub fn with_capacity(alloc: Global, bytes: usize) -> Result<TextBuffer, AllocError>
+        ensures { IfOk result (λ buffer. buffer ≡ []) }
+    {
+        let text = String::with_capacity(alloc, bytes)?;
+        Ok(TextBuffer { text })
     }
 
     /// Writes this at the end.
@@ -50,29 +57,29 @@ impl TextBuffer {
     pub fn push_number(&mut self, number: u64) -> Result<(), AllocError>
         ensures { OnOk result (self.new ≡ self.old ++ decimal number) }
     {
-        let digits = number.to_string(self.alloc)?;
-        self.text.push_str(digits.as_str())
+        let mut digits = Buffer::new();
+        self.text.push_str(digits.format(number))
     }
 
     /// Writes a number in decimal, after `-` where it is below 0.
     pub fn push_signed(&mut self, number: i64) -> Result<(), AllocError>
         ensures { OnOk result (self.new ≡ self.old ++ signed_decimal number) }
     {
-        let digits = number.to_string(self.alloc)?;
-        self.text.push_str(digits.as_str())
+        let mut digits = Buffer::new();
+        self.text.push_str(digits.format(number))
     }
 
     /// Writes a sum in decimal, after `-` where it is below 0.
     pub fn push_sum(&mut self, sum: i128) -> Result<(), AllocError>
         ensures { OnOk result (self.new ≡ self.old ++ signed_decimal sum) }
     {
-        let digits = sum.to_string(self.alloc)?;
-        self.text.push_str(digits.as_str())
+        let mut digits = Buffer::new();
+        self.text.push_str(digits.format(sum))
     }
 
-    /// The text that was written. Takes no memory.
-    pub fn into_text(self) -> Text
-        ensures { result ≡ self }
+    /// The text that was written.
+    pub fn into_text(self) -> Result<Text, AllocError>
+        ensures { IfOk result (λ text. text ≡ self) }
     {
         Text::from_string(self.text)
     }

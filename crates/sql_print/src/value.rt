@@ -16,7 +16,7 @@ pub fn push_value(buffer: &mut TextBuffer, value: &Value) -> Result<(), AllocErr
         Value::Null => buffer.push("NULL"),
         Value::Int(number) => buffer.push_signed(*number),
         Value::Text(text) => push_shown(buffer, text.as_str()),
-        Value::Sum(sum) => buffer.push_sum(*sum),
+        Value::Sum(sum) => buffer.push_sum(sum.get()),
     }
 }
 
@@ -48,5 +48,5 @@ pub fn print_value(alloc: Global, value: &Value) -> Result<Text, AllocError>
 {
     let mut buffer = TextBuffer::new(alloc);
     push_value(&mut buffer, value)?;
-    Ok(buffer.into_text())
+    Ok(buffer.into_text()?)
 }

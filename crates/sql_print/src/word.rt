@@ -37,7 +37,7 @@ fn push_literal(buffer: &mut TextBuffer, value: &Value) -> Result<(), AllocError
         Value::Null => buffer.push("NULL"),
         Value::Int(number) => buffer.push_signed(*number),
         Value::Text(text) => push_quoted(buffer, text.as_str()),
-        Value::Sum(sum) => buffer.push_sum(*sum),
+        Value::Sum(sum) => buffer.push_sum(sum.get()),
     }
 }
 

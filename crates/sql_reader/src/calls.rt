@@ -9,7 +9,7 @@ ghost use Rattle.sql_reader.specs.scripts.Counts.{AreCounted, AddsText, asking};
 
 use crate::fault::ReadFault;
 use crate::read::read_statement;
-use own_base::{List, SessionNo};
+use own_base::{Boxed, List, SessionNo};
 use own_model::{LimitName, Request, STATEMENT_BYTES, ScriptCall};
 use std::alloc::{AllocError, Global};
 
@@ -33,7 +33,7 @@ fn request_of(alloc: Global, text: &str, closed: bool) -> Result<Request, AllocE
         return Ok(Request::Limit(LimitName::Statement));
     }
     match read_statement(alloc, text) {
-        Ok(statement) => Ok(Request::Run(statement)),
+        Ok(statement) => Ok(Request::Run(Boxed::new(alloc, statement)?)),
         Err(ReadFault::Syntax(at)) => Ok(Request::Syntax(at)),
         Err(ReadFault::Limit(limit)) => Ok(Request::Limit(limit)),
         Err(ReadFault::Memory) => Err(AllocError),

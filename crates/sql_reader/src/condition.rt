@@ -194,12 +194,13 @@ fn neg(cursor: &mut Cursor, alloc: Global, levels: u32) -> Result<Cond, RuleFaul
 
 /// The condition of a WHERE, if one stands there.
 #[tactic(auto, unfolding(crate::specs::reading::Condition::condition, crate::specs::reading::Condition::cond_rule))]
-pub fn condition(cursor: &mut Cursor, alloc: Global) -> Result<Option<Cond>, RuleFault>
+pub fn condition(cursor: &mut Cursor, alloc: Global) -> Result<Option<Boxed<Cond>>, RuleFault>
     ensures { Does (rules.condition store_limits NESTING_LEVELS) cursor.old result cursor.new }
 {
     if cursor.next_is_word(b"WHERE") {
         cursor.word(b"WHERE")?;
         let found = cond(cursor, alloc, NESTING_LEVELS as u32)?;
+        let found = Boxed::new(alloc, found)?;
         return Ok(Some(found));
     }
     Ok(None)

@@ -10,7 +10,7 @@ use crate::fault::RuleFault;
 use crate::list::list_of_one;
 use crate::rule::{bracketed_names, one_name};
 use crate::select::query;
-use own_base::{List, Name};
+use own_base::{Boxed, List, Name};
 use own_model::{Attr, ColumnDef, CreateTable, CreateView, Kind, Part, RefDef, RefKind, Statement};
 use std::alloc::Global;
 
@@ -278,6 +278,7 @@ pub fn create(cursor: &mut Cursor, alloc: Global) -> Result<Statement, RuleFault
     cursor.word(b"CREATE")?;
     if cursor.next_is_word(b"VIEW") {
         let found = view(cursor, alloc)?;
+        let found = Boxed::new(alloc, found)?;
         return Ok(Statement::CreateView(found));
     }
     let found = table(cursor, alloc)?;

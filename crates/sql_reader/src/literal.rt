@@ -209,7 +209,7 @@ fn short_text(value: String) -> Result<Text, RuleFault>
     if value.len() > TEXT_BYTES {
         return Err(RuleFault::Limit(LimitName::Text));
     }
-    Ok(Text::from_string(value))
+    Ok(Text::from_string(value)?)
 }
 
 /// The value of a text in quotes.

@@ -126,6 +126,7 @@ pub fn values(cursor: &mut Cursor, alloc: Global) -> Result<List<Value>, RuleFau
         let value = literal(cursor, alloc)?;
         values.add(value)?;
     }
+    values.shrink_to_fit();
     Ok(values)
 }
 

@@ -11,7 +11,7 @@ use crate::fault::RuleFault;
 use crate::list::list_of_one;
 use crate::rule::{bracketed_names, expr, int, tuple};
 use crate::select::select;
-use own_base::{Key, List, Name, Value};
+use own_base::{Boxed, Key, List, Name, Value};
 use own_model::{Expr, Statement};
 use std::alloc::Global;
 
@@ -27,6 +27,7 @@ fn tuples(cursor: &mut Cursor, alloc: Global) -> Result<List<List<Value>>, RuleF
         let row = tuple(cursor, alloc)?;
         rows.add(row)?;
     }
+    rows.shrink_to_fit();
     Ok(rows)
 }
 
@@ -210,6 +211,7 @@ pub fn statement(cursor: &mut Cursor, alloc: Global) -> Result<Statement, RuleFa
     }
     if cursor.next_is_word(b"SELECT") {
         let found = select(cursor, alloc)?;
+        let found = Boxed::new(alloc, found)?;
         return Ok(Statement::Select(found));
     }
     if cursor.next_is_word(b"INSERT") {

@@ -5,7 +5,7 @@ ghost use Rattle.history_model.specs.Built.{built, is_built};
 
 use crate::texts::read;
 use engine_core::{Closed, Engine, NoLook, Step};
-use own_base::{SessionNo, Text};
+use own_base::{Boxed, SessionNo, Text};
 use own_model::{Entry, Request, SESSIONS, Statement};
 use sql_print::{print_reply, print_statement};
 use std::mem::drop;
@@ -71,14 +71,19 @@ fn request_of(rt: &(impl Abort + AllocGlobal), text: &str) -> Request
     }
     let statement = read(rt, text);
     assert!(rt; is_built(&statement));
-    Request::Run(statement)
+    Request::Run(Boxed::new(rt.alloc(), statement).expect(rt, "memory"))
 }
 
 /// The text of what was asked for.
 fn text_of(rt: &(impl Abort + AllocGlobal), request: &Request) -> Text {
     match request {
-        Request::Run(statement) => print_statement(rt.alloc(), statement).expect(rt, "memory"),
-        _ => Text::from_string(format!(in rt.alloc(); "{request:?}").expect(rt, "memory")),
+        Request::Run(statement) => print_statement(rt.alloc(), statement.get()).expect(
+            rt, "memory",
+        ),
+        _ => {
+            let told = format!(in rt.alloc(); "{request:?}").expect(rt, "memory");
+            Text::from_string(told).expect(rt, "memory")
+        }
     }
 }
 

@@ -171,7 +171,7 @@ pub fn next_of(rt: &(impl Abort + AllocGlobal), version: &Version, statement: &S
 {
     match statement {
         Statement::CreateTable(create) => with_table(rt, version, create, statement),
-        Statement::CreateView(create) => with_view(rt, version, create, statement),
+        Statement::CreateView(create) => with_view(rt, version, create.get(), statement),
         _ => {
             let bound = bound(rt, version, statement);
             let next = with_bound(rt, version, &bound);

@@ -9,7 +9,10 @@ pub(crate) fn built(request: Request) -> Request
     ensures { result ≡ spec.built request }
 {
     match request {
-        Request::Run(Statement::Checkpoint) => Request::Syntax(0),
+        Request::Run(statement) => match statement.get() {
+            Statement::Checkpoint => Request::Syntax(0),
+            _ => Request::Run(statement),
+        },
         request => request,
     }
 }

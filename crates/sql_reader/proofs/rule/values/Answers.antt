@@ -1,4 +1,4 @@
-use Rattle.std.proofs.Common.{codes, arith, sym, ap, ◌∙◌, subst}
+use Rattle.std.proofs.Common.{codes, arith, sym, ap, ◌∙◌, ◌≡◌, Ok, subst}
 use Rattle.grammar_model.specs.Limits.{store_limits}
 use Rattle.sql_reader.specs.reading.Reader.{◌>>◌}
 use Rattle.sql_reader.specs.reading.Rules as rules
@@ -17,5 +17,8 @@ loop-alloc-preserved c =
     }
 
 pub returns : goal.returns
-returns c =
-    (Listing-end _ _ _ c.loop-alloc.values c.loop-alloc.cursor c.loop-alloc.invariant.listing (sym c.next_is_mark.ensures ∙ c.loop-alloc-test.false), c.loop-alloc.invariant.shorter)
+returns c = (
+  subst (λ values. rules.values store_limits c.args.cursor.now ≡ Ok (values, c.loop-alloc.cursor)) (sym c.shrink_to_fit.ensures)
+      (Listing-end _ _ _ c.loop-alloc.values c.loop-alloc.cursor c.loop-alloc.invariant.listing (sym c.next_is_mark.ensures ∙ c.loop-alloc-test.false)),
+  c.loop-alloc.invariant.shorter,
+)

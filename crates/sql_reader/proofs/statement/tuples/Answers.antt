@@ -1,4 +1,4 @@
-use Rattle.std.proofs.Common.{codes, arith, sym, ap, ◌∙◌, subst}
+use Rattle.std.proofs.Common.{codes, arith, sym, ap, ◌∙◌, ◌≡◌, Ok, subst}
 use Rattle.grammar_model.specs.Limits.{store_limits}
 use Rattle.sql_reader.specs.reading.Reader.{◌>>◌}
 use Rattle.sql_reader.specs.reading.Statements as rules
@@ -18,5 +18,8 @@ loop-alloc-preserved c =
     }
 
 pub returns : goal.returns
-returns c =
-    (Listing-end _ _ _ c.loop-alloc.rows c.loop-alloc.cursor c.loop-alloc.invariant.listing (sym c.next_is_mark.ensures ∙ c.loop-alloc-test.false), c.loop-alloc.invariant.shorter)
+returns c = (
+  subst (λ tuples. rules.tuples store_limits c.args.cursor.now ≡ Ok (tuples, c.loop-alloc.cursor)) (sym c.shrink_to_fit.ensures)
+      (Listing-end _ _ _ c.loop-alloc.rows c.loop-alloc.cursor c.loop-alloc.invariant.listing (sym c.next_is_mark.ensures ∙ c.loop-alloc-test.false)),
+  c.loop-alloc.invariant.shorter,
+)
