@@ -100,7 +100,7 @@ fn copied_at(alloc: Global, tuple: &[Value], place: Option<usize>) -> Result<Val
     }
 }
 
-/// The row that a tuple puts.
+/// The row that a tuple puts, which its copies share.
 fn put_row(alloc: Global, targets: &Targets<'_>, tuple: &[Value]) -> Result<Row, AllocError>
     ensures { IfOk result (λ row. row ≡ put_row targets.now.table targets.now.names tuple.now) }
 {
@@ -109,7 +109,7 @@ fn put_row(alloc: Global, targets: &Targets<'_>, tuple: &[Value]) -> Result<Row,
     for place in places {
         values.push(copied_at(alloc, tuple, *place)?)?;
     }
-    Ok(Row::from_values(List::from_vec(values)))
+    Row::from_values(List::from_vec(values)).into_shared(alloc)
 }
 
 /// The row that a tuple puts. What is wrong with the tuple is noted.

@@ -1,6 +1,6 @@
 -- What a statement in a transaction comes to.
-use Rattle.std.proofs.Common.{◌≡◌, ◌∙◌, ◌<◌, ◌==◌, ℕ, List, [], ◌∷◌, Bool, true, false, Option, None, Some, ap, arith, filter, inl, inr, length, refl, subst, sym}
-use Rattle.std.specs.Prelude.{◌^◌, ◌⊎◌, find, is_some, slice_get}
+use Rattle.std.proofs.Common.{◌≡◌, ◌∙◌, ◌==◌, ℕ, List, [], ◌∷◌, Bool, true, false, Option, None, Some, ap, arith, filter, inl, inr, refl, subst, sym}
+use Rattle.std.specs.Prelude.{◌⊎◌, find, is_some}
 use Rattle.std.specs.List.{AllByRecursion as Each, list_any}
 use Rattle.std.specs.Option.{option_map_or}
 use Rattle.std.proofs.lemmas.Bool.{and_from}
@@ -15,14 +15,12 @@ use Rattle.own_model.specs.declared.refusal.Refusal.{Refusal}
 use Rattle.own_model.specs.declared.reply.Reply.{Reply}
 use Rattle.own_model.specs.declared.reply.Reply.TheVariants.{Refused}
 use Rattle.own_model.specs.declared.schema.Schema.{Schema}
-use Rattle.own_model.specs.declared.schema.TableDef.{TableDef}
-use Rattle.own_model.specs.Db.{AreRising, Db, IsOrdered, Row, key_of}
-use Rattle.own_model.specs.Stored.{is_equal, rows_at}
+use Rattle.own_model.specs.Db.{AreRising, Db, IsOrdered, Row}
+use Rattle.own_model.specs.Stored.{is_equal}
 use Rattle.own_model.proofs.KeyOrder.{key_order}
 use Rattle.owner_model.specs.Joins.{row_of}
 use Rattle.page_model.specs.Changed.{AreKeyed}
 use Rattle.page_model.specs.Found.{found}
-use Rattle.page_model.proofs.ChangedLemmas.{length_with_changes}
 use Rattle.page_model.proofs.FoundChanged.{found_with_changes}
 use Rattle.page_model.proofs.InOrder.{is_of}
 use Rattle.query_model.specs.Footprints.{footprint_of, item}
@@ -41,14 +39,14 @@ use Rattle.run_model.specs.Run.{run_bound}
 use Rattle.run_model.proofs.BoundFootprints.{IsFootprinted, still-run_bound}
 use Rattle.run_model.proofs.FoundRows.{found_has}
 use Rattle.run_model.proofs.Refusals.{refused-bound}
-use Rattle.run_model.proofs.TableRows.{AreInPlace, no_rows}
+use Rattle.run_model.proofs.TableRows.{AreInPlace}
 use Rattle.subject_model.proofs.NamedLemmas.{one_name}
 use Rattle.txn_space.specs.declared.entry.Entry.{Entry}
-use Rattle.txn_space.specs.Changed.{changed_db, changed_rows, rows_with}
-use Rattle.txn_space.specs.Entries.{entries_at, entry_key, entry_of, entry_row}
+use Rattle.txn_space.specs.Changed.{changed_db, changed_rows}
+use Rattle.txn_space.specs.Entries.{entries_at, entry_key, entry_of}
 use Rattle.txn_space.specs.HasPut.{entries_put}
 use Rattle.txn_space.specs.Sound.{IsBase, IsSpaceOf}
-use Rattle.txn_space.proofs.OverLemmas.{changed_rise, rows_of_table}
+use Rattle.txn_space.proofs.OverLemmas.{changed_rise}
 use Rattle.write_eval.specs.Write.{IsWrite}
 use Rattle.write_eval.proofs.Kept.{each_passing}
 use Rattle.write_eval.proofs.Replacements.{keyless_sets}
@@ -65,24 +63,7 @@ module _ (db : Db) (space : List (List Entry)) (store : IsStore db) (sound : IsS
   pub changed_rising : AreRising db.schema.tables (changed_rows db.schema.tables db.rows space)
   changed_rising = changed_rise db.schema.tables db.rows space small sound
 
-  few_in : (number : ℕ) (table : Option TableDef) → slice_get db.schema.tables number ≡ table → length (rows_at (changed_rows db.schema.tables db.rows space) number) < 2 ^ 63
-  few_in number None is =
-      let none : rows_at (changed_rows db.schema.tables db.rows space) number ≡ [] = no_rows db.schema.tables (changed_rows db.schema.tables db.rows space) number changed_rising is in
-      let long : length (rows_at (changed_rows db.schema.tables db.rows space) number) ≡ 0 = ap length none in
-      omega arith
-  few_in number (Some table) is =
-      let all = rows_of_table db.schema.tables db.rows space number table store.rising is in
-      let long : length (rows_at (changed_rows db.schema.tables db.rows space) number) ≡ length (rows_with table (entries_at space number) (rows_at db.rows number)) = ap length all in
-      let most = length_with_changes (key_of table) key_order entry_key entry_row (entries_at space number) (rows_at db.rows number) in
-      let few = store.few number in
-      let entries = sound.few number in
-      omega arith
-
-  -- may be one for a transaction in its turn
-  pub changed_base : IsBase db.schema.tables (changed_rows db.schema.tables db.rows space)
-  changed_base = record { rising = changed_rising; few = λ number. few_in number (slice_get db.schema.tables number) refl }
-
-  -- and a select may read them
+  -- a select may read them
   pub changed_tables : AreRowsOf db.schema.tables (changed_rows db.schema.tables db.rows space) → AreTables db.schema (changed_rows db.schema.tables db.rows space)
   changed_tables are = record { rising = changed_rising; stored = all_stored db.schema.tables (changed_rows db.schema.tables db.rows space) are }
 

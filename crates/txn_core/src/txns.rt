@@ -195,7 +195,6 @@ impl Txns {
     ) -> Result<(Reply, List<Change>), Refusal>
         requires write { IsWrite (V.db version.now).schema bound.now }
         requires tables { AreTables (V.db version.now).schema (V.db version.now).rows }
-        requires base { IsBase (V.db version.now).schema.tables (V.db version.now).rows }
         ensures ok { IfOk result (λ written. (holder_among (held_by self.now.held) session.0 (footprint_of (V.db version.now).schema bound.now) ≡ None)
             × (NetTo (V.db version.now) (run_bound (V.db version.now) bound.now) written.0 written.1)) }
         ensures accepted { IfOk result (λ written. is_refusal written.0 ≡ false) }

@@ -13,3 +13,4 @@ mod SameLemmas
 pub mod SoundLemmas
 mod SpotLemmas
 mod WalkLemmas
+pub mod WriteNet

@@ -1,5 +1,6 @@
 pub mod Changed
 pub mod ChangedRise
+pub mod Differs
 pub mod Entries
 pub mod EntryNet
 pub mod HasPut

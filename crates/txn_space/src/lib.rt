@@ -15,5 +15,6 @@ mod walk;
 
 pub use entry::Entry;
 pub use merged::Merged;
+pub use net::net_of_write;
 pub use over::Over;
 pub use space::Space;

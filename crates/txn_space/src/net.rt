@@ -1,7 +1,8 @@
-ghost use Rattle.std.specs.Prelude.{◌≡◌, ◌<◌, ◌++◌, filter_map, length, IfOk, OnOk};
+ghost use Rattle.std.specs.Prelude.{◌≡◌, ◌<◌, ◌++◌, filter, filter_map, length, IfOk, OnOk};
 ghost use Rattle.std.specs.Option.{option_copied, option_to_list};
 ghost use Rattle.page_model.specs.Paged.{items};
 ghost use Rattle.state_model.specs.Same.{is_same_row as is_one_row, is_same_state as is_one_state, is_same_value as is_one_value};
+ghost use Rattle.txn_space.specs.Differs.{differs};
 ghost use Rattle.txn_space.specs.EntryNet.{entry_change};
 
 use crate::entry::{Entries, Entry};
@@ -19,7 +20,7 @@ fn is_same_value(left: &Value, right: &Value) -> bool
         (Value::Null, Value::Null) => true,
         (Value::Int(left), Value::Int(right)) => left.cmp(right).is_eq(),
         (Value::Text(left), Value::Text(right)) => left.bytes() == right.bytes(),
-        (Value::Sum(left), Value::Sum(right)) => left.cmp(right).is_eq(),
+        (Value::Sum(left), Value::Sum(right)) => left.get().cmp(&right.get()).is_eq(),
         _ => false,
     }
 }
@@ -48,6 +49,23 @@ fn is_same_state(before: Option<&Row>, after: Option<&Row>) -> bool
         (Some(before), Some(after)) => is_same_row(before.values(), after.values()),
         _ => false,
     }
+}
+
+/// Whether a change leaves another row than it met, or takes one away. Takes no memory.
+fn is_of_net(change: &Change) -> bool
+    ensures { result ≡ differs change.now }
+{
+    !is_same_state(change.before.as_ref(), change.after.as_ref())
+}
+
+/// Changes without those after which a row is as it was: where they are what a write makes, by rising key, its net. Takes
+/// no memory.
+pub fn net_of_write(changes: List<Change>) -> List<Change>
+    ensures { result ≡ filter differs changes }
+{
+    let mut changes = changes.into_vec();
+    changes.retain(|change| is_of_net(change));
+    List::from_vec(changes)
 }
 
 /// A copy of a row, where it is there.

@@ -5,18 +5,18 @@ use Rattle.std.specs.List.{AllByRecursion as Each, find, list_any}
 use Rattle.std.specs.Map.{keys_of}
 use Rattle.std.proofs.lemmas.List.{length-map}
 use Rattle.own_base.specs.Key.{key_cmp}
+use Rattle.own_base.specs.declared.change.Change.{Change}
 use Rattle.own_base.specs.declared.number.TableNo.{TableNo}
 use Rattle.own_base.specs.declared.value.Key.{Key}
 use Rattle.own_model.specs.declared.refusal.Refusal.TheVariants.{Duplicate}
 use Rattle.own_model.specs.declared.reply.Reply.TheVariants.{Counted, Refused}
-use Rattle.own_model.specs.declared.schema.Schema.{Schema}
 use Rattle.own_model.specs.declared.schema.TableDef.{TableDef}
 use Rattle.own_model.specs.Db.{AreRising, Db, Row}
 use Rattle.own_model.specs.Stored.{has_key, is_equal, rows_at}
 use Rattle.state_model.specs.Put.{changed_key}
 use Rattle.run_model.specs.Insert.{with_tuples}
 use Rattle.run_model.specs.Run.{insert, put}
-use Rattle.write_eval.specs.Insertions.{Given, given_tuples, insertion}
+use Rattle.write_eval.specs.Insertions.{Given, come_unless, given_tuples, insertion}
 use Rattle.write_eval.specs.Writes.{Writes}
 use Rattle.write_eval.specs.declared.written.Written.{Written}
 use Rattle.write_eval.proofs.GivenEntries.{IsFound, found_given, lookup-none}
@@ -82,3 +82,13 @@ module _ (db : Db) (number : TableNo) (table : TableDef) (tuples : List Row)
   -- one of whose keys is taken is refused
   pub is_duplicate : (key : Key) → given_tuples db.schema db.rows number table tuples ≡ Err key → (insert db number.0 tuples).reply ≡ Refused (Duplicate table.name key)
   is_duplicate key is_given = rw puts (refuse key _ (alike (Err key) is_given))
+
+-- the tuples of which changes say that they come
+pub given_come : (number : TableNo) (answer : Result Given Key) (changes : List Change) → Ok changes ≡ come_unless number answer → (given : Given) × (answer ≡ Ok given) × (changes ≡ map (insertion number) given)
+given_come number (Ok given) changes is = (given, refl, cc)
+given_come number (Err key) changes is = let never : ◌≡◌ {A = Result (List Change) Key} (Ok changes) (Err key) = is in cc
+
+-- and the key that is taken
+pub given_taken : (number : TableNo) (answer : Result Given Key) (key : Key) → Err key ≡ come_unless number answer → answer ≡ Err key
+given_taken number (Err other) key is = cc
+given_taken number (Ok given) key is = let never : ◌≡◌ {A = Result (List Change) Key} (Err key) (Ok (map (insertion number) given)) = is in cc

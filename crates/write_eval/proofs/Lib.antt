@@ -7,5 +7,6 @@ pub mod GivenTuples
 pub mod Insertions
 pub mod Kept
 pub mod OneTable
+pub mod OneTuple
 pub mod Replacements
 pub mod StoredTables

@@ -1,5 +1,5 @@
 -- What an INSERT changes.
-use Rattle.std.specs.Prelude.{List, [], Bool, ◌||◌, Option, None, Some, Result, Ok, Err, fold, is_some, if◌then◌else◌}
+use Rattle.std.specs.Prelude.{List, [], Bool, ◌||◌, Option, None, Some, Result, Ok, Err, fold, is_some, map, if◌then◌else◌}
 use Rattle.std.specs.BTreeMap.{BTreeMap, insert_entry, is_at}
 use Rattle.std.specs.Map.{lookup}
 use Rattle.own_base.specs.Key.{key_cmp}
@@ -47,3 +47,8 @@ entries_unless (Err key) = Err key
 -- that a row comes
 abbrev pub insertion : TableNo → Key × Row → Change
 insertion number entry = record { name = record { table = number; key = entry.0 }; before = None; after = Some entry.1 }
+
+-- the same, where they are changes: that rows come, or the key that was taken
+abbrev pub come_unless : TableNo → Result Given Key → Result (List Change) Key
+come_unless number (Ok given) = Ok (map (insertion number) given)
+come_unless number (Err key) = Err key

@@ -1,4 +1,5 @@
-ghost use Rattle.std.specs.Prelude.{◌≡◌, ◌<◌, length, map, IfOk};
+ghost use Rattle.std.specs.Prelude.{◌≡◌, ◌<◌, [], ◌∷◌, is_some, length, map, IfOk};
+ghost use Rattle.own_model.specs.Stored.{row_named};
 ghost use Rattle.query_eval.specs.Tables.{AreTables};
 ghost use Rattle.run_model.specs.Run as outcome;
 ghost use Rattle.write_eval.specs.Insertions as spec;
@@ -12,12 +13,20 @@ use std::alloc::{AllocError, Global};
 use std::collections::BTreeMap;
 use std::mem::drop;
 
+/// Whether a row has this name. Takes no memory.
+fn is_there<V: StoreView>(view: &V, name: &RowName) -> bool
+    requires { name.now.table.0 < length (V.db view.now).schema.tables }
+    ensures { result ≡ is_some (row_named (V.db view.now).schema (V.db view.now).rows name.now) }
+{
+    view.row(name).is_some()
+}
+
 /// Whether a key is that of a row that is there, or of a tuple given before. Takes no memory.
 fn is_taken<V: StoreView>(view: &V, name: &RowName, given: &BTreeMap<Key, Row>) -> bool
     requires { name.now.table.0 < length (V.db view.now).schema.tables }
     ensures { result ≡ spec.is_taken (V.db view.now).schema (V.db view.now).rows given.now.entries name.now }
 {
-    view.row(name).is_some() || given.contains_key(&name.key)
+    is_there(view, name) || given.contains_key(&name.key)
 }
 
 /// Puts a tuple among those given before it, or answers its key where that is taken.
@@ -83,6 +92,52 @@ fn insertions(
     Ok(changes)
 }
 
+/// That the one tuple of an INSERT comes, or its key where a row has it.
+fn insertion<V: StoreView>(
+    alloc: Global,
+    view: &V,
+    number: TableNo,
+    table: &TableDef,
+    tuple: &Row,
+) -> Result<Result<List<Change>, Key>, AllocError>
+    requires { number.0 < length (V.db view.now).schema.tables }
+    ensures { IfOk result (λ answer. answer ≡ spec.come_unless number (spec.given_tuples (V.db view.now).schema (V.db view.now).rows number table.now (tuple.now ∷ []))) }
+{
+    let key = key_of(alloc, table, tuple)?;
+    let name = RowName { table: number, key };
+    if is_there(view, &name) {
+        return Ok(Err(name.key));
+    }
+    let row = tuple.copy(alloc)?.into_shared(alloc)?;
+    let mut changes = List::new(alloc);
+    changes.add(Change {
+        name,
+        before: None,
+        after: Some(row),
+    })?;
+    Ok(Ok(changes))
+}
+
+/// That tuples come, by rising key, or the first key that is taken. One alone is put among no others.
+fn insertions_unless<V: StoreView>(
+    alloc: Global,
+    view: &V,
+    number: TableNo,
+    table: &TableDef,
+    tuples: &[Row],
+) -> Result<Result<List<Change>, Key>, AllocError>
+    requires { number.0 < length (V.db view.now).schema.tables }
+    ensures { IfOk result (λ answer. answer ≡ spec.come_unless number (spec.given_tuples (V.db view.now).schema (V.db view.now).rows number table.now tuples.now)) }
+{
+    if let [tuple] = tuples {
+        return insertion(alloc, view, number, table, tuple);
+    }
+    match give_each(alloc, view, number, table, tuples)? {
+        Ok(given) => Ok(Ok(insertions(alloc, number, given)?)),
+        Err(key) => Ok(Err(key)),
+    }
+}
+
 /// What an INSERT changes: its tuples come. Where the key of one is that of a row, or of a tuple before it, the INSERT is
 /// refused, and the first such key is reported.
 pub(crate) fn insert<V: StoreView>(
@@ -96,14 +151,11 @@ pub(crate) fn insert<V: StoreView>(
     ensures { IfOk result (λ answer. Answers (V.db view.now) (outcome.insert (V.db view.now) number.0 tuples.now) number answer) }
 {
     let table = definition_of(view, number);
-    match give_each(alloc, view, number, table, tuples)? {
-        Ok(given) => {
-            let changes = insertions(alloc, number, given)?;
-            Ok(Ok(Written {
-                count: tuples.len() as u64,
-                changes,
-            }))
-        }
+    match insertions_unless(alloc, view, number, table, tuples)? {
+        Ok(changes) => Ok(Ok(Written {
+            count: tuples.len() as u64,
+            changes,
+        })),
         Err(key) => {
             let table = table.name.copy(alloc)?;
             Ok(Err(Refusal::Duplicate { table, key }))

@@ -2,15 +2,11 @@ use Rattle.std.proofs.lemmas.Result.{IfErr-weaker, IfOk-weaker}
 use Rattle.own_model.specs.Db.{empty}
 use Rattle.history_model.specs.History.{world}
 use Rattle.write_eval.proofs.StoredTables.{stored_tables}
-use Rattle.txn_core.proofs.SoundBases.{base-sound}
 use Rattle.engine_core.proofs.Writes.{free-kept, left-changed, net-changed, refused-kept}
 use Rattle.engine_core.proofs.writing.written.Goals as goal
 
 pub single-requires-clause-tables : goal.single-requires-clause-tables
 single-requires-clause-tables c = stored_tables c.args.asker.now.state.now.version c.requires.sound.well_formed
-
-pub single-requires-clause-base : goal.single-requires-clause-base
-single-requires-clause-base c = base-sound c.args.asker.now.state.now.version c.requires.sound
 
 pub returns-clause-free : goal.returns-clause-free
 returns-clause-free c =

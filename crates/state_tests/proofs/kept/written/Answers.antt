@@ -1,13 +1,9 @@
 use Rattle.write_eval.proofs.StoredTables.{stored_tables}
 use Rattle.engine_core.proofs.Writes.{left-changed, net-changed}
-use Rattle.txn_core.proofs.SoundBases.{base-sound}
 use Rattle.state_tests.proofs.kept.written.Goals as goal
 
 pub single-single-requires-clause-tables : goal.single-single-requires-clause-tables
 single-single-requires-clause-tables g c = stored_tables c.args.version.now c.requires.sound.well_formed
-
-pub single-single-requires-clause-base : goal.single-single-requires-clause-base
-single-single-requires-clause-base g c = base-sound c.args.version.now c.requires.sound
 
 pub returns-clause-net : goal.returns-clause-net
 returns-clause-net g c =

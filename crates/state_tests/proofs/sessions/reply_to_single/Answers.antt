@@ -1,9 +1,5 @@
 use Rattle.write_eval.proofs.StoredTables.{stored_tables}
-use Rattle.txn_core.proofs.SoundBases.{base-sound}
 use Rattle.state_tests.proofs.sessions.reply_to_single.Goals as goal
 
 pub single-requires-clause-tables : goal.single-requires-clause-tables
 single-requires-clause-tables g c = stored_tables c.args.version.now c.requires.sound.well_formed
-
-pub single-requires-clause-base : goal.single-requires-clause-base
-single-requires-clause-base g c = base-sound c.args.version.now c.requires.sound

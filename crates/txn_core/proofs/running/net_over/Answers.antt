@@ -5,10 +5,9 @@ use Rattle.own_model.specs.declared.reply.Reply.TheVariants.{Refused}
 use Rattle.own_model.specs.Db.{Db}
 use Rattle.query_eval.specs.Tables.{AreTables}
 use Rattle.run_model.specs.Run.{run_bound}
-use Rattle.txn_space.specs.Sound.{IsBase}
 use Rattle.write_eval.specs.Write.{IsWrite}
 use Rattle.txn_core.specs.Single.{NetTo}
-use Rattle.txn_core.proofs.Runs.{changed_base, changed_tables}
+use Rattle.txn_core.proofs.Runs.{changed_tables}
 use Rattle.txn_core.proofs.running.net_over.Goals as goal
 
 pub single-requires-clause-write : goal.single-requires-clause-write
@@ -18,11 +17,6 @@ pub single-requires-clause-tables : goal.single-requires-clause-tables
 single-requires-clause-tables g c =
     subst (λ (db : Db). AreTables db.schema db.rows) (sym c.in-Ok.ensures)
     (changed_tables (g.V.StoreView.db c.args.version.now) c.args.space.now c.requires.store c.requires.space c.requires.rows)
-
-pub single-requires-clause-base : goal.single-requires-clause-base
-single-requires-clause-base g c =
-    subst (λ (db : Db). IsBase db.schema.tables db.rows) (sym c.in-Ok.ensures)
-    (changed_base (g.V.StoreView.db c.args.version.now) c.args.space.now c.requires.store c.requires.space)
 
 pub returns-in-Ok-clause-ok : goal.returns-in-Ok-clause-ok
 returns-in-Ok-clause-ok g c =
