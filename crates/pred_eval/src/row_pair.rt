@@ -1,4 +1,4 @@
-ghost use Rattle.std.specs.Prelude.{◌≡◌, IfOk, unwrap_or};
+ghost use Rattle.std.specs.Prelude.{◌≡◌, IfOk, IfSome, unwrap_or};
 ghost use Rattle.std.specs.Option.{option_copied};
 ghost use Rattle.pred_eval.specs.RowPair.{whole_row};
 ghost use Rattle.query_model.specs.Order.{value_cmp};
@@ -35,6 +35,16 @@ impl<'a> RowPair<'a> {
         ensures { result ≡ whole_row left.now (option_copied right.entry) }
     {
         RowPair { left, right }
+    }
+
+    /// The row, where it is a table's and no join's. Takes no memory.
+    pub fn alone(&self) -> Option<&'a Row>
+        ensures { IfSome result (λ row. row.now ≡ self.now) }
+    {
+        match self.right {
+            Some(_) => None,
+            None => Some(self.left),
+        }
     }
 
     /// What stands in a column, counted over both rows; none is NULL. Takes no memory.

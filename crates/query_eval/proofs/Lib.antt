@@ -12,6 +12,7 @@ pub mod Replies
 pub mod RowGroups
 pub mod Runs
 pub mod RunsLeft
+pub mod ShowColumns
 pub mod ShownGroups
 pub mod SortedByColumn
 pub mod SpanRows

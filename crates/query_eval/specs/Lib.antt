@@ -6,6 +6,7 @@ pub mod KeyRange
 pub mod Meetings
 pub mod Numbers
 pub mod ShownEntry
+pub mod ShowColumns
 pub mod Sources
 pub mod TableRows
 pub mod Tables

@@ -7,6 +7,6 @@ pub loop-row-preserved : goal.loop-row-preserved
 loop-row-preserved c =
     let more = map_more (projected c.args.items.now) c.rows-row-items.result.now c.loop-row.row-index c.row-item.result c.loop-row-test.true in
     let this = c.row-item.is in
-    let shown = c.in_ok-shown_row.ensures in
+    let shown = c.in_ok-shown_of.ensures in
     let added = c.in_ok-add.ensures.added in
     cc
