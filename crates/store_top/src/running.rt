@@ -1,6 +1,8 @@
-ghost use Rattle.std.specs.Prelude.{◌≡◌, ◌≢◌, ◌+◌, ◌≤◌, [], map, Some, None, string_bytes, vec_len};
+ghost use Rattle.std.specs.Prelude.{◌≡◌, ◌≢◌, ◌+◌, ◌≤◌, [], map, IfErr, IfOk, Ok, Some, None, string_bytes, vec_len};
 ghost use Rattle.own_model.specs.Db.{empty};
 ghost use Rattle.script_model.specs.Numbered.{AreNumbered};
+ghost use Rattle.script_model.specs.Script.{IsScript};
+ghost use Rattle.sql_reader.specs.InputFaults.{IsFaultOf};
 ghost use Rattle.history_model.specs.Serial.{Serial};
 ghost use Rattle.store_top.specs.Status.{status_of, unopened};
 ghost use Rattle.store_words.specs.Words.{mode_of};
@@ -111,16 +113,27 @@ fn serve_engine<W: Sink, D>(
     }
 }
 
+/// The script of an input, which is given up once it is read: the calls hold what they need of it.
+fn script_of(alloc: Global, bytes: Vec<u8>) -> Result<Vec<ScriptCall>, InputFault>
+    ensures ok { IfOk result (λ calls. IsScript bytes.items (Ok calls.items)) }
+    ensures err { IfErr result (λ fault. IsFaultOf bytes.items fault) }
+{
+    let script = read_script(alloc, &bytes)?;
+    let mut calls = script.calls.into_vec();
+    calls.shrink_to_fit();
+    Ok(calls)
+}
+
 /// Serves the calls of an input.
-fn serve_bytes<W: Sink, D>(alloc: Global, bytes: &[u8], sink: &mut W, disk: D) -> Ended<D>
-    ensures served { ServesBytes bytes.now result.history (W.written sink.old) (W.written sink.new) (LastFault W.faults W.fails sink.old sink.new)
+fn serve_bytes<W: Sink, D>(alloc: Global, bytes: Vec<u8>, sink: &mut W, disk: D) -> Ended<D>
+    ensures served { ServesBytes bytes.items result.history (W.written sink.old) (W.written sink.new) (LastFault W.faults W.fails sink.old sink.new)
         ((sink.new ≡ sink.old) × (result.history ≡ [])) result.fault }
     ensures steady { result.fault ≢ Some TopFault.Write → W.faults sink.new ≡ W.faults sink.old }
     ensures disk { result.disk ≡ disk }
     ensures serial { Serial empty result.history }
 {
-    match read_script(alloc, bytes) {
-        Ok(script) => serve_script(alloc, script.calls.into_vec(), sink, disk),
+    match script_of(alloc, bytes) {
+        Ok(calls) => serve_script(alloc, calls, sink, disk),
         Err(InputFault::Memory) => without_calls(alloc, TopFault::Memory, disk),
         Err(fault) => without_calls(alloc, TopFault::Input(fault), disk),
     }
@@ -138,7 +151,7 @@ fn serve_source<R: Source, W: Sink, D>(
     ensures disk { result.disk ≡ disk }
 {
     match read_all(alloc, source, INPUT_BYTES + 1) {
-        Ok(bytes) => serve_bytes(alloc, &bytes, sink, disk),
+        Ok(bytes) => serve_bytes(alloc, bytes, sink, disk),
         Err(ReadAllFault::Failed) => without_calls(alloc, TopFault::Read, disk),
         Err(ReadAllFault::Memory) => without_calls(alloc, TopFault::Memory, disk),
     }

@@ -1,4 +1,5 @@
-use Rattle.std.proofs.Common.{arith, refl}
+use Rattle.std.proofs.Common.{◌∙◌, Err, ap, arith, refl, sym}
+use Rattle.store_top.proofs.ReadFaults.{memory_no_fault}
 use Rattle.store_top.proofs.RanLemmas.{ran-out_of_memory, ran-served, ran-unread, reads-fewer}
 use Rattle.store_top.proofs.running.serve_source.Goals as goal
 
@@ -7,10 +8,9 @@ pub returns-in-Ok-clause-ran : goal.returns-in-Ok-clause-ran
 returns-in-Ok-clause-ran g c =
     let source = g.R.Source in
     let sink = g.W.Sink in
-    let read = rw (← c.deref.ensures.value) at c.in-Ok.ensures.read in
     ran-served source.remaining source.faults source.fails sink.written sink.faults sink.fails c.args.source.now c.read_all.new.source c.args.sink.now c.serve_bytes.new.sink
-    c.serve_bytes.result.history c.deref.result.now c.serve_bytes.result.fault c.serve_bytes.ensures.served read
-    (λ short. c.in-Ok.ensures.end (omega (arith, c.deref.ensures.len))) (omega (arith, c.deref.ensures.len, c.in-Ok.ensures.within))
+    c.serve_bytes.result.history c.in-Ok.bytes.items c.serve_bytes.result.fault c.serve_bytes.ensures.served c.in-Ok.ensures.read
+    (λ short. c.in-Ok.ensures.end (omega (arith, short, c.in-Ok.bytes.ok))) (omega (arith, c.in-Ok.bytes.ok, c.in-Ok.ensures.within))
     (c.in-Ok.ensures.steady (λ failed. cc)) c.serve_bytes.ensures.steady c.serve_bytes.ensures.serial
 
 -- the source failed
@@ -28,5 +28,5 @@ returns-in-Err-Memory-clause-ran g c =
     let source = g.R.Source in
     let sink = g.W.Sink in
     rw c.without_calls-in-Err-Memory.ensures.fault (ran-out_of_memory source.remaining source.faults source.fails sink.written sink.faults sink.fails c.args.source.now c.read_all.new.source
-    c.args.sink.now c.args.sink.now c.without_calls-in-Err-Memory.result.history (c.in-Err-Memory.ensures.steady (λ failed. cc))
+    c.args.sink.now c.args.sink.now c.without_calls-in-Err-Memory.result.history (c.in-Err-Memory.ensures.steady (λ failed. memory_no_fault (ap Err (sym c.in-Err-Memory.field-0-is) ∙ failed)))
     refl c.without_calls-in-Err-Memory.ensures.history (reads-fewer c.in-Err-Memory.ensures.part))
