@@ -5,8 +5,8 @@ ghost use Rattle.state_model.specs.Weight.{row_count};
 use own_base::TableNo;
 use own_model::{LimitName, Refusal, STORE_ROWS, StoreView};
 
-/// How many rows all tables have together, and no more than 64 bits tell.
-fn row_count<V: StoreView>(view: &V) -> u64
+/// How many rows all tables have together, and no more than 64 bits tell. Takes no memory.
+pub fn row_count<V: StoreView>(view: &V) -> u64
     requires limits { IsWithinLimits (V.db view.now).schema }
     ensures { result ≡ min (row_count (V.db view.now)) (2 ^ 64 - 1) }
 {

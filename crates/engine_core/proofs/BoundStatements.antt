@@ -125,7 +125,7 @@ module _ (world : World) (session : ℕ) where
 
 -- which leaves the database
 pub tells-refused : (db behind : Db) (why : Refusal) (answer : Answer) → answer.reply ≡ Refused why → answer.next ≡ None → Tells db (Refused why) behind answer
-tells-refused db behind why answer told stays = record { told = told; leaves = rw stays refl }
+tells-refused db behind why answer told stays = record { told = told; leaves = rw stays refl; may = rw stays tt }
 
 -- What it erases is what its meaning does.
 erases-meant : (db : Db) (found : Statement) (reply : Reply) (items : List FootItem) → IsBound found

@@ -1,5 +1,5 @@
 -- What a CREATE that is admitted does to a database.
-use Rattle.std.proofs.Common.{◌≡◌, ℕ, ◌+◌, ◌<◌, List, [], ◌∷◌, ◌++◌, length, Bool, true, false, refl, subst, sym, ◌∙◌, arith}
+use Rattle.std.proofs.Common.{◌≡◌, ℕ, ◌+◌, ◌<◌, List, [], ◌∷◌, ◌++◌, length, Bool, true, false, refl, sym, ◌∙◌, arith}
 use Rattle.std.specs.Prelude.{Ok, Err, None, Some, Option, nat_lt, if◌then◌else◌}
 use Rattle.std.proofs.lemmas.Bool.{ltb-false}
 use Rattle.annot_schema.specs.declared.admitted.Admitted.{Admitted}
@@ -11,7 +11,6 @@ use Rattle.own_model.specs.declared.limit.TheConstants.{VIEWS}
 use Rattle.own_model.specs.declared.refusal.Refusal.{Refusal}
 use Rattle.own_model.specs.declared.reply.Reply.{Reply}
 use Rattle.own_model.specs.declared.reply.Reply.TheVariants.{Done, Refused}
-use Rattle.own_model.specs.declared.request.Request.TheVariants.{Run}
 use Rattle.own_model.specs.declared.schema.Schema.{Schema}
 use Rattle.own_model.specs.declared.schema.ViewDef.{ViewDef}
 use Rattle.own_model.specs.declared.statement.Statement.TheVariants.{CreateTable, CreateView}
@@ -24,12 +23,9 @@ use Rattle.schema_model.specs.Refusal.{refusal_of}
 use Rattle.schema_model.specs.WithTable.{with_table}
 use Rattle.store_version.specs.Added.{db_viewed, db_with}
 use Rattle.text_model.specs.Canonical.{canonical}
-use Rattle.grammar_model.specs.Readable.{IsReadable}
 use Rattle.state_model.specs.Create.{create, create_view, with_view}
 use Rattle.state_model.specs.Fault.{fault}
-use Rattle.state_model.specs.Sound.{IsWellFormed}
-use Rattle.run_model.specs.Run.{Outcome, add_view, answered, create_table, run}
-use Rattle.run_model.proofs.KeptRuns.{kept-run}
+use Rattle.run_model.specs.Run.{Outcome, add_view, answered, create_table}
 use Rattle.history_model.specs.Reply.{committing, create_reply}
 use Rattle.engine_core.specs.Answered.{Tells}
 use Rattle.engine_core.specs.declared.answer.Answer.{Answer}
@@ -69,7 +65,7 @@ view-refused db view why is = rw (told (lowest (view_faults db.schema view)) (ne
 -- a view that is refused is told why, and the database is left
 pub tells-unviewed : (db : Db) (view : ViewCreate) (why : Refusal) (answer : Answer) → bound_view db.schema view ≡ Err why → answer.reply ≡ Refused why → answer.next ≡ None
     → Tells db (create_reply Took (add_view db view)) (add_view db view).db answer
-tells-unviewed db view why answer is told stays = rw (view-refused db view why is) (record { told = told; leaves = rw stays refl })
+tells-unviewed db view why answer is told stays = rw (view-refused db view why is) (record { told = told; leaves = rw stays refl; may = rw stays tt })
 
 table-refused : (db : Db) (table : TableCreate) (why : Refusal) → refusal_of db.schema (holds_rows db.rows) table ≡ Some why → create_table db table ≡ answered db (Refused why)
 unfolding create_table
@@ -78,7 +74,7 @@ table-refused db table why is = rw is refl
 -- so is a table
 pub tells-uncreated : (db : Db) (table : TableCreate) (why : Refusal) (answer : Answer) → refusal_of db.schema (holds_rows db.rows) table ≡ Some why → answer.reply ≡ Refused why
     → answer.next ≡ None → Tells db (create_reply Took (create_table db table)) (create_table db table).db answer
-tells-uncreated db table why answer is told stays = rw (table-refused db table why is) (record { told = told; leaves = rw stays refl })
+tells-uncreated db table why answer is told stays = rw (table-refused db table why is) (record { told = told; leaves = rw stays refl; may = rw stays tt })
 
 -- there is room for a view that is bound
 many : (parts : List Refusal) (b : Bool) (fault : Refusal) → parts ++ (if b then fault ∷ [] else []) ≡ [] → b ≡ false

@@ -1,5 +1,5 @@
 -- The rows that a GDPR FORGET names as erased are those that it removes or changes.
-use Rattle.std.proofs.Common.{◌≡◌, ◌∙◌, ◌||◌, List, [], ◌∷◌, ◌++◌, Bool, true, false, not, ap, filter, map, refl, sym}
+use Rattle.std.proofs.Common.{◌≡◌, ◌∙◌, ◌||◌, List, [], ◌∷◌, ◌++◌, Bool, true, false, not, ap, filter, map, refl, subst, sym}
 use Rattle.std.specs.Prelude.{◌&&◌, cond}
 use Rattle.std.specs.List.{list_any}
 use Rattle.std.proofs.lemmas.List.Folds.{list_any-append}
@@ -22,7 +22,7 @@ use Rattle.subject_erase.specs.Plan.{IsPlan, leaves_row, plan_of}
 use Rattle.history_model.specs.History.{lie_on}
 use Rattle.history_model.specs.Reply.{forget_reply, is_refusal}
 use Rattle.engine_core.specs.declared.answer.Answer.{Answer}
-use Rattle.engine_core.specs.Answered.{ErasesBound, Tells, left}
+use Rattle.engine_core.specs.Answered.{ErasesBound, MayBeLeft, Tells, left}
 
 -- one of some is among those of one kind or those of the other
 abbrev names : List Change → List RowName
@@ -75,7 +75,7 @@ erases-absent db subject why answer told none = λ items.
 
 -- an answer that names more rows as erased tells the same
 pub tells-erasing : (db : Db) (given : Reply) (behind : Db) (answer other : Answer) → other.reply ≡ answer.reply → other.next ≡ answer.next → Tells db given behind answer → Tells db given behind other
-tells-erasing db given behind answer other reply next tells = record { told = reply ∙ tells.told; leaves = ap (left db) next ∙ tells.leaves }
+tells-erasing db given behind answer other reply next tells = record { told = reply ∙ tells.told; leaves = ap (left db) next ∙ tells.leaves; may = subst (MayBeLeft db) (sym next) tells.may }
 
 -- a FORGET of a subject who is there is accepted
 forgot_step : (db : Db) (subject : RowName) → is_there db subject ≡ true → is_refusal (forget_reply Took (forget_subject db subject)) ≡ false

@@ -116,7 +116,7 @@ pub tells-shown : (world : World) (db : Db) (session : ℕ) (subject : Subject) 
     → Tells db (bound_reply world db session (Get subject)) (run_bound db (Get subject)).db answer
 unfolding run_bound
 tells-shown world db session subject answer told stays =
-    record { told = told; leaves = rw stays (either (is_refusal (show_subject db subject.0).reply) db (show_subject db subject.0).db (shown-left db subject.0)) }
+    record { told = told; leaves = rw stays (either (is_refusal (show_subject db subject.0).reply) db (show_subject db subject.0).db (shown-left db subject.0)); may = rw stays tt }
 
 -- with what an erasure leaves nothing is wrong
 pub erased-sound : (db next : Db) (subject : RowName) → IsTrue (is_subject db.schema subject.table.0) → Sound db → next ≡ forget db subject → Sound next

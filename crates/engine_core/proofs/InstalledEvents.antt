@@ -1,6 +1,6 @@
 -- A statement outside a transaction, which may commit and erase.
 use Rattle.std.proofs.Common.{◌≡◌, ◌∙◌, ◌<◌, ◌≤◌, ℕ, zero, suc, List, [], length, Bool, true, false, ap, arith, inl, inr, not, refl, subst, sym}
-use Rattle.std.specs.Prelude.{◌⊎◌, ◌&&◌, Ok, nat_lt, if◌then◌else◌}
+use Rattle.std.specs.Prelude.{◌⊎◌, ◌&&◌, Err, IfOk, Ok, OnErr, OnOk, Result, nat_lt, if◌then◌else◌}
 use Rattle.std.specs.Option.{option_map_or}
 use Rattle.std.proofs.lemmas.Bool.{ltb-false, ltb-true}
 use Rattle.own_base.specs.declared.number.Place.{Place}
@@ -32,11 +32,12 @@ use Rattle.txn_core.specs.Transactions.{AreSame, Transactions}
 use Rattle.engine_core.specs.Answered.{Erases, Tells, left}
 use Rattle.engine_core.specs.Asked.{RunsByItself}
 use Rattle.engine_core.specs.HasDoomed.{HasDoomed}
-use Rattle.engine_core.specs.RepresentsWorld.{IsEvent, Serves}
+use Rattle.engine_core.specs.RepresentsWorld.{IsEvent, RepresentsWorld, Serves}
 use Rattle.engine_core.specs.declared.answer.Answer.{Answer}
 use Rattle.engine_core.specs.declared.state.State.{State}
 use Rattle.engine_core.proofs.NextWorlds.{IsLeft, answer-in, own-in, stands-next}
 use Rattle.engine_core.proofs.Stood.{stood-outside}
+use Rattle.engine_core.proofs.UnmadeEvents.{unmade-outside}
 
 -- a number is one of a session, or none
 in_range : (number : ℕ) → ((number ≡ 0) ⊎ (SESSIONS < number)) ⊎ ((1 ≤ number) × (number ≤ SESSIONS))
@@ -202,3 +203,17 @@ module _ (history : History) (entry : Entry) (before after : State) (event : IsE
           (subst (λ stood. RepresentsItems (held_by after.txns.held session) (items_held (flat_after now entry told).schema stood)) (sym own_outside) own_held)
           others,
     )
+
+-- What an answer leads to is left, or memory is refused and the state is as it was.
+pub serves-installed : {E : Type 0} (history : History) (entry : Entry) (before after : State) (event : IsEvent before history entry) (place : Place) → place.0 ≡ length history
+    → (asked : Statement) → entry.request ≡ Run asked → RunsByItself asked → state_by before.txns.states entry.session.0 ≡ kept.Nothing
+    → (given : Answer) → Tells before.version (reply_outside (world empty history) entry.session.0 Took asked) (run before.version asked).db given
+    → Erases before.version (Run asked) given → (told : Result Reply E) → IfOk told (λ reply. reply ≡ given.reply)
+    → OnOk told (after.version ≡ left before.version given.next) → OnOk told (weight after.version ≡ after.weighs) → OnOk told (HasDoomed given.erased place before.txns after.txns)
+    → OnErr told (after ≡ before) → Serves after history entry told
+serves-installed history entry before after event place at asked asks itself nothing given tells erased (Ok reply) is version weighs doomed stays =
+    rw is (serves-outside history entry before after event place at asked asks itself nothing given tells erased version weighs doomed)
+serves-installed history entry before after event place at asked asks itself nothing given tells erased (Err why) is version weighs doomed stays = (
+  subst (λ (state : State). RepresentsWorld state (world empty history)) (sym stays) event.stands,
+  unmade-outside history entry before event nothing asked asks itself,
+)

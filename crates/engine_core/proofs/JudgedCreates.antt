@@ -1,5 +1,5 @@
 -- What is judged of the database that a CREATE leaves.
-use Rattle.std.proofs.Common.{◌≡◌, ℕ, ◌+◌, refl, ap, sym, ◌∙◌, subst}
+use Rattle.std.proofs.Common.{◌≡◌, ℕ, ◌+◌, refl, ap, ◌∙◌, subst}
 use Rattle.std.specs.Prelude.{Ok, None, Some, nat_lt, if◌then◌else◌}
 use Rattle.own_model.specs.declared.create.CreateTable.{CreateTable as TableCreate}
 use Rattle.own_model.specs.declared.create.CreateView.{CreateView as ViewCreate}

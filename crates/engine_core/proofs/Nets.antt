@@ -66,4 +66,4 @@ module _ (db : Db) (sound : Sound db) where
     pub tells-none : (reply : Reply) (answer : Answer) → answer.reply ≡ reply → answer.next ≡ None
         → Tells db (committing Took (changes db (put db list)) (commit_refusal db (put db list)) reply) (put db list) answer
     tells-none reply answer told stays =
-        rw same (rw (unchanged, accepts, step (is_refusal reply) reply refl) (record { told = told; leaves = rw stays (leaves-step (is_refusal reply)) }))
+        rw same (rw (unchanged, accepts, step (is_refusal reply) reply refl) (record { told = told; leaves = rw stays (leaves-step (is_refusal reply)); may = rw stays tt }))

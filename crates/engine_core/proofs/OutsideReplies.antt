@@ -87,7 +87,7 @@ module _ (state : State) (world : World) (stands : RepresentsWorld state world) 
   explain_step : (answer : Answer) → answer.reply ≡ Graph (explained state.version.schema) → answer.next ≡ None
       → Tells state.version (run state.version Explain).reply (run state.version Explain).db answer
   unfolding run
-  explain_step answer told stays = record { told = told; leaves = rw stays refl }
+  explain_step answer told stays = record { told = told; leaves = rw stays refl; may = rw stays tt }
 
   pub tells-explain : (asked : Statement) (answer : Answer) → asked ≡ Explain → answer.reply ≡ Graph (explained state.version.schema) → answer.next ≡ None
       → Tells state.version (reply_outside world session Took asked) (run state.version asked).db answer

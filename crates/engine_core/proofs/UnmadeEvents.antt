@@ -1,6 +1,9 @@
 -- Entries that memory may keep from being made.
-use Rattle.std.proofs.Common.{◌≡◌, ℕ, ◌∙◌, true, ap, sym, subst}
+use Rattle.std.proofs.Common.{◌≡◌, ℕ, ◌∙◌, List, [], Bool, true, false, ap, refl, sym, subst}
+use Rattle.std.specs.Prelude.{Err, IsErr, None, Ok, Option, Result}
+use Rattle.own_base.specs.declared.change.Change.{Change}
 use Rattle.own_model.specs.declared.history.Entry.{Entry}
+use Rattle.own_model.specs.declared.reply.Reply.{Reply}
 use Rattle.own_model.specs.declared.request.Request.{Request}
 use Rattle.own_model.specs.declared.request.Request.TheVariants.{Run}
 use Rattle.own_model.specs.declared.schema.Schema.{Schema}
@@ -15,7 +18,8 @@ use Rattle.txn_core.specs.declared.session_state.SessionState.TheVariants as kep
 use Rattle.txn_core.specs.SessionStates.{is_open, state_by}
 use Rattle.txn_core.specs.Transactions.{wrote_of}
 use Rattle.engine_core.specs.Asked.{RunsByItself}
-use Rattle.engine_core.specs.RepresentsWorld.{IsEvent}
+use Rattle.engine_core.specs.RepresentsWorld.{IsEvent, RepresentsWorld, Serves}
+use Rattle.engine_core.specs.declared.prepared.Prepared.{Prepared}
 use Rattle.engine_core.specs.declared.state.State.{State}
 use Rattle.engine_core.proofs.Stood.{IsOpenTxn, stood-open, stood-outside}
 
@@ -75,3 +79,14 @@ module _ (history : History) (entry : Entry) (before : State) (event : IsEvent b
         → MayBeUnmadeFrom (world empty history).flat.schema ((world empty history).standing entry.session.0) entry.request
     unmade-commit asks wrote =
         may_from (Open is.begun is.block) (Run of.Commit) is.stands asks (is.kept_as.2 (sym (ap wrote_of is.is_kept) ∙ wrote))
+
+-- it has where its changes lead somewhere
+pub wrote-left : (wrote : Bool) (made : List Change) (next : Option Prepared) → (wrote ≡ false → made ≡ []) → (made ≡ [] → next ≡ None) → (next ≡ None → ⊥) → wrote ≡ true
+wrote-left true made next none stays some = refl
+wrote-left false made next none stays some = absurd (some (stays (none refl)))
+
+-- where memory is refused and the state is as it was, the entry was served so
+pub serves-refused : {E : Type 0} (after : State) (history : History) (entry : Entry) (told : Result Reply E) → IsErr told → RepresentsWorld after (world empty history)
+    → MayBeUnmadeFrom (world empty history).flat.schema ((world empty history).standing entry.session.0) entry.request → Serves after history entry told
+serves-refused after history entry (Ok reply) refused stands may = absurd (cc)
+serves-refused after history entry (Err why) refused stands may = (stands, may)

@@ -1,5 +1,5 @@
 -- What a statement outside a transaction is answered, and what it leaves.
-use Rattle.std.specs.Prelude.{◌≡◌, ◌++◌, ◌&&◌, ℕ, List, Bool, false, not, Option, None, Some, if◌then◌else◌}
+use Rattle.std.specs.Prelude.{◌≡◌, ◌∷◌, [], ◌++◌, ◌&&◌, ℕ, List, Bool, false, not, Option, None, Some, if◌then◌else◌}
 use Rattle.std.specs.Option.{option_map_or}
 use Rattle.own_model.specs.declared.bound.Bound.{Bound}
 use Rattle.own_model.specs.declared.bound.Bound.TheVariants.{Delete, Forget, Insert, Update}
@@ -9,6 +9,9 @@ use Rattle.own_model.specs.declared.reply.Reply.{Reply}
 use Rattle.own_model.specs.declared.request.Request.{Request}
 use Rattle.own_model.specs.Db.{Db}
 use Rattle.query_model.specs.Footprints.{footprint_of}
+use Rattle.state_model.specs.MayBePut.{MayBePut}
+use Rattle.state_model.specs.Put.{put}
+use Rattle.state_model.specs.Weight.{weight}
 use Rattle.subject_model.specs.Forget.{changed, removed}
 use Rattle.run_model.specs.Run.{run_bound}
 use Rattle.history_model.specs.Held.{holder}
@@ -16,16 +19,35 @@ use Rattle.history_model.specs.History.{forgotten, lie_on}
 use Rattle.history_model.specs.Reply.{forget_reply, is_refusal, unless_held, write_reply}
 use Rattle.history_model.specs.World.{World}
 use Rattle.engine_core.specs.declared.answer.Answer.{Answer}
+use Rattle.engine_core.specs.declared.prepared.Ahead.{Ahead}
+use Rattle.engine_core.specs.declared.prepared.Ahead.TheVariants.{Change, Version}
+use Rattle.engine_core.specs.declared.prepared.Prepared.{Prepared}
 
--- the database that is left: the next one, where there is one
-abbrev pub left : Db → Option Db → Db
+-- the database that a commit leads to: the next one, or the one that stands with a change
+abbrev pub led_to : Db → Ahead → Db
+led_to db (Version next) = next
+led_to db (Change change) = put db (change ∷ [])
+
+-- a change that is still to be made may be put
+abbrev pub MayBeMade : Db → Ahead → Type 0
+MayBeMade db (Version next) = Unit {0}
+MayBeMade db (Change change) = MayBePut db.schema.tables (change ∷ [])
+
+-- the database that is left: what is prepared, where something is
+abbrev pub left : Db → Option Prepared → Db
 left db None = db
-left db (Some next) = next
+left db (Some prepared) = led_to db prepared.ahead
+
+-- what is prepared weighs what is told, and may be made
+abbrev pub MayBeLeft : Db → Option Prepared → Type 0
+MayBeLeft db None = Unit {0}
+MayBeLeft db (Some prepared) = (weight (led_to db prepared.ahead) ≡ prepared.weighs) × MayBeMade db prepared.ahead
 
 -- a reply is told; the database is the one behind it, unless the reply is a refusal
 pub record Tells (db : Db) (given : Reply) (behind : Db) (answer : Answer) : Type 0 where
   pub told : answer.reply ≡ given
   pub leaves : left db answer.next ≡ (if is_refusal given then db else behind)
+  pub may : MayBeLeft db answer.next
 
 -- whether one of these items lies on a row that an accepted FORGET removes or changes
 abbrev pub erases : Db → Request → Reply → List FootItem → Bool

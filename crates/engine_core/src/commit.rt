@@ -1,4 +1,4 @@
-ghost use Rattle.std.specs.Prelude.{◌≡◌, ◌≢◌, [], Bool, false, IfOk, OnErr};
+ghost use Rattle.std.specs.Prelude.{◌≡◌, ◌≢◌, [], Bool, false, length, None, IfOk, IfSome, OnErr};
 ghost use Rattle.own_model.specs.declared.history.Verdict.TheVariants.{Took};
 ghost use Rattle.own_model.specs.Db.{Db};
 ghost use Rattle.state_model.specs.Fault.{fault};
@@ -12,18 +12,18 @@ ghost use Rattle.commit_check.specs.Judged.{IsJudged};
 ghost use Rattle.payload_size.specs.SoundNet.{IsSoundNet};
 ghost use Rattle.history_model.specs.Reply as spec_of;
 ghost use Rattle.history_model.specs.Reply.{committing};
-ghost use Rattle.engine_core.specs.Answered.{Tells};
+ghost use Rattle.engine_core.specs.Answered.{led_to, MayBeMade, Tells};
 
 use crate::answer::Answer;
-use crate::prepared::Prepared;
+use crate::prepared::{Ahead, Prepared};
 use commit_check::{Judged, judge, weigh};
-use own_base::{Change, List};
+use own_base::{Change, List, MakeCopy};
 use own_model::{PAYLOAD_BYTES, Refusal, Reply};
 use payload_size::payload_size;
 use std::alloc::{AllocError, Global};
 use std::mem::drop;
 use store_version::{Next, Shown, Version, prepare};
-use unlinked_check::{are_unlinked, judge_unlinked};
+use unlinked_check::{are_unlinked, judge_change, judge_unlinked};
 
 /// What is judged of a next version as a whole.
 fn judged(alloc: Global, next: &Next) -> Result<Judged, AllocError>
@@ -79,23 +79,23 @@ fn is_refusal(reply: &Reply) -> bool
     matches!(reply, Reply::Refused(_))
 }
 
-/// The answer to a call that leads to a next version: refused where that has a fault, and else where there is another cause;
-/// otherwise the next version is left.
+/// The answer to a call that leads somewhere: refused where that has a fault, and else where there is another cause;
+/// otherwise it is left.
 pub(crate) fn decided(
     alloc: Global,
-    next: Next,
+    ahead: Ahead,
     judged: Judged,
     cause: Option<Refusal>,
     reply: Reply,
 ) -> Answer
-    requires judged { IsJudged next judged }
     requires accepted { spec_of.is_refusal reply ≡ false }
-    ensures tells { (db : Db) (needed : Bool) → Tells db (committing Took needed (spec.first_refusal (fault next) cause) reply) next result }
+    ensures tells { (db : Db) (needed : Bool) → IsJudged (led_to db ahead) judged → MayBeMade db ahead
+        → Tells db (committing Took needed (spec.first_refusal (fault (led_to db ahead)) cause) reply) (led_to db ahead) result }
     ensures nothing { result.erased ≡ [] }
 {
     match judged {
         Judged::Fault(why) => {
-            drop(next);
+            drop(ahead);
             drop(cause);
             drop(reply);
             Answer::told(alloc, Reply::Refused(why))
@@ -103,11 +103,11 @@ pub(crate) fn decided(
         Judged::Weighs(weighs) => match cause {
             None => Answer {
                 reply,
-                next: Some(Prepared { next, weighs }),
+                next: Some(Prepared { ahead, weighs }),
                 erased: List::new(alloc),
             },
             Some(why) => {
-                drop(next);
+                drop(ahead);
                 drop(reply);
                 Answer::told(alloc, Reply::Refused(why))
             }
@@ -129,19 +129,97 @@ fn too_big(changes: &[Change]) -> Option<Refusal>
 }
 
 /// Why a commit without a fault is refused: the length of its changes.
-fn cause_of(version: &Version, next: &Next, judged: &Judged, changes: &[Change]) -> Option<Refusal>
+fn cause_of(version: &Version, judged: &Judged, changes: &[Change]) -> Option<Refusal>
     requires sound { Sound version.now }
-    requires well_formed { IsWellFormed next.now }
-    requires schema { version.now.schema ≡ next.now.schema }
-    requires net { changes.now ≡ net version.now next.now }
-    requires judged { IsJudged next.now judged.now }
-    ensures { spec.first_refusal (fault next.now) result ≡ spec.commit_refusal version.now next.now }
+    requires well_formed { IsWellFormed (put version.now changes.now) }
+    requires net { changes.now ≡ net version.now (put version.now changes.now) }
+    requires judged { IsJudged (put version.now changes.now) judged.now }
+    ensures { spec.first_refusal (fault (put version.now changes.now)) result ≡ spec.commit_refusal version.now (put version.now changes.now) }
 {
     let _ = version;
-    let _ = next;
     match judged {
         Judged::Fault(_) => None,
         Judged::Weighs(_) => too_big(changes),
+    }
+}
+
+/// What is judged of the state that changes lead to before they are made: of one change alone, of a table that nothing is
+/// linked with.
+fn judged_alone(version: &Version, weighs: u64, changes: &[Change]) -> Option<Judged>
+    requires sound { Sound version.now }
+    requires weighs { weight version.now ≡ weighs }
+    requires net { changes.now ≡ net version.now (put version.now changes.now) }
+    requires well_formed { IsWellFormed (put version.now changes.now) }
+    ensures { IfSome result (λ judged. IsJudged (put version.now changes.now) judged × (length changes.now ≡ 1)) }
+{
+    let [change] = changes else {
+        return None;
+    };
+    if !are_unlinked(version.schema(), changes) {
+        return None;
+    }
+    judge_change(&Shown { version }, weighs, change)
+}
+
+/// The answer to a commit of one change that is judged before it is made.
+fn commit_alone(
+    alloc: Global,
+    version: &Version,
+    judged: Judged,
+    changes: &[Change],
+    reply: Reply,
+) -> Result<Answer, AllocError>
+    requires sound { Sound version.now }
+    requires net { changes.now ≡ net version.now (put version.now changes.now) }
+    requires well_formed { IsWellFormed (put version.now changes.now) }
+    requires judged { IsJudged (put version.now changes.now) judged }
+    requires one { length changes.now ≡ 1 }
+    requires accepted { spec_of.is_refusal reply ≡ false }
+    ensures tells { IfOk result (Tells version.now (committing Took (spec_of.changes version.now (put version.now changes.now))
+        (spec.commit_refusal version.now (put version.now changes.now)) reply) (put version.now changes.now)) }
+    ensures nothing { IfOk result (λ answer. answer.erased ≡ []) }
+{
+    match changes[0].copy(alloc) {
+        Ok(change) => {
+            let cause = cause_of(version, &judged, changes);
+            Ok(decided(alloc, Ahead::Change(change), judged, cause, reply))
+        }
+        Err(refused) => {
+            drop(judged);
+            drop(reply);
+            Err(refused)
+        }
+    }
+}
+
+/// The answer to a commit whose next version is made beside the one that stands, and then judged.
+fn commit_beside(
+    alloc: Global,
+    version: &Version,
+    weighs: u64,
+    changes: &[Change],
+    reply: Reply,
+) -> Result<Answer, AllocError>
+    requires sound { Sound version.now }
+    requires weighs { weight version.now ≡ weighs }
+    requires net { changes.now ≡ net version.now (put version.now changes.now) }
+    requires well_formed { IsWellFormed (put version.now changes.now) }
+    requires accepted { spec_of.is_refusal reply ≡ false }
+    ensures tells { IfOk result (Tells version.now (committing Took (spec_of.changes version.now (put version.now changes.now))
+        (spec.commit_refusal version.now (put version.now changes.now)) reply) (put version.now changes.now)) }
+    ensures nothing { IfOk result (λ answer. answer.erased ≡ []) }
+{
+    let next = prepare(alloc, version, changes)?;
+    match judged_by(alloc, version, weighs, &next, changes) {
+        Ok(judged) => {
+            let cause = cause_of(version, &judged, changes);
+            Ok(decided(alloc, Ahead::Version(next), judged, cause, reply))
+        }
+        Err(refused) => {
+            drop(next);
+            drop(reply);
+            Err(refused)
+        }
     }
 }
 
@@ -162,6 +240,7 @@ pub(crate) fn commit(
         (spec.commit_refusal version.now (put version.now changes.now)) reply) (put version.now changes.now)) }
     ensures nothing { IfOk result (λ answer. answer.erased ≡ []) }
     ensures spared { OnErr result (changes.now ≢ []) }
+    ensures stays { IfOk result (λ answer. changes.now ≡ [] → answer.next ≡ None) }
 {
     if is_refusal(&reply) {
         return Ok(Answer::told(alloc, reply));
@@ -169,16 +248,8 @@ pub(crate) fn commit(
     if changes.is_empty() {
         return Ok(Answer::told(alloc, reply));
     }
-    let next = prepare(alloc, version, changes)?;
-    match judged_by(alloc, version, weighs, &next, changes) {
-        Ok(judged) => {
-            let cause = cause_of(version, &next, &judged, changes);
-            Ok(decided(alloc, next, judged, cause, reply))
-        }
-        Err(refused) => {
-            drop(next);
-            drop(reply);
-            Err(refused)
-        }
+    match judged_alone(version, weighs, changes) {
+        Some(judged) => commit_alone(alloc, version, judged, changes, reply),
+        None => commit_beside(alloc, version, weighs, changes, reply),
     }
 }

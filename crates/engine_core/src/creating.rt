@@ -16,6 +16,7 @@ ghost use Rattle.engine_core.specs.Asked.{IsCreate};
 
 use crate::answer::Answer;
 use crate::commit::decided;
+use crate::prepared::Ahead;
 use commit_check::{Judged, judge_view};
 use own_model::{CreateTable, CreateView, Reply, Statement};
 use plan_bind::bind_view;
@@ -30,7 +31,7 @@ fn checked(alloc: Global, next: Next, judged: Judged) -> Answer
     ensures tells { (db : Db) → Tells db (committing Took true (fault next) Done) next result }
     ensures nothing { result.erased ≡ [] }
 {
-    decided(alloc, next, judged, None, Reply::Done)
+    decided(alloc, Ahead::Version(next), judged, None, Reply::Done)
 }
 
 /// CREATE TABLE, which the statement is. The new table has no rows, so no row is looked at and the weight stays.

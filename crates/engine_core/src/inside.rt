@@ -100,7 +100,7 @@ fn serve_commit(
     );
     drop(changes);
     let answer = answer?;
-    let reply = install(state, Place(history.len() as u64), answer);
+    let reply = install(alloc, state, Place(history.len() as u64), answer)?;
     state.txns.finish(entry.session);
     Ok(reply)
 }

@@ -1,44 +1,93 @@
-ghost use Rattle.std.specs.Prelude.{◌≡◌};
+ghost use Rattle.std.specs.Prelude.{◌≡◌, ◌≢◌, None, IfOk, OnErr, OnOk};
 ghost use Rattle.state_model.specs.Weight.{weight};
-ghost use Rattle.engine_core.specs.Answered.{left};
+ghost use Rattle.engine_core.specs.Answered.{led_to, left, MayBeLeft, MayBeMade};
 ghost use Rattle.engine_core.specs.HasDoomed.{HasDoomed};
 
 use crate::answer::Answer;
-use crate::prepared::Prepared;
+use crate::prepared::{Ahead, Prepared};
 use crate::state::State;
 use own_base::Place;
 use own_model::Reply;
+use std::alloc::{AllocError, Global};
 use std::mem::drop;
-use store_version::{Version, publish};
+use store_version::{Version, publish, publish_change};
 
-/// Puts the next version, where there is one, in the place of the one that stands, with what it weighs. Takes no memory.
-fn put(version: &mut Version, weighs: &mut u64, next: Option<Prepared>)
-    requires { weight version.old ≡ weighs.old }
-    ensures version { version.new ≡ left version.old next }
-    ensures weighs { weight version.new ≡ weighs.new }
+/// Goes on to what is ahead: a prepared version takes the place of the one that stands, or one change is made in that.
+/// After `AllocError` the version is as it was.
+fn go_on(alloc: Global, version: &mut Version, ahead: Ahead) -> Result<(), AllocError>
+    requires { MayBeMade version.old ahead }
+    ensures changed { OnOk result (version.new ≡ led_to version.old ahead) }
+    ensures unchanged { OnErr result (version.new ≡ version.old) }
 {
-    if let Some(prepared) = next {
-        *weighs = prepared.weighs;
-        publish(version, prepared.next);
+    match ahead {
+        Ahead::Version(next) => {
+            publish(version, next);
+            Ok(())
+        }
+        Ahead::Change(change) => {
+            let made = publish_change(alloc, version, &change);
+            drop(change);
+            made
+        }
     }
 }
 
-/// Leaves what an answer leaves: the next version, and no transaction on a row that it erased at a place. Gives the reply.
-/// Takes no memory.
-pub(crate) fn install(state: &mut State, place: Place, answer: Answer) -> Reply
-    requires { weight state.old.version ≡ state.old.weighs }
-    ensures told { result ≡ answer.reply }
-    ensures version { state.new.version ≡ left state.old.version answer.next }
-    ensures weighs { weight state.new.version ≡ state.new.weighs }
-    ensures doomed { HasDoomed answer.erased place state.old.txns state.new.txns }
+/// Leaves what is prepared, where something is, with what it weighs. After `AllocError` both are as they were.
+fn put(
+    alloc: Global,
+    version: &mut Version,
+    weighs: &mut u64,
+    next: Option<Prepared>,
+) -> Result<(), AllocError>
+    requires weighs { weight version.old ≡ weighs.old }
+    requires may { MayBeLeft version.old next }
+    ensures version { OnOk result (version.new ≡ left version.old next) }
+    ensures weighs { OnOk result (weight version.new ≡ weighs.new) }
+    ensures version_stays { OnErr result (version.new ≡ version.old) }
+    ensures weighs_stays { OnErr result (weighs.new ≡ weighs.old) }
+    ensures spared { OnErr result (next ≢ None) }
+{
+    let Some(prepared) = next else {
+        return Ok(());
+    };
+    let Prepared { ahead, weighs: sum } = prepared;
+    go_on(alloc, version, ahead)?;
+    *weighs = sum;
+    Ok(())
+}
+
+/// Leaves what an answer leaves: what is prepared, and no transaction on a row that it erased at a place. Gives the reply.
+/// After `AllocError` the state is as it was.
+pub(crate) fn install(
+    alloc: Global,
+    state: &mut State,
+    place: Place,
+    answer: Answer,
+) -> Result<Reply, AllocError>
+    requires weighs { weight state.old.version ≡ state.old.weighs }
+    requires may { MayBeLeft state.old.version answer.next }
+    ensures told { IfOk result (λ reply. reply ≡ answer.reply) }
+    ensures version { OnOk result (state.new.version ≡ left state.old.version answer.next) }
+    ensures weighs { OnOk result (weight state.new.version ≡ state.new.weighs) }
+    ensures doomed { OnOk result (HasDoomed answer.erased place state.old.txns state.new.txns) }
+    ensures unchanged { OnErr result (state.new ≡ state.old) }
+    ensures spared { OnErr result (answer.next ≢ None) }
 {
     let Answer {
         reply,
         next,
         erased,
     } = answer;
-    put(&mut state.version, &mut state.weighs, next);
-    state.txns.doom(erased.items(), place);
-    drop(erased);
-    reply
+    match put(alloc, &mut state.version, &mut state.weighs, next) {
+        Ok(()) => {
+            state.txns.doom(erased.items(), place);
+            drop(erased);
+            Ok(reply)
+        }
+        Err(refused) => {
+            drop(erased);
+            drop(reply);
+            Err(refused)
+        }
+    }
 }

@@ -151,7 +151,7 @@ pub(crate) fn serve_outside(
                 session: entry.session,
             };
             let answer = answer(alloc, &asker, statement)?;
-            Ok(install(state, Place(history.len() as u64), answer))
+            install(alloc, state, Place(history.len() as u64), answer)
         }
     }
 }

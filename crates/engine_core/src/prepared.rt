@@ -1,26 +1,18 @@
-use std::marker::Model;
+use own_base::Change;
 use store_version::Next;
 
-/// A next version without a fault, and what it weighs.
+/// What a commit leads to.
 #[derive(Drop)]
-pub(crate) struct Prepared {
-    pub(crate) next: Next,
-    pub(crate) weighs: u64,
+pub(crate) enum Ahead {
+    /// A version that was prepared beside the one that stands.
+    Version(Next),
+    /// The version that stands with one change, which is still to be made in it.
+    Change(Change),
 }
 
-impl Model for Prepared {
-    ghost use Rattle.std.specs.Prelude.{◌≡◌};
-    ghost use Rattle.own_model.specs.Db.{Db};
-    ghost use Rattle.own_model.specs.contracts.bound.BoundCond as cond;
-    ghost use Rattle.std.specs.Coded.{codes};
-
-    ghost Value = { Db };
-
-    ghost coded = { Prim.hlevel (codes, cond.the_row.coded) };
-
-    ghost use Rattle.state_model.specs.Weight.{weight};
-
-    ghost view = { λ prepared. prepared.next };
-
-    ghost invariant = { λ prepared. weight prepared.next ≡ prepared.weighs };
+/// What a commit without a fault leads to, and what that weighs.
+#[derive(Drop)]
+pub(crate) struct Prepared {
+    pub(crate) ahead: Ahead,
+    pub(crate) weighs: u64,
 }

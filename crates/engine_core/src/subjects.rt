@@ -11,6 +11,7 @@ ghost use Rattle.engine_core.specs.Answered.{ErasesBound, Tells};
 
 use crate::answer::Answer;
 use crate::commit::{decided, weighed};
+use crate::prepared::Ahead;
 use own_base::{Change, List, MakeCopy, RowName, Subject};
 use own_model::{Reply, StoreView};
 use std::alloc::{AllocError, Global};
@@ -87,7 +88,7 @@ pub(crate) fn forget(
     let next = prepare(alloc, version, changes.items())?;
     let reply = forgotten(changes.items());
     match weighed(alloc, &next) {
-        Ok(judged) => Ok(decided(alloc, next, judged, None, reply).erasing(names)),
+        Ok(judged) => Ok(decided(alloc, Ahead::Version(next), judged, None, reply).erasing(names)),
         Err(refused) => {
             drop(next);
             Err(refused)

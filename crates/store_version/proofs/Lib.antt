@@ -1,3 +1,4 @@
 mod NamedRows
+mod OneChange
 mod PartsAfter
 pub mod TheirParts

@@ -7,6 +7,6 @@ mod preparing;
 mod shown;
 mod version;
 
-pub use preparing::{prepare, prepare_table, prepare_view, publish};
+pub use preparing::{prepare, prepare_table, prepare_view, publish, publish_change};
 pub use shown::Shown;
 pub use version::{Next, Version};

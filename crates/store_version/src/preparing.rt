@@ -1,4 +1,4 @@
-ghost use Rattle.std.specs.Prelude.{◌≡◌, ◌<◌, length, IfOk};
+ghost use Rattle.std.specs.Prelude.{◌≡◌, ◌<◌, ◌∷◌, [], length, IfOk, OnErr, OnOk};
 ghost use Rattle.own_model.specs.declared.limit.TheConstants.{VIEWS};
 ghost use Rattle.state_model.specs.MayBePut.{MayBePut};
 ghost use Rattle.state_model.specs.Put.{put};
@@ -69,4 +69,18 @@ pub fn publish(version: &mut Version, next: Next)
     ensures { version.new ≡ next }
 {
     *version = next.version;
+}
+
+/// Makes one change of a row in the version itself: in place, where nobody shares the rows that it falls among. What the
+/// change says was there before isn't looked at. After `AllocError` the version is as it was.
+pub fn publish_change(
+    alloc: Global,
+    version: &mut Version,
+    change: &Change,
+) -> Result<(), AllocError>
+    requires { MayBePut version.old.schema.tables (change.now ∷ []) }
+    ensures changed { OnOk result (version.new ≡ put version.old (change.now ∷ [])) }
+    ensures unchanged { OnErr result (version.new ≡ version.old) }
+{
+    version.parts[change.name.table.0 as usize].change(alloc, change)
 }

@@ -1,21 +1,20 @@
 -- What is judged after changes of tables with which nothing is linked.
-use Rattle.std.proofs.Common.{◌≡◌, ◌∙◌, ℕ, ◌+◌, ◌-◌, ◌≤◌, List, [], ◌∷◌, Bool, true, false, refl, ap, subst, sym, arith}
-use Rattle.std.specs.Prelude.{None, Some, IsTrue, filter, nat_lt, if◌then◌else◌}
-use Rattle.std.proofs.lemmas.Bool.{ltb-false}
+use Rattle.std.proofs.Common.{◌≡◌, ◌∙◌, ℕ, ◌+◌, ◌-◌, ◌^◌, ◌<◌, ◌≤◌, List, [], ◌∷◌, Bool, false, refl, ap, subst, sym, arith}
+use Rattle.std.specs.Prelude.{min, None, Some, IsTrue, filter, nat_lt}
+use Rattle.std.proofs.lemmas.Bool.{le-ltb, ltb-false}
 use Rattle.own_base.specs.declared.change.Change.{Change}
 use Rattle.own_model.specs.declared.limit.LimitName.TheVariants as limit
 use Rattle.own_model.specs.declared.limit.TheConstants.{STORE_ROWS, STORE_WEIGHT}
 use Rattle.own_model.specs.declared.refusal.Refusal.{Refusal}
 use Rattle.own_model.specs.declared.refusal.Refusal.TheVariants.{Limit}
-use Rattle.own_model.specs.declared.schema.Schema.{Schema}
-use Rattle.own_model.specs.Db.{Db, IsOrdered, Row}
+use Rattle.own_model.specs.Db.{Db, IsOrdered}
 use Rattle.schema_model.specs.OwnerSchema.{IsOwnerSchema}
 use Rattle.schema_model.proofs.Places.{append-none}
 use Rattle.subject_model.proofs.Members.{all_passes}
 use Rattle.state_model.specs.Fault.{fault, first_of, owner_faults, reference_faults, unique_faults}
 use Rattle.state_model.specs.MayBePut.{KeysDiffer, MayBePut}
 use Rattle.state_model.specs.Net.{net}
-use Rattle.state_model.specs.Put.{is_of_table, put_rows}
+use Rattle.state_model.specs.Put.{is_of_table, put as put_into, put_rows}
 use Rattle.state_model.specs.Weight.{row_count, weight}
 use Rattle.state_model.proofs.Faultless.{faultless-from}
 use Rattle.state_model.proofs.NetLeads.{net_may, net_put}
@@ -28,10 +27,21 @@ use Rattle.unlinked_check.specs.NetWeight.{weight_come, weight_gone}
 use Rattle.unlinked_check.specs.Unlinked.{are_unlinked, is_unlinked}
 use Rattle.unlinked_check.proofs.FaultsLeft.{owner-left, reference-left, unique-left}
 use Rattle.unlinked_check.proofs.LinkedRows.{AreSameElsewhere, under}
+use Rattle.unlinked_check.proofs.RowBound.{row-bound}
 use Rattle.unlinked_check.proofs.RowSums.{Exchanged, exchanged_as}
 use Rattle.unlinked_check.proofs.TableLeads.{LeadsFrom, leads-all}
 use Rattle.unlinked_check.proofs.WeightLemmas.{AreLone, same-elsewhere, weight-sum}
 use Rattle.query_model.proofs.NoFaults.{none-if}
+
+-- one change doesn't bring too many rows where there is room for one more
+few_step : (b : Bool) (why : Refusal) → b ≡ false → past b why ≡ None
+few_step b why is = rw is refl
+
+pub few-rows : (db : Db) (change : Change) (count : ℕ) → count ≡ min (row_count db) (2 ^ 64 - 1) → count < STORE_ROWS
+    → past (nat_lt STORE_ROWS (row_count (put_into db (change ∷ [])))) (Limit limit.Rows) ≡ None
+few-rows db change count counts few =
+    let most = row-bound db change in
+    few_step (nat_lt STORE_ROWS (row_count (put_into db (change ∷ [])))) (Limit limit.Rows) (le-ltb _ _ (omega (arith, most, counts, few)))
 
 module _ (db next : Db) (changes : List Change) (owner : IsOwnerSchema db.schema) (before : IsOrdered db) (after : IsOrdered (under db next))
     (is : changes ≡ net db (under db next))

@@ -1,6 +1,7 @@
 pub mod LinkLemmas
 pub mod LinkedRows
 pub mod LoneRows
+pub mod RowBound
 pub mod RowSums
 pub mod TableLeads
 pub mod TableSums

@@ -1,16 +1,20 @@
-ghost use Rattle.std.specs.Prelude.{◌≡◌, IsTrue, None};
+ghost use Rattle.std.specs.Prelude.{◌≡◌, ◌≤◌, ◌∷◌, [], IfNone, IfSome, IsTrue, None};
+ghost use Rattle.own_model.specs.declared.limit.TheConstants.{STORE_ROWS};
+ghost use Rattle.own_model.specs.Db.{IsOrdered};
 ghost use Rattle.schema_model.specs.OwnerSchema.{IsOwnerSchema};
 ghost use Rattle.schema_model.specs.WithinLimits.{IsWithinLimits};
 ghost use Rattle.state_model.specs.Fault.{fault};
 ghost use Rattle.state_model.specs.Net.{net};
-ghost use Rattle.state_model.specs.Weight.{weight as weight_of};
+ghost use Rattle.state_model.specs.Put.{put};
+ghost use Rattle.state_model.specs.Weight.{row_count as count_of, weight as weight_of};
 ghost use Rattle.commit_check.specs.Judged.{IsJudged};
 ghost use Rattle.unlinked_check.specs.Unlinked.{are_unlinked};
 
 use crate::net_weight::{weight_come, weight_gone};
-use commit_check::{Judged, judge_weight, row_limit_fault};
+use commit_check::{Judged, judge_weight, row_count, row_limit_fault};
 use own_base::Change;
-use own_model::StoreView;
+use own_model::{STORE_ROWS, StoreView};
+use std::slice;
 
 /// What is judged of a store's state, given the state before, which had no fault, its weight, and the changes that lead from
 /// it to this one, all of tables that nothing is linked with: the fault that there are more rows than a store may have, else
@@ -36,4 +40,27 @@ pub fn judge_unlinked<B: StoreView, V: StoreView>(
     let schema = before.schema();
     let kept = weight - weight_gone(schema, changes);
     judge_weight(kept.saturating_add(weight_come(schema, changes)))
+}
+
+/// What is judged of the state to which one change leads, of a table that nothing is linked with, before it is made: given
+/// the state before, which had no fault, and its weight. None where a row more might be one too many: then the state that
+/// it leads to has to be looked at. Takes no memory.
+pub fn judge_change<B: StoreView>(before: &B, weight: u64, change: &Change) -> Option<Judged>
+    requires limits { IsWithinLimits (B.db before.now).schema }
+    requires owner { IsOwnerSchema (B.db before.now).schema }
+    requires faultless { fault (B.db before.now) ≡ None }
+    requires weight { weight_of (B.db before.now) ≡ weight }
+    requires net { change.now ∷ [] ≡ net (B.db before.now) (put (B.db before.now) (change.now ∷ [])) }
+    requires ordered { IsOrdered (put (B.db before.now) (change.now ∷ [])) }
+    requires unlinked { IsTrue (are_unlinked (B.db before.now).schema (change.now ∷ [])) }
+    ensures judged { IfSome result (IsJudged (put (B.db before.now) (change.now ∷ []))) }
+    ensures full { IfNone result (STORE_ROWS ≤ count_of (B.db before.now)) }
+{
+    if row_count(before) >= STORE_ROWS {
+        return None;
+    }
+    let schema = before.schema();
+    let changes = slice::from_ref(change);
+    let kept = weight - weight_gone(schema, changes);
+    Some(judge_weight(kept.saturating_add(weight_come(schema, changes))))
 }

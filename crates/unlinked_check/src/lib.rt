@@ -5,5 +5,5 @@ mod judge;
 mod net_weight;
 mod unlinked;
 
-pub use judge::judge_unlinked;
+pub use judge::{judge_change, judge_unlinked};
 pub use unlinked::{are_unlinked, is_unlinked};

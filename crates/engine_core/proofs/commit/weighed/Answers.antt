@@ -1,5 +1,4 @@
 use Rattle.std.proofs.Common.{sym, ◌∙◌, ap}
-use Rattle.own_model.specs.Db.{Db}
 use Rattle.state_model.specs.Fault.{fault}
 use Rattle.state_model.specs.Weight.{weight}
 use Rattle.state_model.proofs.CreatedSchema.{owner_schema-created, within-created}

@@ -11,4 +11,4 @@ use Rattle.engine_core.proofs.creating.checked.Goals as goal
 -- nothing else refuses a CREATE
 pub returns-clause-tells : goal.returns-clause-tells
 returns-clause-tells c = λ db.
-    subst (λ (cause : Option Refusal). Tells db (committing Took true cause Done) c.args.next c.decided.result) (first_refusal-none (fault c.args.next)) (c.decided.ensures.tells db true)
+    subst (λ (cause : Option Refusal). Tells db (committing Took true cause Done) c.args.next c.decided.result) (first_refusal-none (fault c.args.next)) (c.decided.ensures.tells db true c.requires tt)

@@ -1,6 +1,11 @@
-use Rattle.std.proofs.Common.{refl}
+use Rattle.std.proofs.Common.{◌∙◌, refl, subst, sym}
+use Rattle.own_model.specs.Db.{empty}
+use Rattle.history_model.specs.History.{world}
+use Rattle.engine_core.specs.RepresentsWorld.{RepresentsWorld}
+use Rattle.engine_core.specs.declared.state.State.{State}
 use Rattle.engine_core.proofs.CommitEvents.{kept-committed, net-committed, serves-commit}
 use Rattle.engine_core.proofs.OpenStates.{base-event, sound-event}
+use Rattle.engine_core.proofs.UnmadeEvents.{serves-refused, unmade-commit, wrote-left}
 use Rattle.engine_core.proofs.inside.serve_commit.Goals as goal
 
 -- the rows are in key order
@@ -23,9 +28,18 @@ commit-answer-requires-clause-well_formed c =
     rw c.items.ensures
     (kept-committed c.args.history.now c.args.entry.now c.args.state.now c.requires.event c.requires.open c.requires.asks c.in_ok-changes.changes c.in_ok-changes.ensures.net)
 
+-- memory is refused only where something was written
+pub returns-in_err-reply : goal.returns-in_err-reply
+returns-in_err-reply c =
+    serves-refused c.install.new.state c.args.history.now c.args.entry.now c.from_residual-in_err-reply.result c.from_residual-in_err-reply.ensures.0
+    (subst (λ (state : State). RepresentsWorld state (world empty c.args.history.now)) (sym c.in_err-reply.ensures.unchanged) c.requires.event.stands)
+    (unmade-commit c.args.history.now c.args.entry.now c.args.state.now c.requires.event c.requires.open c.requires.asks
+    (wrote-left _ c.in_ok-changes.changes c.in_ok-answer.answer.next c.in_ok-changes.ensures.spared
+    (λ none. c.in_ok-answer.ensures.stays (c.items.ensures ∙ none)) c.in_err-reply.ensures.spared))
+
 pub returns : goal.returns
 returns c =
-    rw c.install-reply.ensures.told
+    rw c.in_ok-reply.ensures.told
     (serves-commit c.args.history.now c.args.entry.now c.args.state.now c.requires.event c.requires.open c.requires.asks c.in_ok-changes.changes c.in_ok-changes.ensures.net c.in_ok-answer.answer
-    (rw (← c.items.ensures) c.in_ok-answer.ensures.tells) _ refl c.install-reply.new.state _ c.install-reply.ensures.version c.install-reply.ensures.weighs c.in_ok-answer.ensures.nothing
-    c.install-reply.ensures.doomed refl refl c.finish.ensures.others c.finish.ensures.outside c.finish.ensures.free)
+    (rw (← c.items.ensures) c.in_ok-answer.ensures.tells) _ refl c.install.new.state _ c.in_ok-reply.ensures.version c.in_ok-reply.ensures.weighs c.in_ok-answer.ensures.nothing
+    c.in_ok-reply.ensures.doomed refl refl c.finish.ensures.others c.finish.ensures.outside c.finish.ensures.free)

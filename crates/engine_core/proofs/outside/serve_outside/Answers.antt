@@ -5,7 +5,7 @@ use Rattle.txn_core.proofs.Statements.{none_moved}
 use Rattle.engine_core.proofs.OpenStates.{sound-event, written-event}
 use Rattle.engine_core.proofs.OutsideReplies.{runs-itself}
 use Rattle.engine_core.proofs.PromptEvents.{serves-begin, serves-commit_outside, serves-rollback_outside}
-use Rattle.engine_core.proofs.InstalledEvents.{serves-outside}
+use Rattle.engine_core.proofs.InstalledEvents.{serves-installed}
 use Rattle.engine_core.proofs.outside.serve_outside.Goals as goal
 
 pub returns-in-Begin : goal.returns-in-Begin
@@ -23,10 +23,10 @@ answer-requires c = record {
 
 pub returns-in_ok-answer-in_default : goal.returns-in_ok-answer-in_default
 returns-in_ok-answer-in_default c =
-    rw c.install.ensures.told
-    (serves-outside c.args.history.now c.args.entry.now c.args.state.now c.install.new.state c.requires.event _ refl c.args.statement.now c.requires.asks
+    serves-installed c.args.history.now c.args.entry.now c.args.state.now c.install.new.state c.requires.event _ refl c.args.statement.now c.requires.asks
     (runs-itself c.args.statement.now c.requires.built c.in_default.not-Begin c.in_default.not-Commit c.in_default.not-Rollback) c.requires.outside
-    c.in_ok-answer-in_default.answer c.in_ok-answer-in_default.ensures.tells c.in_ok-answer-in_default.ensures.erases c.install.ensures.version c.install.ensures.weighs c.install.ensures.doomed)
+    c.in_ok-answer-in_default.answer c.in_ok-answer-in_default.ensures.tells c.in_ok-answer-in_default.ensures.erases c.install.result
+    c.install.ensures.told c.install.ensures.version c.install.ensures.weighs c.install.ensures.doomed c.install.ensures.unchanged
 
 pub returns-in-Commit : goal.returns-in-Commit
 returns-in-Commit c = elim c.in-Commit.is [

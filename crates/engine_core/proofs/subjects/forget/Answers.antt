@@ -36,7 +36,7 @@ told c =
     let there = lent-there db subject c.row.result c.row.ensures c.if-is_none.ensures in
     let counted = rw c.items-3.ensures at c.forgotten-reply.ensures in
     tells-erasing db _ _ c.decided.result c.erasing.result c.erasing.ensures.reply c.erasing.ensures.next
-    (tells-forgotten db next subject c.in_ok-changes.changes c.forgotten-reply.result c.decided.result there is sound.faultless c.in_ok-changes.ensures.plan counted (c.decided.ensures.tells db true))
+    (tells-forgotten db next subject c.in_ok-changes.changes c.forgotten-reply.result c.decided.result there is sound.faultless c.in_ok-changes.ensures.plan counted (c.decided.ensures.tells db true c.in-Ok.ensures tt))
 
 pub returns-in-Ok-clause-tells : goal.returns-in-Ok-clause-tells
 returns-in-Ok-clause-tells c = told c

@@ -1,0 +1,30 @@
+use Rattle.std.proofs.Common.{◌≡◌, ◌∙◌, List, [], ◌∷◌, ap, subst, sym}
+use Rattle.std.specs.Prelude.{Option}
+use Rattle.own_base.specs.declared.change.Change.{Change}
+use Rattle.own_model.specs.declared.history.Verdict.TheVariants.{Took}
+use Rattle.own_model.specs.declared.refusal.Refusal.{Refusal}
+use Rattle.commit_check.specs.Judged.{IsJudged}
+use Rattle.state_model.specs.CommitRefusal.{first_refusal}
+use Rattle.state_model.specs.Fault.{fault}
+use Rattle.state_model.specs.MayBePut.{MayBePut}
+use Rattle.state_model.specs.Put.{put}
+use Rattle.history_model.specs.Reply.{changes, committing}
+use Rattle.engine_core.specs.Answered.{Tells}
+use Rattle.engine_core.proofs.Commits.{one-alone}
+use Rattle.engine_core.proofs.Nets.{may-net}
+use Rattle.engine_core.proofs.commit.commit_alone.Goals as goal
+
+-- what refuses the state that the change leads to refuses it
+pub returns-in-Ok-clause-tells : goal.returns-in-Ok-clause-tells
+returns-in-Ok-clause-tells c =
+    let db = c.args.version.now in
+    let made = c.args.changes.now in
+    let after = put db made in
+    let one : c.in-Ok.change ∷ [] ≡ made = ap (λ (head : Change). head ∷ []) c.in-Ok.ensures ∙ one-alone made c.index-changes-0.result c.requires.one c.index-changes-0.is in
+    let judged = subst (λ (list : List Change). IsJudged (put db list) c.args.judged) (sym one) c.requires.judged in
+    let may = subst (MayBePut db.schema.tables) (sym one) (may-net db made c.requires.sound.well_formed.ordered c.requires.well_formed.ordered c.requires.net) in
+    let told = c.decided.ensures.tells db (changes db after) judged may in
+    let of_put =
+    subst (λ (list : List Change). Tells db (committing Took (changes db after) (first_refusal (fault (put db list)) c.cause_of-cause.result) c.args.reply) (put db list) c.decided.result)
+    one told in
+    subst (λ (cause : Option Refusal). Tells db (committing Took (changes db after) cause c.args.reply) after c.decided.result) c.cause_of-cause.ensures of_put
