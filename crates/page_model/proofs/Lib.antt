@@ -1,3 +1,4 @@
+pub mod BoundLemmas
 pub mod Ordered
 pub mod RisingLemmas
 pub mod PlaceLemmas

@@ -17,17 +17,17 @@ use Rattle.page_model.proofs.Ordered.{above_from_below, below_from_above, less_f
 use Rattle.page_model.proofs.RisingLemmas.{each_weaker, rising_behind, rising_tail}
 
 -- a part of a list that passes, by places and by recursion
-passing_front : {X : Type 0} (P : X → Type 0) (xs : List X) (i : ℕ) → i ≤ length xs → ((k : ℕ) (d : X) → 0 ≤ k → k < i → P (get_or xs k d)) → Each P (take i xs)
+pub passing_front : {X : Type 0} (P : X → Type 0) (xs : List X) (i : ℕ) → i ≤ length xs → ((k : ℕ) (d : X) → 0 ≤ k → k < i → P (get_or xs k d)) → Each P (take i xs)
 passing_front P xs i within passes =
     recursion_from_All P (take i xs) (λ k d h. let before : k < i = omega (arith, length-take-le i xs within) in subst P (sym (get_or-take i xs k d before)) (passes k d (omega arith) before))
 
-passing_back : {X : Type 0} (P : X → Type 0) (xs : List X) (i : ℕ) → ((k : ℕ) (d : X) → i ≤ k → k < length xs → P (get_or xs k d)) → Each P (drop i xs)
+pub passing_back : {X : Type 0} (P : X → Type 0) (xs : List X) (i : ℕ) → ((k : ℕ) (d : X) → i ≤ k → k < length xs → P (get_or xs k d)) → Each P (drop i xs)
 passing_back P xs i passes =
     recursion_from_All P (drop i xs) (λ k d h. subst P (sym (get_or-drop i xs k d)) (passes (i + k) d (omega arith) (omega (arith, length-drop i xs))))
 
 module _ {T K : Type 0} (key_of : T → K) {cmp : K → K → Ordering} (order : IsTotalOrder cmp) where
   -- an earlier item is below a later one
-  rising_places : (xs : List T) (i j : ℕ) (d : T) → i < j → j < length xs → IsRising key_of cmp xs → cmp (key_of (get_or xs i d)) (key_of (get_or xs j d)) ≡ Less
+  pub rising_places : (xs : List T) (i j : ℕ) (d : T) → i < j → j < length xs → IsRising key_of cmp xs → cmp (key_of (get_or xs i d)) (key_of (get_or xs j d)) ≡ Less
   rising_places [] i j d before within rising = absurd (omega arith)
   rising_places (x ∷ xs) zero zero d before within rising = absurd (omega arith)
   rising_places (x ∷ xs) zero (suc j) d before within rising = All-from_recursion _ xs (rising_behind key_of cmp x xs rising) j d (omega arith)

@@ -1,3 +1,4 @@
+pub mod Bound
 pub mod Changed
 pub mod ChangedPages
 pub mod Found

@@ -1,4 +1,5 @@
 mod AmongLemmas
+mod BelowLemmas
 mod ChangeLemmas
 mod InPlaceLemmas
 mod LikelyLemmas

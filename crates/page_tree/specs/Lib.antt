@@ -3,4 +3,5 @@ pub mod Branch
 pub mod Falls
 pub mod InPlace
 pub mod ItemsLeft
+pub mod NodeBelow
 pub mod NodeOf

@@ -1,7 +1,8 @@
-ghost use Rattle.std.specs.Prelude.{◌≡◌, Option};
+ghost use Rattle.std.specs.Prelude.{◌≡◌, Bool, Option};
 ghost use Rattle.std.specs.Cmp.{IsTotalOrder};
 ghost use Rattle.std.specs.Option.{option_copied};
 ghost use Rattle.std.specs.declared.cmp.Ordering.{Ordering as Order};
+ghost use Rattle.page_model.specs.Bound.{IsMonotone};
 
 use std::cmp::Ordering;
 
@@ -45,4 +46,18 @@ pub trait ChangeOf<T, K> {
     /// Lends the item that is put, None where the key's item is taken away.
     fn item(&self) -> Option<&T>
         ensures { option_copied result ≡ put self.now };
+}
+
+/// A bound among items whose keys rise: those of lower keys stand below it, and the others don't. It may be of another type
+/// than the key, and say less than a key does.
+pub trait BoundOf<T, By: KeyOf<T>> {
+    // Whether an item stands below the bound.
+    ghost below: { Self → By → T → Bool };
+
+    /// Whether an item stands below the bound.
+    fn is_above(&self, by: By, item: &T) -> bool
+        ensures { result ≡ below self.now by item.now };
+
+    // What has a lower key than an item below the bound stands below it too.
+    ghost monotone: { (bound : Self) (by : By) → IsMonotone (By.key_of by) By.key_cmp (below bound by) };
 }

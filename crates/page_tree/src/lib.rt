@@ -1,6 +1,7 @@
 //! An ordered sequence that lies in pages and shares them with what changes make of it.
 #![tactic(auto)]
 
+mod bound;
 mod build;
 mod change;
 mod hints;
@@ -16,5 +17,5 @@ mod pages;
 mod search;
 
 pub use items::Items;
-pub use key::{ChangeOf, KeyOf};
+pub use key::{BoundOf, ChangeOf, KeyOf};
 pub use pages::Pages;

@@ -1,5 +1,6 @@
-ghost use Rattle.std.specs.Prelude.{◌≡◌, [], ◌∷◌, IfOk, IfSome, MatchBool, OnErr, OnOk, length, slice_get};
+ghost use Rattle.std.specs.Prelude.{◌≡◌, [], ◌∷◌, IfOk, IfSome, MatchBool, OnErr, OnOk, filter, length, slice_get};
 ghost use Rattle.std.specs.Option.{option_copied};
+ghost use Rattle.page_model.specs.Bound.{Divides};
 ghost use Rattle.page_model.specs.Changed.{with_change, with_changes, AreKeyed};
 ghost use Rattle.page_model.specs.ChangedPages.{AddsChanged};
 ghost use Rattle.page_model.specs.Found.{found};
@@ -11,11 +12,12 @@ ghost use Rattle.page_model.specs.Run.{IsRunFrom};
 ghost use Rattle.page_tree.specs.Body.{pages_of, root_pages};
 ghost use Rattle.page_tree.specs.InPlace.{InPlace};
 
+use crate::bound::place_in;
 use crate::build::push_above;
 use crate::change::{change_node, fill};
 use crate::in_place::change_alone;
 use crate::items::Items;
-use crate::key::{ChangeOf, KeyOf};
+use crate::key::{BoundOf, ChangeOf, KeyOf};
 use crate::lent::Lent;
 use crate::node::Node;
 use crate::search::get_in;
@@ -95,6 +97,18 @@ impl<T, By: KeyOf<T>> Pages<T, By> {
         match &self.root {
             None => None,
             Some(root) => root.at(place),
+        }
+    }
+
+    /// How many items stand below a bound: the place from which on they don't. It is found on one path from the top.
+    /// Takes no memory.
+    pub fn place_of<B: BoundOf<T, By>>(&self, bound: &B) -> usize
+        ensures count { result ≡ length (filter (B.below bound.now self.now.by) (items self.now)) }
+        ensures divides { Divides (B.below bound.now self.now.by) (items self.now) result }
+    {
+        match &self.root {
+            None => 0,
+            Some(root) => place_in(self.by, root, bound),
         }
     }
 
