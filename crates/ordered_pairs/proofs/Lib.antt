@@ -1,0 +1,3 @@
+pub mod HasLemmas
+pub mod RangeLemmas
+pub mod RightsLemmas
