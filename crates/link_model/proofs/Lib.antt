@@ -1,1 +1,2 @@
 pub mod EdgeColumns
+pub mod HolderLemmas

@@ -58,8 +58,11 @@ impl<A: Ordered, B: Ordered> Pairs<A, B> {
 
     /// Where the pairs that have a value on the left begin, and where those behind them. Takes no memory.
     fn range(&self, left: &A) -> (usize, usize)
-        ensures { IsRangeOf A.order self.now left.now result.0 result.1 }
+        ensures range { IsRangeOf A.order self.now left.now result.0 result.1 }
+        ensures rising { IsRising (λ pair. pair) (pair_cmp A.order B.order) self.now }
     {
+        // By the clauses of `len` they rise.
+        let _pairs = self.len();
         let from = self.pages.place_of(&Before { left });
         let upto = self.pages.place_of(&Upto { left });
         (from, upto)
@@ -67,7 +70,8 @@ impl<A: Ordered, B: Ordered> Pairs<A, B> {
 
     /// How many values belong to one. Takes no memory.
     pub fn count(&self, left: &A) -> usize
-        ensures { result ≡ length (rights_of A.order self.now left.now) }
+        ensures count { result ≡ length (rights_of A.order self.now left.now) }
+        ensures rising { IsRising (λ pair. pair) (pair_cmp A.order B.order) self.now }
     {
         let (from, upto) = self.range(left);
         upto - from
@@ -77,7 +81,8 @@ impl<A: Ordered, B: Ordered> Pairs<A, B> {
     /// counted from 0: at least one where there is one, and none past the end. Called again behind each run, it goes over all
     /// of them. Takes no memory.
     pub fn run_from(&self, left: &A, place: usize) -> &[(A, B)]
-        ensures { IsRunFrom (rights_of A.order self.now left.now) place (map (λ pair. pair.1) result.now) }
+        ensures run { IsRunFrom (rights_of A.order self.now left.now) place (map (λ pair. pair.1) result.now) }
+        ensures rising { IsRising (λ pair. pair) (pair_cmp A.order B.order) self.now }
     {
         let (from, upto) = self.range(left);
         if upto - from <= place {

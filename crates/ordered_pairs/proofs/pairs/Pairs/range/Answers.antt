@@ -5,8 +5,8 @@ use Rattle.ordered_pairs.proofs.RangeLemmas.{range_between}
 use Rattle.ordered_pairs.proofs.pairs.Pairs.range.Goals as goal
 
 -- Between the places of the two bounds.
-pub returns : goal.returns
-returns g c =
+pub returns-clause-range : goal.returns-clause-range
+returns-clause-range g c =
     let left = g.A.Ordered.order in
     let from = c.place_of-from.result in
     let upto = c.place_of-upto.result in
