@@ -173,6 +173,15 @@ impl Name {
         Ok(Name { text })
     }
 
+    /// Holds the bytes of a string, which it takes over.
+    pub fn from_string(text: String) -> Result<Name, AllocError>
+        requires { IsName (string_bytes text) }
+        ensures { IfOk result (λ name. name ≡ string_bytes text) }
+    {
+        let text = Text::from_string(text)?;
+        Ok(Name { text })
+    }
+
     /// Lends the bytes. Takes no memory.
     pub fn bytes(&self) -> &[u8]
         ensures same { result.now ≡ self.now }

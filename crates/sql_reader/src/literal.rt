@@ -76,8 +76,8 @@ pub fn can_be_name(token: &Token) -> bool
 }
 
 /// A name in lower case.
-fn folded(alloc: Global, name: &str) -> Result<Name, RuleFault>
-    ensures { Judges (folded store_limits name.now) result }
+fn folded(name: String) -> Result<Name, RuleFault>
+    ensures { Judges (folded store_limits (string_bytes name)) result }
 {
     if !is_spelled(name.as_bytes()) {
         return Err(RuleFault::Syntax);
@@ -85,7 +85,7 @@ fn folded(alloc: Global, name: &str) -> Result<Name, RuleFault>
     if name.len() > NAME_BYTES {
         return Err(RuleFault::Limit(LimitName::Name));
     }
-    let name = Name::from_str(alloc, name)?;
+    let name = Name::from_string(name)?;
     Ok(name)
 }
 
@@ -96,7 +96,7 @@ pub fn name_of(alloc: Global, token: &Token) -> Result<Name, RuleFault>
     match token.kind {
         TokenKind::Name => {
             let lower = token.text.to_ascii_lowercase(alloc)?;
-            folded(alloc, lower.as_str())
+            folded(lower)
         }
         _ => Err(RuleFault::Syntax),
     }
