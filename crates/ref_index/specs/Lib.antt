@@ -1,0 +1,10 @@
+pub mod AddsColumns
+pub mod AddsTable
+pub mod AfterChanges
+pub mod Entries
+pub mod Halfway
+pub mod IndexOf
+pub mod Moved
+pub mod OneProof
+pub mod Stands
+pub mod Tells
