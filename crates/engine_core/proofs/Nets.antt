@@ -8,11 +8,11 @@ use Rattle.own_model.specs.declared.reply.Reply.{Reply}
 use Rattle.own_model.specs.declared.schema.TableDef.{TableDef}
 use Rattle.own_model.specs.Db.{AreRising, Db, IsOrdered, Row}
 use Rattle.page_model.specs.Changed.{with_changes}
-use Rattle.state_model.specs.MayBePut.{MayBePut}
+use Rattle.ref_index.specs.Tells.{Tell}
+use Rattle.ref_index.proofs.TellLemmas.{net_tells}
 use Rattle.state_model.specs.Net.{net}
 use Rattle.state_model.specs.Payload.{payload_bytes}
 use Rattle.state_model.specs.CommitRefusal.{commit_refusal}
-use Rattle.state_model.proofs.NetLeads.{net_may}
 use Rattle.state_model.specs.Put.{put, put_from}
 use Rattle.state_model.specs.Sound.{Sound}
 use Rattle.history_model.specs.Reply.{changes, committing, is_refusal}
@@ -31,9 +31,9 @@ pub none-of : (list : List Change) → (length list == 0) ≡ true → list ≡ 
 none-of [] is = refl
 none-of (change ∷ list) is = let never = eqb-true (length (change ∷ list)) 0 is in absurd (omega arith)
 
--- a net may be put
-pub may-net : (db : Db) (list : List Change) → IsOrdered db → IsOrdered (put db list) → list ≡ net db (put db list) → MayBePut db.schema.tables list
-may-net db list before after is = subst (MayBePut db.schema.tables) (sym is) (net_may db (put db list) before after refl)
+-- a net tells what stands
+pub tells-net : (db : Db) (list : List Change) → IsOrdered db → IsOrdered (put db list) → list ≡ net db (put db list) → Tell db list
+tells-net db list before after is = subst (Tell db) (sym is) (net_tells db (put db list) before after refl)
 
 module _ (db : Db) (sound : Sound db) where
   pub changed-none : put db [] ≡ db

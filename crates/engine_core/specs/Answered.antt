@@ -7,9 +7,9 @@ use Rattle.own_model.specs.declared.footprint.FootItem.{FootItem}
 use Rattle.own_model.specs.declared.history.Verdict.TheVariants.{Took}
 use Rattle.own_model.specs.declared.reply.Reply.{Reply}
 use Rattle.own_model.specs.declared.request.Request.{Request}
-use Rattle.own_model.specs.Db.{Db}
+use Rattle.own_model.specs.Db.{Db, IsOrdered}
 use Rattle.query_model.specs.Footprints.{footprint_of}
-use Rattle.state_model.specs.MayBePut.{MayBePut}
+use Rattle.ref_index.specs.Tells.{Tell}
 use Rattle.state_model.specs.Put.{put}
 use Rattle.state_model.specs.Weight.{weight}
 use Rattle.subject_model.specs.Forget.{changed, removed}
@@ -28,10 +28,10 @@ abbrev pub led_to : Db → Ahead → Db
 led_to db (Version next) = next
 led_to db (Change change) = put db (change ∷ [])
 
--- a change that is still to be made may be put
+-- a change that is still to be made tells what stands, and the rows are in their order
 abbrev pub MayBeMade : Db → Ahead → Type 0
 MayBeMade db (Version next) = Unit {0}
-MayBeMade db (Change change) = MayBePut db.schema.tables (change ∷ [])
+MayBeMade db (Change change) = Tell db (change ∷ []) × IsOrdered db
 
 -- the database that is left: what is prepared, where something is
 abbrev pub left : Db → Option Prepared → Db

@@ -1,3 +1,4 @@
+mod Indexed
 mod NamedRows
 mod OneChange
 mod PartsAfter

@@ -1,28 +1,37 @@
 ghost use Rattle.std.specs.Prelude.{◌≡◌, ◌<◌, ◌∷◌, [], length, IfOk, OnErr, OnOk};
 ghost use Rattle.own_model.specs.declared.limit.TheConstants.{VIEWS};
-ghost use Rattle.state_model.specs.MayBePut.{MayBePut};
+ghost use Rattle.own_model.specs.Db.{IsOrdered};
 ghost use Rattle.state_model.specs.Put.{put};
 ghost use Rattle.annot_schema.specs.Created.{IsAdmissible};
+ghost use Rattle.ref_index.specs.Tells.{Tell};
 ghost use Rattle.store_version.specs.Added.{db_viewed, db_with};
 
 use crate::after::{parts_after, parts_copied};
 use crate::version::{Next, Version};
 use annot_schema::Admitted;
-use own_base::{Change, Text};
+use own_base::{Change, MakeCopy, TableNo, Text};
 use own_model::ViewDef;
 use std::alloc::{AllocError, Global};
+use std::mem::drop;
+use std::slice;
 use std::sync::Arc;
 use table_part::TablePart;
 
-/// The version with changes of rows, which may come in any order. What each says was there before isn't looked at.
+/// The version with changes of rows, which may come in any order, each of which tells the row as it is.
 pub fn prepare(alloc: Global, version: &Version, changes: &[Change]) -> Result<Next, AllocError>
-    requires { MayBePut version.now.schema.tables changes.now }
+    requires tells { Tell version.now changes.now }
+    requires ordered { IsOrdered version.now }
     ensures { IfOk result (λ next. next ≡ put version.now changes.now) }
 {
     let parts = parts_after(alloc, &version.catalog, &version.parts, changes)?;
+    let index = version.index.with_changes(alloc, changes)?;
     let catalog = Arc::try_clone(&version.catalog)?;
     Ok(Next {
-        version: Version { catalog, parts },
+        version: Version {
+            catalog,
+            parts,
+            index,
+        },
     })
 }
 
@@ -33,16 +42,23 @@ pub fn prepare_table(
     admitted: Admitted,
     text: Text,
 ) -> Result<Next, AllocError>
-    requires { IsAdmissible version.now.schema admitted }
+    requires admissible { IsAdmissible version.now.schema admitted }
+    requires ordered { IsOrdered version.now }
     ensures { IfOk result (λ next. next ≡ db_with version.now admitted text) }
 {
+    let number = TableNo(version.catalog.schema().tables.items().len() as u32);
+    let index = version.index.with_table(alloc, number, &admitted.table)?;
     let part = TablePart::new(admitted.table.key);
     let catalog = version.catalog.with_table(alloc, admitted, text)?;
     let catalog = Arc::new(alloc, catalog)?;
     let mut parts = parts_copied(alloc, &version.parts)?;
     parts.push(part)?;
     Ok(Next {
-        version: Version { catalog, parts },
+        version: Version {
+            catalog,
+            parts,
+            index,
+        },
     })
 }
 
@@ -59,8 +75,13 @@ pub fn prepare_view(
     let catalog = version.catalog.with_view(alloc, definition, text)?;
     let catalog = Arc::new(alloc, catalog)?;
     let parts = parts_copied(alloc, &version.parts)?;
+    let index = version.index.copy(alloc)?;
     Ok(Next {
-        version: Version { catalog, parts },
+        version: Version {
+            catalog,
+            parts,
+            index,
+        },
     })
 }
 
@@ -71,16 +92,27 @@ pub fn publish(version: &mut Version, next: Next)
     *version = next.version;
 }
 
-/// Makes one change of a row in the version itself: in place, where nobody shares the rows that it falls among. What the
-/// change says was there before isn't looked at. After `AllocError` the version is as it was.
+/// Makes one change of a row, which tells the row as it is, in the version itself: in place, where nobody shares the rows
+/// that it falls among. After `AllocError` the version is as it was.
 pub fn publish_change(
     alloc: Global,
     version: &mut Version,
     change: &Change,
 ) -> Result<(), AllocError>
-    requires { MayBePut version.old.schema.tables (change.now ∷ []) }
+    requires tells { Tell version.old (change.now ∷ []) }
+    requires ordered { IsOrdered version.old }
     ensures changed { OnOk result (version.new ≡ put version.old (change.now ∷ [])) }
     ensures unchanged { OnErr result (version.new ≡ version.old) }
 {
-    version.parts[change.name.table.0 as usize].change(alloc, change)
+    let index = version.index.with_changes(alloc, slice::from_ref(change))?;
+    match version.parts[change.name.table.0 as usize].change(alloc, change) {
+        Ok(()) => {
+            version.index = index;
+            Ok(())
+        }
+        Err(refused) => {
+            drop(index);
+            Err(refused)
+        }
+    }
 }

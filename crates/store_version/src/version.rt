@@ -3,21 +3,25 @@ ghost use Rattle.std.specs.Option.{option_copied};
 ghost use Rattle.own_model.specs.Db.{empty};
 ghost use Rattle.own_model.specs.Stored.{IsRunFrom, row_named, rows_at};
 ghost use Rattle.owner_graph.specs.Graph.{IsGraphOf};
+ghost use Rattle.ref_index.specs.Stands.{Stands};
 
 use annot_schema::Catalog;
 use own_base::{Row, RowName, TableNo};
 use own_model::Schema;
 use owner_graph::Graph;
+use ref_index::RefIndex;
 use std::alloc::{AllocError, Global};
 use std::marker::Model;
 use std::sync::Arc;
 use table_part::TablePart;
 
-/// The state of a store, which contracts see as the database: a catalog and, for each table by its number, its rows.
+/// The state of a store, which contracts see as the database: a catalog, for each table by its number its rows, and the
+/// index of who holds what in its UNIQUE and referring columns.
 #[derive(Drop)]
 pub struct Version {
     pub(crate) catalog: Arc<Catalog, Global>,
     pub(crate) parts: Vec<TablePart>,
+    pub(crate) index: RefIndex,
 }
 
 impl Model for Version {
@@ -33,7 +37,9 @@ impl Model for Version {
 
     ghost view = { λ version. db_of version.catalog.value version.parts.items };
 
-    ghost invariant = { λ version. AreTheirParts version.catalog.value.schema.tables version.parts.items };
+    ghost use Rattle.ref_index.specs.Stands.{Stands};
+
+    ghost invariant = { λ version. AreTheirParts version.catalog.value.schema.tables version.parts.items × Stands (db_of version.catalog.value version.parts.items) version.index };
 }
 
 /// A version that is prepared, and may take the place of the one that it was prepared from.
@@ -63,6 +69,7 @@ impl Version {
         Ok(Version {
             catalog,
             parts: Vec::new(alloc),
+            index: RefIndex::new(alloc),
         })
     }
 
@@ -79,6 +86,13 @@ impl Version {
         ensures { IsGraphOf (length self.now.schema.tables) self.now.schema.edges result.now }
     {
         self.catalog.graph()
+    }
+
+    /// Lends the index of the rows. Takes no memory.
+    pub fn index(&self) -> &RefIndex
+        ensures { Stands self.now result.now }
+    {
+        &self.index
     }
 }
 

@@ -144,6 +144,18 @@ module _ (db : Db) (subject : RowName) where
         same_row : (one other : Row) → ◌≡◌ {A = Option Row} (Some one) (Some other) → one ≡ other
         same_row one other same = cc
 
+    -- each tells the row as it is
+    was_of : (number : ℕ) (table : TableDef) (place : ℕ) (row : Row) → slice_get db.schema.tables number ≡ Some table → slice_get (rows_at db.rows number) place ≡ Some row
+        → IfSome (erased db subject table (named_in number table row)) (λ change. change.before ≡ row_of db change.name)
+    was_of number table place row table_is row_is =
+        let named : NamedRow = named_in number table row in
+        let of : TableNo = record { 0 = number } in
+        let was : row_of db named.name ≡ Some row = row_of-standing db named.name place ordered (standing_at db of place table row table_is row_is) in
+        erased-has db subject (λ change. change.before ≡ row_of db change.name) table named (λ goes. sym was) (λ stay lose. sym was)
+
+    pub erasures-was : AllByRecursion (λ change. change.before ≡ row_of db change.name) (erasures db subject)
+    erasures-was = each_erasure db subject (λ change. change.before ≡ row_of db change.name) was_of
+
     losses : AllByRecursion (IsChangeOf db (forget db subject)) (filter leaves_row (erasures db subject))
     losses = each_passing (IsChangeOf db (forget db subject)) leaves_row (erasures db subject) (each_erasure db subject (λ change. leaves_row change ≡ true → IsChangeOf db (forget db subject) change) loss_of)
 

@@ -1,6 +1,8 @@
 ghost use Rattle.std.specs.Prelude.{◌≡◌, ◌++◌, IfOk, IsTrue, OnOk, Some, length, slice_get};
+ghost use Rattle.std.specs.List.{AllByRecursion};
 ghost use Rattle.std.specs.Option.{option_and_then, option_to_list};
 ghost use Rattle.own_model.specs.Stored.{rows_at};
+ghost use Rattle.owner_model.specs.Joins.{row_of};
 ghost use Rattle.state_model.specs.MayBePut.{MayBePut};
 ghost use Rattle.state_model.specs.Put.{put};
 ghost use Rattle.owner_graph.specs.Graph.{IsGraphOf};
@@ -179,6 +181,7 @@ pub fn erase_changes<V: StoreView>(
     requires rows { AreRowsOf (V.db view.now).schema.tables (V.db view.now).rows }
     requires subject { IsTrue (is_subject (V.db view.now).schema subject.now.0.table.0) }
     requires graph { IsGraphOf (length (V.db view.now).schema.tables) (V.db view.now).schema.edges graph.now }
+    ensures was { IfOk result (AllByRecursion (λ change. change.before ≡ row_of (V.db view.now) change.name)) }
     ensures may { IfOk result (MayBePut (V.db view.now).schema.tables) }
     ensures put { IfOk result (λ changes. put (V.db view.now) changes ≡ forget (V.db view.now) subject.now.0) }
     ensures plan { IfOk result (λ changes. IsPlan (V.db view.now) subject.now.0 (plan_of changes)) }

@@ -6,12 +6,12 @@ use Rattle.own_model.specs.declared.refusal.Refusal.{Refusal}
 use Rattle.commit_check.specs.Judged.{IsJudged}
 use Rattle.state_model.specs.CommitRefusal.{first_refusal}
 use Rattle.state_model.specs.Fault.{fault}
-use Rattle.state_model.specs.MayBePut.{MayBePut}
+use Rattle.ref_index.specs.Tells.{Tell}
 use Rattle.state_model.specs.Put.{put}
 use Rattle.history_model.specs.Reply.{changes, committing}
 use Rattle.engine_core.specs.Answered.{Tells}
 use Rattle.engine_core.proofs.Commits.{one-alone}
-use Rattle.engine_core.proofs.Nets.{may-net}
+use Rattle.engine_core.proofs.Nets.{tells-net}
 use Rattle.engine_core.proofs.commit.commit_alone.Goals as goal
 
 -- what refuses the state that the change leads to refuses it
@@ -22,8 +22,9 @@ returns-in-Ok-clause-tells c =
     let after = put db made in
     let one : c.in-Ok.change ∷ [] ≡ made = ap (λ (head : Change). head ∷ []) c.in-Ok.ensures ∙ one-alone made c.index-changes-0.result c.requires.one c.index-changes-0.is in
     let judged = subst (λ (list : List Change). IsJudged (put db list) c.args.judged) (sym one) c.requires.judged in
-    let may = subst (MayBePut db.schema.tables) (sym one) (may-net db made c.requires.sound.well_formed.ordered c.requires.well_formed.ordered c.requires.net) in
-    let told = c.decided.ensures.tells db (changes db after) judged may in
+    let ordered = c.requires.sound.well_formed.ordered in
+    let tells = subst (Tell db) (sym one) (tells-net db made ordered c.requires.well_formed.ordered c.requires.net) in
+    let told = c.decided.ensures.tells db (changes db after) judged (tells, ordered) in
     let of_put =
     subst (λ (list : List Change). Tells db (committing Took (changes db after) (first_refusal (fault (put db list)) c.cause_of-cause.result) c.args.reply) (put db list) c.decided.result)
     one told in

@@ -8,13 +8,15 @@ use Rattle.state_model.specs.Fault.{fault}
 use Rattle.state_model.specs.Put.{put}
 use Rattle.history_model.specs.Reply.{changes, committing}
 use Rattle.engine_core.specs.Answered.{Tells}
-use Rattle.engine_core.proofs.Nets.{may-net}
+use Rattle.engine_core.proofs.Nets.{tells-net}
 use Rattle.engine_core.proofs.commit.commit_beside.Goals as goal
 
--- a net may be put
+-- a net tells what stands
 pub prepare-requires : goal.prepare-requires
-prepare-requires c =
-    may-net c.args.version.now c.args.changes.now c.requires.sound.well_formed.ordered c.requires.well_formed.ordered c.requires.net
+prepare-requires c = record {
+  tells = tells-net c.args.version.now c.args.changes.now c.requires.sound.well_formed.ordered c.requires.well_formed.ordered c.requires.net;
+  ordered = c.requires.sound.well_formed.ordered;
+}
 
 -- what refuses the next version refuses the changes that lead to it
 pub returns-in-Ok-clause-tells : goal.returns-in-Ok-clause-tells

@@ -11,7 +11,10 @@ pub erase_changes-requires-clause-owner : goal.erase_changes-requires-clause-own
 erase_changes-requires-clause-owner c = owner_schema-created c.args.version.now c.requires.sound.well_formed.created
 
 pub prepare-requires : goal.prepare-requires
-prepare-requires c = rw c.items-2.ensures c.in_ok-changes.ensures.may
+prepare-requires c = record {
+  tells = rw c.items-2.ensures (record { was = c.in_ok-changes.ensures.was; may = c.in_ok-changes.ensures.may });
+  ordered = c.requires.sound.well_formed.ordered;
+}
 
 pub forgotten-reply-requires : goal.forgotten-reply-requires
 forgotten-reply-requires c =

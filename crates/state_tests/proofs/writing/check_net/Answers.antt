@@ -1,10 +1,13 @@
 use Rattle.std.proofs.Common.{subst}
 use Rattle.state_model.specs.Sound.{IsWellFormed}
-use Rattle.engine_core.proofs.Nets.{may-net}
+use Rattle.engine_core.proofs.Nets.{tells-net}
 use Rattle.state_tests.proofs.writing.check_net.Goals as goal
 
--- the net of a write may be put
+-- the net of a write tells what stands
 pub prepare-requires : goal.prepare-requires
 prepare-requires g c =
     let after = subst IsWellFormed c.written-changes.ensures.left c.requires.well_formed in
-    rw c.items.ensures (may-net c.args.version.now c.written-changes.result c.requires.sound.well_formed.ordered after.ordered c.written-changes.ensures.net)
+    record {
+      tells = rw c.items.ensures (tells-net c.args.version.now c.written-changes.result c.requires.sound.well_formed.ordered after.ordered c.written-changes.ensures.net);
+      ordered = c.requires.sound.well_formed.ordered;
+    }

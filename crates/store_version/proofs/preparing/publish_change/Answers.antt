@@ -1,32 +1,31 @@
-use Rattle.std.proofs.Common.{◌∙◌, [], ◌∷◌, ap}
-use Rattle.own_model.specs.Db.{Db}
-use Rattle.state_model.specs.Put.{put}
-use Rattle.store_version.proofs.OneChange.{is-there, keyed-there, on-ok, parts-changed, put-one}
+use Rattle.std.proofs.Common.{sym, subst}
+use Rattle.ref_index.specs.Stands.{Stands}
+use Rattle.ref_index.specs.Tells.{Tell}
+use Rattle.store_version.proofs.Indexed.{version-changed}
+use Rattle.store_version.proofs.OneChange.{keyed-there, parts-changed}
 use Rattle.store_version.proofs.preparing.publish_change.Goals as goal
 
 pub change-requires : goal.change-requires
 change-requires c =
-    keyed-there c.version.inside.catalog.value.schema.tables c.version.inside.parts.items c.args.change.now c.index_mut.result.now c.version.invariant
-    (rw (← c.version.view_is) at c.requires.theirs.0) c.index_mut.ensures.value
+    keyed-there c.version.inside.catalog.value.schema.tables c.version.inside.parts.items c.args.change.now c.index_mut.result.now c.version.invariant.0
+    (rw (← c.version.view_is) at c.requires.tells.may.theirs.0) c.index_mut.ensures.value
 
+-- the parts stay those of the tables, and the index is that of the rows with the change
 pub invariant_of-version : goal.invariant_of-version
 invariant_of-version c =
-    parts-changed c.version.inside.catalog.value.schema.tables c.version.inside.parts.items c.args.change.now c.index_mut.result.now c.change.new.self c.version.invariant
-    (rw (← c.version.view_is) at c.requires.theirs.0) c.index_mut.ensures.value c.change.ensures.key
+    let may = rw (← c.version.view_is) at c.requires.tells.may.theirs.0 in
+    let catalog = c.version.inside.catalog.value in
+    let parts = c.version.inside.parts.items in
+    let stands = subst (λ db. Stands db c.version.inside.index) c.version.view_is c.version.invariant.1 in
+    let is = version-changed catalog parts c.args.change.now c.index_mut.result.now c.change.new.self c.args.version.now c.version.invariant.0 may c.index_mut.ensures.value c.in-Ok.ensures.rows c.version.view_is in (
+      parts-changed catalog.schema.tables parts c.args.change.now c.index_mut.result.now c.change.new.self c.version.invariant.0 may c.index_mut.ensures.value c.in-Ok.ensures.key,
+      subst (λ db. Stands db c.in_ok-index.index) (sym is)
+          (rw c.from_ref.ensures.value at
+          (c.in_ok-index.ensures c.args.version.now c.requires.ordered stands (subst (Tell c.args.version.now) (sym c.from_ref.ensures.value) c.requires.tells))),
+    )
 
 -- the rows of its table alone have the change
-pub returns-clause-changed : goal.returns-clause-changed
-returns-clause-changed c =
-    let tables = c.version.inside.catalog.value.schema.tables in
-    let parts = c.version.inside.parts.items in
-    let may = rw (← c.version.view_is) at c.requires.theirs.0 in
-    on-ok c.change.result
-    (λ rows.
-    (λ i. record {
-      creates = c.version.inside.catalog.value.creates;
-      schema = c.version.inside.catalog.value.schema;
-      rows = put-one tables parts c.args.change.now c.index_mut.result.now c.change.new.self c.version.invariant
-          (is-there tables parts c.args.change.now c.version.invariant may) c.index_mut.ensures.value rows i;
-    })
-    ∙ ap (λ (db : Db). put db (c.args.change.now ∷ [])) c.version.view_is)
-    c.change.ensures.rows
+pub returns-in-Ok-clause-changed : goal.returns-in-Ok-clause-changed
+returns-in-Ok-clause-changed c =
+    version-changed c.version.inside.catalog.value c.version.inside.parts.items c.args.change.now c.index_mut.result.now c.change.new.self c.args.version.now c.version.invariant.0
+    (rw (← c.version.view_is) at c.requires.tells.may.theirs.0) c.index_mut.ensures.value c.in-Ok.ensures.rows c.version.view_is

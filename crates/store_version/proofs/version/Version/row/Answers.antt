@@ -7,4 +7,4 @@ use Rattle.store_version.proofs.version.Version.row.Goals as goal
 pub returns : goal.returns
 returns c =
     let within = subst (λ (db : Db). c.args.name.now.table.0 < length db.schema.tables) (sym c.self.view_is) c.requires in
-    c.get.ensures ∙ (row-named c.self.inside.catalog.value.schema c.self.inside.parts.items c.args.name.now c.index.result.now c.self.invariant within c.index.ensures ∙ ap (λ db. row_named db.schema db.rows c.args.name.now) c.self.view_is)
+    c.get.ensures ∙ (row-named c.self.inside.catalog.value.schema c.self.inside.parts.items c.args.name.now c.index.result.now c.self.invariant.0 within c.index.ensures ∙ ap (λ db. row_named db.schema db.rows c.args.name.now) c.self.view_is)
