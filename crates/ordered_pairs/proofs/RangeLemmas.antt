@@ -1,13 +1,18 @@
 -- The pairs of a value between two places.
-use Rattle.std.proofs.Common.{◌≡◌, refl, sym, ◌∙◌, ap, List, [], ◌∷◌, ◌++◌, ℕ, zero, suc, ◌+◌, ◌-◌, ◌<◌, ◌≤◌, length, take, drop, map, inl, inr, length-drop, length-take-le, arith}
-use Rattle.std.specs.Prelude.{◌⊎◌, Bool, true, false, not, ◌&&◌, filter}
+use Rattle.std.proofs.Common.{◌≡◌, refl, sym, ◌∙◌, ap, subst, List, [], ◌∷◌, ◌++◌, ℕ, zero, suc, ◌+◌, ◌-◌, ◌<◌, ◌≤◌, length, take, drop, map, inl, inr, length-drop, length-take-le, arith}
+use Rattle.std.specs.Prelude.{◌⊎◌, Bool, true, false, cond, not, ◌&&◌, filter}
+use Rattle.std.specs.List.{AllByRecursion as Each}
 use Rattle.std.specs.Ordering.{is_eq, is_gt, is_lt}
 use Rattle.std.specs.declared.cmp.Ordering.{Ordering}
 use Rattle.std.specs.declared.cmp.Ordering.TheVariants.{Less, Equal, Greater}
+use Prim.Native.Nat.{min}
+use Rattle.std.proofs.lemmas.Bool.{cases_lt}
 use Rattle.std.proofs.lemmas.List.{length-map, take_all}
 use Rattle.page_model.specs.Bound.{Divides}
 use Rattle.page_model.specs.Run.{IsRunFrom}
 use Rattle.page_model.proofs.BoundLemmas.{between_are}
+use Rattle.page_model.proofs.Ordered.{equal_from}
+use Rattle.page_model.proofs.RisingLemmas.{each_front, each_weaker}
 use Rattle.ordered_pairs.specs.LeftBound.{is_before, is_upto}
 use Rattle.ordered_pairs.specs.RangeOf.{IsRangeOf}
 use Rattle.ordered_pairs.specs.RightsOf.{rights_of}
@@ -89,6 +94,35 @@ drop_twice {X} n (suc m) [] = none n ∙ ap (λ k. drop k []) (let same : suc (m
     none (suc k) = refl
 drop_twice n (suc m) (x ∷ xs) = drop_twice n m xs ∙ ap (λ k. drop k (x ∷ xs)) (let same : suc (m + n) ≡ suc m + n = omega arith in same)
 
+-- the lesser of two is one of them
+lesser : (a b count : ℕ) → count ≡ min a b → ((count ≡ a) × (a ≤ b)) ⊎ ((count ≡ b) × (b ≤ a))
+lesser a b count is = elim (cases_lt a b) [ inl less ↦ inl (omega (arith, is), omega arith) | inr more ↦ inr (omega (arith, is), more) ]
+
+-- what a run of a list is of what is made of each, and what holds in it
+run_map : {X Y : Type 0} (f : X → Y) (xs : List X) (place : ℕ) (run : List X) → IsRunFrom xs place run → IsRunFrom (map f xs) place (map f run)
+run_map f xs place run is = record {
+  rest = map f is.rest;
+  follow = drop_map f place xs ∙ (ap (map f) is.follow ∙ map_append f run is.rest);
+  some = λ within. let there = is.some (omega (arith, length-map xs f)) in omega (arith, there, length-map run f);
+}
+
+each_drop : {X : Type 0} (P : X → Type 0) (n : ℕ) (xs : List X) → Each P xs → Each P (drop n xs)
+each_drop P zero xs all = all
+each_drop P (suc n) [] all = tt
+each_drop P (suc n) (x ∷ xs) all = each_drop P n xs all.1
+
+each_run : {X : Type 0} (P : X → Type 0) (xs : List X) (place : ℕ) (run : List X) → Each P xs → IsRunFrom xs place run → Each P run
+each_run P xs place run all is = each_front P run is.rest (subst (Each P) is.follow (each_drop P place xs all))
+
+-- all that a filter leaves passes
+each_passes : {X : Type 0} (p : X → Bool) (xs : List X) → Each (λ x. p x ≡ true) (filter p xs)
+each_passes p [] = tt
+each_passes p (x ∷ xs) = by (p x) refl (each_passes p xs)
+  where
+    by : (b : Bool) → p x ≡ b → Each (λ x. p x ≡ true) (filter p xs) → Each (λ x. p x ≡ true) (cond b (x ∷ filter p xs) (filter p xs))
+    by true is more = (is, more)
+    by false is more = more
+
 module _ {A B : Type 0} (left : A → A → Ordering) (pairs : List (A × B)) (one : A) (from upto : ℕ) (range : IsRangeOf left pairs one from upto) where
   -- how many there are
   pub rights_length : length (rights_of left pairs one) ≡ upto - from
@@ -102,12 +136,10 @@ module _ {A B : Type 0} (left : A → A → Ordering) (pairs : List (A × B)) (o
   unfolding rights_of
   run_past place past = record { rest = drop place (rights_of left pairs one); follow = refl; some = λ within. absurd (let long = rights_length in omega arith) }
 
-  -- and what of a run of pairs belongs to the value
-  pub run_within : (place : ℕ) (run : List (A × B)) (count : ℕ) → place < upto - from → IsRunFrom pairs (from + place) run → ((count ≡ length run) × (length run ≤ upto - from - place)) ⊎ ((count ≡ upto - from - place) × (upto - from - place ≤ length run))
-      → IsRunFrom (rights_of left pairs one) place (map (λ pair. pair.1) (take count run))
-  unfolding rights_of
-  run_within place run count within is least =
-      let value : A × B → B = λ pair. pair.1 in
+  -- and what of a run of pairs has the value
+  run_of_pairs : (place : ℕ) (run : List (A × B)) (count : ℕ) → place < upto - from → IsRunFrom pairs (from + place) run → ((count ≡ length run) × (length run ≤ upto - from - place)) ⊎ ((count ≡ upto - from - place) × (upto - from - place ≤ length run))
+      → IsRunFrom (filter (λ pair. is_eq (left pair.0 one)) pairs) place (take count run)
+  run_of_pairs place run count within is least =
       let left_over = upto - from - place in
       let begin = from + place in
       let all : upto ≡ begin + left_over = omega (arith, range.begins) in
@@ -117,12 +149,22 @@ module _ {A B : Type 0} (left : A → A → Ordering) (pairs : List (A × B)) (o
         | inr part ↦ ap (λ n. take n run) (sym part.0)
       ] in
       let fits : count ≤ length run = elim least [ inl whole ↦ omega (arith, whole.0) | inr part ↦ omega (arith, part.0, part.1) ] in
-      let counted : length (map value (take count run)) ≡ count = length-map (take count run) value ∙ length-take-le count run fits in
+      let counted : length (take count run) ≡ count = length-take-le count run fits in
       record {
-        rest = map value parts.0;
-        follow = ap (λ xs. drop place (map value xs)) range.are
-            ∙ (drop_map value place (drop from (take upto pairs))
-            ∙ (ap (map value) (drop_twice place from (take upto pairs) ∙ (ap (λ n. drop begin (take n pairs)) all ∙ (drop_take begin left_over pairs ∙ (ap (take left_over) is.follow ∙ parts.1))))
-            ∙ (map_append value (take left_over run) parts.0 ∙ ap (λ xs. map value xs ++ map value parts.0) same)));
+        rest = parts.0;
+        follow = ap (drop place) range.are
+            ∙ (drop_twice place from (take upto pairs) ∙ (ap (λ n. drop begin (take n pairs)) all ∙ (drop_take begin left_over pairs ∙ (ap (take left_over) is.follow ∙ (parts.1 ∙ ap (λ xs. xs ++ parts.0) same)))));
         some = λ _. let there : 0 < length run = is.some (omega (arith, range.ends)) in elim least [ inl whole ↦ omega (arith, whole.0) | inr part ↦ omega (arith, part.0) ];
       }
+
+  pub run_within : (place : ℕ) (run : List (A × B)) (count : ℕ) → place < upto - from → IsRunFrom pairs (from + place) run → count ≡ min (length run) (upto - from - place)
+      → IsRunFrom (rights_of left pairs one) place (map (λ pair. pair.1) (take count run))
+  unfolding rights_of
+  run_within place run count within is least = run_map (λ (pair : A × B). pair.1) (filter (λ pair. is_eq (left pair.0 one)) pairs) place (take count run) (run_of_pairs place run count within is (lesser (length run) (upto - from - place) count least))
+
+  pub run_left : (exact : (one other : A) → left one other ≡ Equal → one ≡ other) (place : ℕ) (run : List (A × B)) (count : ℕ) → place < upto - from → IsRunFrom pairs (from + place) run
+      → count ≡ min (length run) (upto - from - place) → Each (λ pair. pair.0 ≡ one) (take count run)
+  run_left exact place run count within is least =
+      let has : A × B → Bool = λ pair. is_eq (left pair.0 one) in
+      each_weaker _ _ (λ pair passes. exact pair.0 one (equal_from _ passes)) (take count run)
+      (each_run (λ pair. has pair ≡ true) (filter has pairs) place (take count run) (each_passes has pairs) (run_of_pairs place run count within is (lesser (length run) (upto - from - place) count least)))

@@ -1,4 +1,5 @@
 ghost use Rattle.std.specs.Prelude.{◌≡◌, [], true, false, IfOk, OnErr, OnOk, length, map};
+ghost use Rattle.std.specs.List.{AllByRecursion};
 ghost use Rattle.page_model.specs.Rising.{IsRising};
 ghost use Rattle.page_model.specs.Run.{IsRunFrom};
 ghost use Rattle.ordered_pairs.specs.Has.{has, Sets};
@@ -81,6 +82,7 @@ impl<A: Ordered, B: Ordered> Pairs<A, B> {
     /// counted from 0: at least one where there is one, and none past the end. Called again behind each run, it goes over all
     /// of them. Takes no memory.
     pub fn run_from(&self, left: &A, place: usize) -> &[(A, B)]
+        ensures left { AllByRecursion (λ pair. pair.0 ≡ left.now) result.now }
         ensures run { IsRunFrom (rights_of A.order self.now left.now) place (map (λ pair. pair.1) result.now) }
         ensures rising { IsRising (λ pair. pair) (pair_cmp A.order B.order) self.now }
     {

@@ -143,7 +143,8 @@ impl RefIndex {
     /// A run of the entries of those rows, each the value and a row's key, from a place of the list of their rising keys on:
     /// at least one where there is one. Takes no memory.
     pub fn holders_from(&self, table: TableNo, column: ColNo, value: &Key, at: u64) -> &[(Key, Key)]
-        ensures { (db : Db) → IsOrdered db → Stands db self.now → IsTrue (is_indexed_at db.schema table.0 column.0) → IsRunFrom (holders_at db table.0 column.0 value.now) at (map (λ entry. entry.1) result.now) }
+        ensures values { AllByRecursion (λ entry. entry.0 ≡ value.now) result.now }
+        ensures run { (db : Db) → IsOrdered db → Stands db self.now → IsTrue (is_indexed_at db.schema table.0 column.0) → IsRunFrom (holders_at db table.0 column.0 value.now) at (map (λ entry. entry.1) result.now) }
     {
         match self.column(table, column) {
             Some(one) => one.pairs.run_from(value, at as usize),
