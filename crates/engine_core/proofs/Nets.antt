@@ -10,7 +10,9 @@ use Rattle.own_model.specs.Db.{AreRising, Db, IsOrdered, Row}
 use Rattle.page_model.specs.Changed.{with_changes}
 use Rattle.ref_index.specs.Tells.{Tell}
 use Rattle.ref_index.proofs.TellLemmas.{net_tells}
+use Rattle.state_model.specs.LeadTo.{LeadTo}
 use Rattle.state_model.specs.Net.{net}
+use Rattle.state_model.proofs.NetLeads.{net_leads}
 use Rattle.state_model.specs.Payload.{payload_bytes}
 use Rattle.state_model.specs.CommitRefusal.{commit_refusal}
 use Rattle.state_model.specs.Put.{put, put_from}
@@ -30,6 +32,12 @@ put-none number (table ∷ tables) (first ∷ rest) rising = ap (λ rest. first 
 pub none-of : (list : List Change) → (length list == 0) ≡ true → list ≡ []
 none-of [] is = refl
 none-of (change ∷ list) is = let never = eqb-true (length (change ∷ list)) 0 is in absurd (omega arith)
+
+-- a net leads to what it is put into
+pub lead-net : (db next : Db) (list : List Change) → IsOrdered db → IsOrdered next → next ≡ put db list → list ≡ net db (put db list) → LeadTo db next list
+lead-net db next list before after next_is is =
+    let rises = subst IsOrdered next_is after in
+    subst (λ next. LeadTo db next list) (sym next_is) (subst (LeadTo db (put db list)) (sym is) (net_leads db (put db list) before rises refl))
 
 -- a net tells what stands
 pub tells-net : (db : Db) (list : List Change) → IsOrdered db → IsOrdered (put db list) → list ≡ net db (put db list) → Tell db list

@@ -1,4 +1,4 @@
-ghost use Rattle.std.specs.Prelude.{◌≡◌, ◌≢◌, [], Bool, false, length, None, IfOk, IfSome, OnErr};
+ghost use Rattle.std.specs.Prelude.{◌≡◌, ◌≢◌, [], Bool, false, length, None, IfOk, IfSome, IsTrue, OnErr};
 ghost use Rattle.own_model.specs.declared.history.Verdict.TheVariants.{Took};
 ghost use Rattle.own_model.specs.Db.{Db};
 ghost use Rattle.state_model.specs.Fault.{fault};
@@ -10,20 +10,23 @@ ghost use Rattle.state_model.specs.Sound.{IsWellFormed, Sound};
 ghost use Rattle.state_model.specs.Weight.{weight};
 ghost use Rattle.commit_check.specs.Judged.{IsJudged};
 ghost use Rattle.payload_size.specs.SoundNet.{IsSoundNet};
+ghost use Rattle.unlinked_check.specs.Edgeless.{are_edgeless};
 ghost use Rattle.history_model.specs.Reply as spec_of;
 ghost use Rattle.history_model.specs.Reply.{committing};
 ghost use Rattle.engine_core.specs.Answered.{led_to, MayBeMade, Tells};
 
 use crate::answer::Answer;
 use crate::prepared::{Ahead, Prepared};
+use change_check::{first_reference_fault_by, first_unique_fault_by};
 use commit_check::{Judged, judge, weigh};
 use own_base::{Change, List, MakeCopy};
 use own_model::{PAYLOAD_BYTES, Refusal, Reply};
 use payload_size::payload_size;
+use ref_index::WithIndex;
 use std::alloc::{AllocError, Global};
 use std::mem::drop;
 use store_version::{Next, Shown, Version, prepare};
-use unlinked_check::{are_unlinked, judge_change, judge_unlinked};
+use unlinked_check::{are_edgeless, are_unlinked, judge_change, judge_edgeless};
 
 /// What is judged of a next version as a whole.
 fn judged(alloc: Global, next: &Next) -> Result<Judged, AllocError>
@@ -46,7 +49,41 @@ pub(crate) fn weighed(alloc: Global, next: &Next) -> Result<Judged, AllocError>
     Ok(Judged::Weighs(weighs))
 }
 
-/// What is judged of it, where changes lead to it. Where nothing is linked with their tables, no row but theirs is looked at.
+/// What is judged of it, where changes of tables at which there is no edge lead to it: by the rows that changed, and by who
+/// holds their values or refers to them.
+fn judged_edgeless(
+    alloc: Global,
+    version: &Version,
+    weighs: u64,
+    next: &Next,
+    changes: &[Change],
+) -> Result<Judged, AllocError>
+    requires sound { Sound version.now }
+    requires weighs { weight version.now ≡ weighs }
+    requires net { changes.now ≡ net version.now (put version.now changes.now) }
+    requires well_formed { IsWellFormed next.now }
+    requires next { next.now ≡ put version.now changes.now }
+    requires edgeless { IsTrue (are_edgeless version.now.schema changes.now) }
+    ensures { IfOk result (IsJudged next.now) }
+{
+    let left = Shown {
+        version: next.version(),
+    };
+    let linked = WithIndex::new(&left, next.version().index());
+    let unique = first_unique_fault_by(alloc, &linked, changes)?;
+    match first_reference_fault_by(alloc, &linked, changes) {
+        Ok(reference) => {
+            let before = Shown { version };
+            Ok(judge_edgeless(&before, &left, weighs, changes, unique, reference))
+        }
+        Err(refused) => {
+            drop(unique);
+            Err(refused)
+        }
+    }
+}
+
+/// What is judged of it, where changes lead to it. Where there is no edge at their tables, no other rows are gone over.
 fn judged_by(
     alloc: Global,
     version: &Version,
@@ -61,12 +98,8 @@ fn judged_by(
     requires next { next.now ≡ put version.now changes.now }
     ensures { IfOk result (IsJudged next.now) }
 {
-    if are_unlinked(version.schema(), changes) {
-        let before = Shown { version };
-        let left = Shown {
-            version: next.version(),
-        };
-        Ok(judge_unlinked(&before, &left, weighs, changes))
+    if are_edgeless(version.schema(), changes) {
+        judged_edgeless(alloc, version, weighs, next, changes)
     } else {
         judged(alloc, next)
     }
