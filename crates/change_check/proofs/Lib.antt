@@ -1,0 +1,7 @@
+pub mod CellOrderLemmas
+pub mod LeastLemmas
+pub mod LeastFault
+pub mod HeldLemmas
+pub mod SharedLemmas
+pub mod CameLemmas
+pub mod UniqueCaught

@@ -1,0 +1,7 @@
+pub mod CellOrder
+pub mod Rule
+pub mod Least
+pub mod Came
+pub mod Holders
+pub mod Shared
+pub mod Referring
