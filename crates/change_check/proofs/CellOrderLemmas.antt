@@ -1,16 +1,20 @@
 -- The order of cells is total.
-use Rattle.std.proofs.Common.{◌≡◌, ap, ◌∙◌, refl}
+use Rattle.std.proofs.Common.{◌≡◌, ℕ, ◌<◌, ap, ◌∙◌, refl}
 use Rattle.std.specs.Prelude.{true, false}
 use Rattle.std.specs.Cmp.{IsTotalOrder}
 use Rattle.std.specs.Ordering.{is_gt, ordering_reverse}
 use Rattle.std.specs.declared.cmp.Ordering.{Ordering}
 use Rattle.std.specs.declared.cmp.Ordering.TheVariants.{Less, Equal, Greater}
+use Rattle.std.proofs.lemmas.Bool.{lt-ltb}
 use Rattle.std.proofs.lemmas.Cmp.{nat_cmp_total, on_total, then_total, tied_itself, upto}
+use Rattle.own_base.specs.Key.{key_cmp}
 use Rattle.own_base.specs.declared.row_name.RowName.{RowName}
+use Rattle.own_base.specs.declared.value.Key.{Key}
 use Rattle.own_model.proofs.KeyOrder.{key_order}
 use Rattle.subject_model.specs.NameOrder.{name_cmp}
+use Rattle.subject_model.proofs.NameOrderLemmas.{key_first, lower_first}
 use Rattle.change_check.specs.declared.cell_name.CellName.{CellName}
-use Rattle.change_check.specs.CellOrder.{cell_cmp, is_behind}
+use Rattle.change_check.specs.CellOrder.{cell_at, cell_cmp, is_behind}
 
 name_order : IsTotalOrder name_cmp
 name_order = then_total (on_total (λ (name : RowName). name.table.0) nat_cmp_total) (on_total (λ (name : RowName). name.key) key_order)
@@ -42,3 +46,17 @@ behind_before one other is = ap is_gt (cell_order.antisymm other one ∙ ap orde
 -- one that isn't behind a cell that isn't behind another isn't behind that
 pub not_behind_both : (one two three : CellName) → is_behind one two ≡ false → is_behind two three ≡ false → is_behind one three ≡ false
 not_behind_both one two three first second = upto cell_order one two three first second
+
+-- of two cells of one table the one with the lower key comes first
+pub key_before : (table column other : ℕ) (key greater : Key) → key_cmp key greater ≡ Less → cell_cmp (cell_at table column key) (cell_at table other greater) ≡ Less
+key_before table column other key greater below =
+    rw (key_first (record { table = record { 0 = table }; key = key }) (record { table = record { 0 = table }; key = greater }) refl below) refl
+
+-- of two tables the lower
+pub table_before : (table greater column other : ℕ) (key another : Key) → table < greater → cell_cmp (cell_at table column key) (cell_at greater other another) ≡ Less
+table_before table greater column other key another below =
+    rw (lower_first (record { table = record { 0 = table }; key = key }) (record { table = record { 0 = greater }; key = another }) below) refl
+
+-- and of two columns of a row
+pub column_before : (table column other : ℕ) (key : Key) → column < other → cell_cmp (cell_at table column key) (cell_at table other key) ≡ Less
+column_before table column other key below = rw (tied_itself nat_cmp_total table, tied_itself key_order key, lt-ltb column other below) refl

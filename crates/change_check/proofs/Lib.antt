@@ -1,7 +1,13 @@
 pub mod CellOrderLemmas
 pub mod LeastLemmas
+pub mod BrokenCells
 pub mod LeastFault
 pub mod HeldLemmas
-pub mod SharedLemmas
+pub mod HolderRows
 pub mod CameLemmas
+pub mod SharedLemmas
 pub mod UniqueCaught
+pub mod LinkLemmas
+pub mod DanglingLemmas
+pub mod ReferringLemmas
+pub mod ReferenceCaught

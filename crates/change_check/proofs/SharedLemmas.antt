@@ -1,92 +1,38 @@
 -- The first of those who hold what a row came to hold in a UNIQUE column.
-use Rattle.std.proofs.Common.{◌≡◌, ℕ, ◌+◌, ◌<◌, List, [], ◌∷◌, length, map, Bool, true, false, ◌&&◌, cond, not, inl, inr, refl, ap, sym, ◌∙◌, subst, arith}
-use Rattle.std.specs.Prelude.{Contains, IfSome, Option, None, Some, filter, nat_lt, slice_get}
+use Rattle.std.proofs.Common.{◌≡◌, ℕ, ◌+◌, ◌<◌, List, [], ◌∷◌, length, Bool, true, false, ◌&&◌, cond, not, inl, inr, refl, ap, sym, ◌∙◌, subst, arith}
+use Rattle.std.specs.Prelude.{Contains, IfSome, Option, None, Some, nat_lt, slice_get}
 use Rattle.std.specs.List.Sorted.{IsStrictlySortedBy}
 use Rattle.std.specs.Option.{option_and_then, option_map_or}
-use Rattle.std.specs.declared.cmp.Ordering.TheVariants.{Less}
 use Rattle.std.proofs.lemmas.Bool.{and_parts, cases_lt, lt-ltb}
-use Rattle.std.proofs.lemmas.Option.{get_or_from_slice_get, slice_get_read, slice_get_within}
+use Rattle.std.proofs.lemmas.Option.{get_or_from_slice_get, slice_get_within}
 use Rattle.own_base.specs.Key.{key_cmp}
 use Rattle.own_base.specs.declared.change.Change.{Change}
 use Rattle.own_base.specs.declared.value.Key.{Key}
-use Rattle.own_base.specs.declared.value.Value.{Value}
-use Rattle.own_base.specs.declared.value.Value.TheVariants.{Null, Int, Text, Sum}
 use Rattle.own_model.specs.declared.schema.Column.{Column}
 use Rattle.own_model.specs.declared.schema.TableDef.{TableDef}
 use Rattle.own_model.specs.Db.{Db, IsOrdered, IsRising, Row, key_of}
 use Rattle.own_model.specs.Stored.{rows_at}
 use Rattle.owner_model.specs.Joins.{row_of}
-use Rattle.query_model.specs.Footprints.{literal_key}
 use Rattle.query_model.specs.Truth.{cell, is_null}
 use Rattle.schema_model.proofs.Places.{place-lt}
 use Rattle.owner_sets.proofs.Searched.{rising_at}
-use Rattle.subject_model.proofs.Members.{all_contained, contains_cases, contains_filter, contains_here, contains_map, contains_of_filter, contains_of_map}
+use Rattle.subject_model.proofs.Members.{contains_here}
 use Rattle.state_model.specs.Fault.{breaks_unique, is_shared}
 use Rattle.state_model.proofs.FaultLemmas.{column_value}
 use Rattle.state_model.proofs.NetRows.{named_at}
 use Rattle.link_model.specs.Holds.{holders, holders_at, holds}
-use Rattle.link_model.proofs.HolderLemmas.{holders_rise, itself}
 use Rattle.change_check.specs.declared.cell_name.CellName.{CellName}
 use Rattle.change_check.specs.declared.refusing.Rule.TheVariants.{Unique}
-use Rattle.change_check.specs.CellOrder.{cell_at, is_behind}
+use Rattle.change_check.specs.CellOrder.{cell_at}
 use Rattle.change_check.specs.Holders.{first_of_many}
 use Rattle.change_check.specs.Least.{IsFurther, is_reached, lower}
 use Rattle.change_check.specs.Came.{came}
 use Rattle.change_check.specs.Rule.{breaks_at, breaks_by}
 use Rattle.change_check.specs.Shared.{HoldsWhatCame, shared_by}
-use Rattle.change_check.proofs.CellOrderLemmas.{before_not_behind, behind_itself}
 use Rattle.change_check.proofs.HeldLemmas.{holds_key, shared_held}
-use Rattle.change_check.proofs.LeastFault.{FoundAt, breaks-broken, broken, found_at, key_before, named_place}
+use Rattle.change_check.proofs.BrokenCells.{FoundAt, breaks-broken, broken, found_at, named_place}
+use Rattle.change_check.proofs.HolderRows.{first_not_behind, holder_row, holders_in, key_some, row_holder, sorted_holders}
 use Rattle.change_check.proofs.LeastLemmas.{further_lower, further_then, reached_lower, still_lower}
-
--- a row that holds a value, at its place
-pub record HoldsAt (table : TableDef) (rows : List Row) (column : ℕ) (value key : Key) : Type 0 where
-  pub place : ℕ
-  pub row : Row
-  pub place_is : slice_get rows place ≡ Some row
-  pub key_is : key_of table row ≡ key
-  pub holds : holds column value row ≡ true
-
--- one of the holders is one
-pub holder_row : (table : TableDef) (rows : List Row) (column : ℕ) (value key : Key) → Contains (holders table rows column value) key → HoldsAt table rows column value key
-holder_row table rows column value key among =
-    let (row, kept, key_is) = contains_of_map (key_of table) (filter (holds column value) rows) key among in
-    let own = contains_of_filter (holds column value) rows row kept in
-    let (place, within, at) = own.0 in
-    record { place = place; row = row; place_is = slice_get_read rows _ place row refl within (sym at); key_is = key_is; holds = own.1 }
-
--- and it is one of them
-pub row_holder : (table : TableDef) (rows : List Row) (column : ℕ) (value : Key) (row : Row) → Contains rows row → holds column value row ≡ true
-    → Contains (holders table rows column value) (key_of table row)
-row_holder table rows column value row among is =
-    contains_map (key_of table) (filter (holds column value) rows) row (contains_filter (holds column value) rows row among is)
-
--- what is held is not NULL
-pub key_some : (value : Value) (key : Key) → literal_key value ≡ Some key → is_null value ≡ false
-key_some Null key is = let never : ◌≡◌ {A = Option Key} None (Some key) = is in cc
-key_some (Int number) key is = refl
-key_some (Text bytes) key is = refl
-key_some (Sum number) key is = refl
-
--- the holders in a database are those in the table
-pub holders_in : (db : Db) (number column : ℕ) (value : Key) (table : TableDef) → slice_get db.schema.tables number ≡ Some table
-    → holders_at db number column value ≡ holders table (rows_at db.rows number) column value
-unfolding holders_at
-holders_in db number column value table is = rw is refl
-
--- the first of them comes before the others
-pub first_not_behind : (number column : ℕ) (first key : Key) (keys : List Key) → IsStrictlySortedBy key_cmp (first ∷ keys) → Contains (first ∷ keys) key
-    → is_behind (cell_at number column first) (cell_at number column key) ≡ false
-unfolding IsStrictlySortedBy
-first_not_behind number column first key keys rising among = elim (contains_cases first keys key among) [
-  | inl same ↦ subst (λ k. is_behind (cell_at number column first) (cell_at number column k) ≡ false) same (behind_itself (cell_at number column first))
-  | inr later ↦ before_not_behind (cell_at number column first) (cell_at number column key)
-      (key_before number column column first key (all_contained (λ k. key_cmp first k ≡ Less) keys key rising.0 later))
-]
-
-map_same : (keys : List Key) → map itself keys ≡ keys
-map_same [] = refl
-map_same (key ∷ keys) = ap (λ rest. key ∷ rest) (map_same keys)
 
 module _ (db : Db) (ordered : IsOrdered db) (change : Change) (table : TableDef) (table_is : slice_get db.schema.tables change.name.table.0 ≡ Some table)
     (number : ℕ) (column : Column) (column_is : slice_get table.columns number ≡ Some column) where
@@ -135,9 +81,6 @@ module _ (db : Db) (ordered : IsOrdered db) (change : Change) (table : TableDef)
   two_keys value key found (first ∷ other ∷ more) sorted among many =
       reached_lower (cell_at change.name.table.0 number first) (cell_at change.name.table.0 number key) found (first_not_behind change.name.table.0 number first key (other ∷ more) sorted among)
 
-  holders_sorted : (value : Key) → IsStrictlySortedBy key_cmp (holders table rows number value)
-  holders_sorted value = subst (IsStrictlySortedBy key_cmp) (map_same (holders table rows number value)) (holders_rise table number value rows rising)
-
   what_came : (value : Key) → column.unique ≡ true → came number change ≡ Some value → shared_by db change number column ≡ first_of_many change.name.table.0 number (holders table rows number value)
   what_came value unique is = by column.unique (came number change) unique is
     where
@@ -173,7 +116,7 @@ module _ (db : Db) (ordered : IsOrdered db) (change : Change) (table : TableDef)
       let among = row_holder table rows number value it.row
       (at.place, slice_get_within rows at.place it.row at.place_is, get_or_from_slice_get rows at.place it.row it.row at.place_is) holding in
       subst (λ shared. is_reached (lower shared found) name ≡ true) (sym (what_came value unique held.came))
-      (two_keys value key found (holders table rows number value) (holders_sorted value) (subst (Contains (holders table rows number value)) at.key_is among) many)
+      (two_keys value key found (holders table rows number value) (sorted_holders table rows number value rising) (subst (Contains (holders table rows number value)) at.key_is among) many)
 
   -- and it reaches each that breaks it by what the row of the change came to hold
   pub shared_reaches : (found : Option CellName) (name : CellName) → name.column.0 ≡ number → HoldsWhatCame db change name → test name ≡ true

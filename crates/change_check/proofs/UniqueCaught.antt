@@ -37,8 +37,9 @@ use Rattle.change_check.specs.Rule.{breaks_at, breaks_by, refusal_at, refused_by
 use Rattle.change_check.specs.Shared.{HoldsWhatCame}
 use Rattle.change_check.proofs.CameLemmas.{CameBy, held_or_came}
 use Rattle.change_check.proofs.HeldLemmas.{holds_key, key_holds, same_holds}
-use Rattle.change_check.proofs.LeastFault.{breaks-broken, broken, first_of_least, found_at, named_place, none_broken}
-use Rattle.change_check.proofs.SharedLemmas.{key_some}
+use Rattle.change_check.proofs.BrokenCells.{breaks-broken, broken, found_at, named_place}
+use Rattle.change_check.proofs.LeastFault.{first_of_least, none_broken}
+use Rattle.change_check.proofs.HolderRows.{key_some, some_holding}
 
 -- what stands in a row of a table and isn't NULL has a key
 kind_key : (kind : Kind) (value : Value) → IsOfKind kind value → is_null value ≡ false → (own : Key) × (literal_key value ≡ Some own)
@@ -60,11 +61,6 @@ contains_place xs x (place, within, at) = (place, slice_get_read xs _ place x re
 
 place_contains : {X : Type 0} (xs : List X) (place : ℕ) (x : X) → slice_get xs place ≡ Some x → Contains xs x
 place_contains xs place x is = (place, slice_get_within xs place x is, get_or_from_slice_get xs place x x is)
-
--- a row that is there and holds a value
-pub some_holding : (column : ℕ) (value : Key) (o : Option Row) → option_map_or (holds column value) o false ≡ true → (row : Row) × (o ≡ Some row) × (holds column value row ≡ true)
-some_holding column value None is = let never : false ≡ true = is in cc
-some_holding column value (Some row) is = (row, refl, is)
 
 -- in a table, two rows of which neither is the other, that hold one value in a UNIQUE column
 two_share : (db : Db) (name : CellName) (other : Key) (table : TableDef) (column : Column) (value : Key) (one two : Row) → IsOrdered db → slice_get db.schema.tables name.row.table.0 ≡ Some table

@@ -4,4 +4,5 @@ pub mod Least
 pub mod Came
 pub mod Holders
 pub mod Shared
+pub mod Dangling
 pub mod Referring

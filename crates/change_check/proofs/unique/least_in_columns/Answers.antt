@@ -20,7 +20,7 @@ loop-at-preserved g c =
     let is : slice_get definition.columns c.loop-at.at ≡ Some column =
     subst (λ columns. slice_get columns c.loop-at.at ≡ Some column) c.items-column-items.ensures
     (slice_get_read c.items-column-items.result.now _ c.loop-at.at column refl c.loop-at-test.true c.column-item.is) in
-    let next : lower (shared_by db change c.loop-at.at column) found ≡ c.lower-least.result = sym (c.lower-least.ensures ∙ ap (λ (shared : Option CellName). lower shared found) c.in_ok-shared.ensures) in
+    let next : lower (shared_by db change c.loop-at.at column) found ≡ c.lower-least.result = sym (c.lower-least.ensures ∙ ap (λ (shared : Option CellName). lower shared found) {y = shared_by db change c.loop-at.at column} c.in_ok-shared.ensures) in
     let test = breaks_at (breaks_by Unique db) db in
     record {
       further = subst (IsFurther test c.args.found) next (further_column db ordered change definition c.requires.there c.loop-at.at column is c.args.found found c.loop-at.invariant.further);
