@@ -1,10 +1,13 @@
+pub mod SameElsewhere
+pub mod EdgeLemmas
 pub mod LinkLemmas
-pub mod LinkedRows
+pub mod EdgeRows
 pub mod LoneRows
 pub mod RowBound
 pub mod RowSums
 pub mod TableLeads
 pub mod TableSums
 pub mod WeightLemmas
+pub mod OwnersLeft
 pub mod FaultsLeft
 pub mod Judgement

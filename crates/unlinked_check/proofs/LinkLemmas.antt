@@ -1,52 +1,37 @@
 -- What links a table, and what one has with which nothing is linked.
-use Rattle.std.proofs.Common.{◌≡◌, ℕ, Bool, true, false, not, refl, sym, ap, ◌∙◌, eq-eqb}
+use Rattle.std.proofs.Common.{◌≡◌, ℕ, Bool, true, false, not, refl, sym, ap, ◌∙◌, eq-eqb, List}
 use Rattle.std.specs.Prelude.{◌&&◌, ◌==◌, Contains, Option, None, Some, is_some, slice_get}
 use Rattle.std.specs.List.{list_any}
 use Rattle.std.specs.Option.{option_map_or}
-use Rattle.std.proofs.lemmas.Bool.{or_left, or_right}
+use Rattle.std.proofs.lemmas.Bool.{or_left, or_right, and_parts}
 use Rattle.own_base.specs.declared.number.TableNo.{TableNo}
+use Rattle.own_base.specs.declared.change.Change.{Change}
 use Rattle.own_model.specs.declared.schema.Column.{Column}
-use Rattle.own_model.specs.declared.schema.Edge.{Edge}
 use Rattle.own_model.specs.declared.schema.RefKind.{RefKind}
 use Rattle.own_model.specs.declared.schema.Schema.{Schema}
 use Rattle.own_model.specs.declared.schema.TableDef.{TableDef}
-use Rattle.subject_model.proofs.Members.{any_contained}
-use Rattle.unlinked_check.specs.Unlinked.{is_linking, is_unlinked, links, refers_to, table_refers, touches}
+use Rattle.page_model.proofs.RisingLemmas.{each_weaker}
+use Rattle.subject_model.proofs.Members.{any_contained, all_passes, passes_all}
+use Rattle.unlinked_check.specs.Unlinked.{is_linking, is_unlinked, links, refers_to, table_refers, are_unlinked}
+use Rattle.unlinked_check.specs.Edgeless.{are_edgeless, is_edgeless}
 
--- one of three causes is enough
-first_cause : (a b c : Bool) → a ≡ true → ((not a && not b) && not c) ≡ false
+-- one of the causes is enough
+first_cause : (a b c : Bool) → a ≡ true → ((not a && not b) && c) ≡ false
 first_cause a b c is = rw is refl
 
-second_cause : (a b c : Bool) → b ≡ true → ((not a && not b) && not c) ≡ false
+second_cause : (a b c : Bool) → b ≡ true → ((not a && not b) && c) ≡ false
 second_cause true b c is = refl
 second_cause false b c is = rw is refl
 
-third_cause : (a b c : Bool) → c ≡ true → ((not a && not b) && not c) ≡ false
-third_cause true b c is = refl
-third_cause false true c is = refl
-third_cause false false c is = rw is refl
-
 module _ (schema : Schema) where
-  -- the tables of an edge are linked
-  touched : (number : ℕ) (edge : Edge) → Contains schema.edges edge → touches number edge ≡ true → is_unlinked schema number ≡ false
-  unfolding is_unlinked
-  touched number edge among is =
-      third_cause (links schema number) (list_any (table_refers number) schema.tables) (list_any (touches number) schema.edges) (any_contained (touches number) schema.edges edge among is)
-
-  pub lower-linked : (edge : Edge) → Contains schema.edges edge → is_unlinked schema edge.lower.0 ≡ false
-  lower-linked edge among = touched edge.lower.0 edge among (or_left _ _ (eq-eqb edge.lower.0 edge.lower.0 refl))
-
-  pub upper-linked : (edge : Edge) → Contains schema.edges edge → is_unlinked schema edge.upper.0 ≡ false
-  upper-linked edge among = touched edge.upper.0 edge among (or_right _ _ (eq-eqb edge.upper.0 edge.upper.0 refl))
-
-  -- so is one that a column refers to
+  -- a table that a column refers to is linked
   pub referred-linked : (table : TableDef) (column : Column) (link : RefKind × TableNo) → Contains schema.tables table → Contains table.columns column → column.refers ≡ Some link
       → is_unlinked schema link.1.0 ≡ false
   unfolding is_unlinked
   referred-linked table column link there among is =
       let here : refers_to link.1.0 column ≡ true = ap (λ found. option_map_or (λ (l : RefKind × TableNo). l.1.0 == link.1.0) found false) is ∙ eq-eqb link.1.0 link.1.0 refl in
       let own : table_refers link.1.0 table ≡ true = any_contained (refers_to link.1.0) table.columns column among here in
-      second_cause (links schema link.1.0) (list_any (table_refers link.1.0) schema.tables) (list_any (touches link.1.0) schema.edges) (any_contained (table_refers link.1.0) schema.tables table there own)
+      second_cause (links schema link.1.0) (list_any (table_refers link.1.0) schema.tables) (is_edgeless schema link.1.0) (any_contained (table_refers link.1.0) schema.tables table there own)
 
   -- and one with a column that links it
   linking-linked : (number : ℕ) (table : TableDef) (column : Column) → slice_get schema.tables number ≡ Some table → Contains table.columns column → is_linking column ≡ true
@@ -54,7 +39,7 @@ module _ (schema : Schema) where
   unfolding is_unlinked
   linking-linked number table column is among linking =
       let own : links schema number ≡ true = ap (λ found. option_map_or (λ (t : TableDef). list_any is_linking t.columns) found false) is ∙ any_contained is_linking table.columns column among linking in
-      first_cause (links schema number) (list_any (table_refers number) schema.tables) (list_any (touches number) schema.edges) own
+      first_cause (links schema number) (list_any (table_refers number) schema.tables) (is_edgeless schema number) own
 
   free_step : (unlinked : Bool) (b : Bool) → unlinked ≡ true → (b ≡ true → unlinked ≡ false) → b ≡ false
   free_step unlinked true is linked = let never : true ≡ false = sym is ∙ linked refl in cc
@@ -74,3 +59,14 @@ module _ (schema : Schema) where
       → column.refers ≡ None
   lone-refers number table column lone is among =
       none_step column.refers (free_step (is_unlinked schema number) (is_some column.refers) lone (λ refers. linking-linked number table column is among (or_right column.unique (is_some column.refers) refers)))
+
+  -- and no edge is at it: an unlinked table is edgeless
+  pub unlinked-edgeless : (number : ℕ) → is_unlinked schema number ≡ true → is_edgeless schema number ≡ true
+  unfolding is_unlinked
+  unlinked-edgeless number lone = (and_parts (not (links schema number) && not (list_any (table_refers number) schema.tables)) (is_edgeless schema number) lone).1
+
+  -- so are the tables of changes
+  pub all-edgeless : (changes : List Change) → are_unlinked schema changes ≡ true → are_edgeless schema changes ≡ true
+  all-edgeless changes lone =
+      passes_all (λ change. is_edgeless schema change.name.table.0) changes
+      (each_weaker _ _ (λ change. unlinked-edgeless change.name.table.0) changes (all_passes (λ change. is_unlinked schema change.name.table.0) changes lone))

@@ -1,4 +1,4 @@
--- A row of a table with which nothing is linked weighs its size.
+-- A row of a table at which no edge is weighs its size.
 use Rattle.std.proofs.Common.{◌≡◌, ℕ, zero, suc, ◌≤◌, List, [], ◌∷◌, length, Bool, true, false, not, refl, sym, subst, ◌∙◌, arith}
 use Rattle.std.specs.Prelude.{◌&&◌, Contains, sum_by}
 use Rattle.std.specs.List.Sorted.{IsStrictlySortedBy}
@@ -24,8 +24,8 @@ use Rattle.subject_model.proofs.OwnerLemmas.{from_owns, owns_from, reaches_from}
 use Rattle.subject_model.proofs.OwnerLists.{owners_rise}
 use Rattle.state_model.specs.Weight.{at_least_one, row_weight, seers}
 use Rattle.state_model.proofs.Counts.{none-counted}
-use Rattle.unlinked_check.specs.Unlinked.{is_unlinked}
-use Rattle.unlinked_check.proofs.LinkLemmas.{lower-linked}
+use Rattle.unlinked_check.specs.Edgeless.{is_edgeless}
+use Rattle.unlinked_check.proofs.EdgeLemmas.{lower-edged}
 
 -- a name is no lower than itself
 not_below : (name : RowName) → name_cmp name name ≡ Less → ⊥
@@ -45,12 +45,12 @@ one_at_most (first ∷ second ∷ names) one rise each =
     absurd (not_below one below)
 
 module _ (db : Db) (ordered : IsOrdered db) (owner : IsOwnerSchema db.schema) where
-  module _ (name : RowName) (lone : is_unlinked db.schema name.table.0 ≡ true) where
+  module _ (name : RowName) (lone : is_edgeless db.schema name.table.0 ≡ true) where
     -- no edge joins it to a row
     no_joins : (edge : Edge) (upper : RowName) → Joins db name edge upper → ⊥
     no_joins edge upper joins =
-        let linked : is_unlinked db.schema name.table.0 ≡ false = subst (λ (t : TableNo). is_unlinked db.schema t.0 ≡ false) (sym joins.of_lower) (lower-linked db.schema edge joins.among) in
-        let never : true ≡ false = sym lone ∙ linked in cc
+        let edged : is_edgeless db.schema name.table.0 ≡ false = subst (λ (t : TableNo). is_edgeless db.schema t.0 ≡ false) (sym joins.of_lower) (lower-edged db.schema edge joins.among) in
+        let never : true ≡ false = sym lone ∙ edged in cc
 
     -- so a path has no step
     own_path : (path : Path) (subject : RowName) → IsPath db name path subject → (path ≡ []) × (name ≡ subject)
@@ -94,7 +94,7 @@ module _ (db : Db) (ordered : IsOrdered db) (owner : IsOwnerSchema db.schema) wh
         rw (owned, seen) (omega arith)
 
   -- the rows of such a table weigh their sizes
-  pub lone_table : (number : ℕ) (table : TableDef) (rows : List Row) → is_unlinked db.schema number ≡ true → sum_by (row_weight db) (rows_in number table rows) ≡ sum_by row_size rows
+  pub lone_table : (number : ℕ) (table : TableDef) (rows : List Row) → is_edgeless db.schema number ≡ true → sum_by (row_weight db) (rows_in number table rows) ≡ sum_by row_size rows
   lone_table number table [] lone = refl
   lone_table number table (row ∷ rows) lone =
       let named : NamedRow = record { name = name_of number table row; row = row } in

@@ -1,19 +1,15 @@
--- What a database weighs after changes of tables with which nothing is linked.
-use Rattle.std.proofs.Common.{◌≡◌, ℕ, zero, suc, ◌+◌, List, [], ◌∷◌, Bool, true, false, refl, sym, ap, ◌∙◌, subst, arith}
+-- What a database weighs after changes of tables at which no edge is.
+use Rattle.std.proofs.Common.{◌≡◌, ℕ, ◌+◌, List, [], ◌∷◌, Bool, true, false, refl, ap, arith}
 use Rattle.std.specs.Prelude.{Option, None, Some, sum_by}
-use Rattle.std.specs.List.{AllByRecursion as Each}
 use Rattle.std.proofs.lemmas.List.Sums.{sum_by-append, sum_by-cons}
 use Rattle.own_base.specs.Row.{row_size}
 use Rattle.own_base.specs.declared.change.Change.{Change}
 use Rattle.own_base.specs.declared.row.TheConstants.{ROW_SIZE}
 use Rattle.own_model.specs.declared.bound.Source1.{Source1}
 use Rattle.own_model.specs.declared.bound.Source1.TheVariants.{Table, View, Pair}
-use Rattle.own_model.specs.declared.schema.Schema.{Schema}
 use Rattle.own_model.specs.declared.schema.TableDef.{TableDef}
 use Rattle.own_model.specs.declared.schema.ViewDef.{ViewDef}
 use Rattle.own_model.specs.Db.{Db, IsOrdered, Row}
-use Rattle.own_model.specs.Stored.{rows_at}
-use Rattle.page_model.specs.Changed.{with_changes}
 use Rattle.page_model.proofs.RisingLemmas.{each_back, each_front}
 use Rattle.schema_model.specs.OwnerSchema.{IsOwnerSchema}
 use Rattle.subject_model.specs.Named.{NamedRow, name_of, rows_from, rows_in}
@@ -21,87 +17,42 @@ use Rattle.state_model.specs.Net.{net_from, net_in}
 use Rattle.state_model.specs.Put.{row_after}
 use Rattle.state_model.specs.Weight.{item_size, row_weight, view_weight, weight}
 use Rattle.unlinked_check.specs.NetWeight.{shown_size, weight_come, weight_gone}
-use Rattle.unlinked_check.specs.Unlinked.{is_unlinked}
-use Rattle.unlinked_check.proofs.LinkedRows.{AreSameElsewhere, same_weight, under}
+use Rattle.unlinked_check.specs.Edgeless.{is_edgeless}
 use Rattle.unlinked_check.proofs.LoneRows.{lone_table}
 use Rattle.unlinked_check.proofs.RowSums.{Exchanged, counted, each_all, exchanged_as, exchanged_both, sum_by-both, sum_by-none}
-use Rattle.unlinked_check.proofs.TableLeads.{IsChangeIn, Leads, LeadsFrom, net-changes}
+use Rattle.unlinked_check.proofs.TableLeads.{Leads, LeadsFrom}
 use Rattle.unlinked_check.proofs.TableSums.{only-sum, row_before, sum_after, sum_before, table-sum}
+use Rattle.unlinked_check.proofs.EdgeRows.{same_weight}
+use Rattle.unlinked_check.proofs.SameElsewhere.{AreSameElsewhere, AreWithin, net_other, rows_other, same-elsewhere, under}
 
--- changes of tables with which nothing is linked
-abbrev pub AreLone : Schema → List Change → Type 0
-AreLone schema changes = Each (λ change. is_unlinked schema change.name.table.0 ≡ true) changes
-
-module _ (schema : Schema) where
-  none_linked : (number : ℕ) (table : TableDef) (before after : List Row) (changes : List Change) → is_unlinked schema number ≡ false → Each (IsChangeIn number table before after) changes → AreLone schema changes
-      → changes ≡ []
-  none_linked number table before after [] linked are lone = refl
-  none_linked number table before after (change ∷ changes) linked are lone =
-      let own : is_unlinked schema number ≡ true = subst (λ n. is_unlinked schema n ≡ true) are.0.of lone.0 in
-      let never : true ≡ false = sym own ∙ linked in absurd (cc)
-
-  -- a table that is linked has no change
-  net_linked : (number : ℕ) (table : TableDef) (before after : List Row) → is_unlinked schema number ≡ false → AreLone schema (net_in number table before after) → net_in number table before after ≡ []
-  net_linked number table before after linked lone = none_linked number table before after _ linked (net-changes number table before after) lone
-
-  -- so its rows are the same
-  rows_linked : (number : ℕ) (table : TableDef) (before after : List Row) → Leads number table before after → is_unlinked schema number ≡ false → AreLone schema (net_in number table before after) → before ≡ after
-  unfolding with_changes
-  rows_linked number table before after leads linked lone =
-      let none = net_linked number table before after linked lone in
-      rw none at leads.applied
-
-  same_from : (number place : ℕ) (tables : List TableDef) (befores afters : List (List Row)) → LeadsFrom number tables befores afters → AreLone schema (net_from number tables befores afters)
-      → is_unlinked schema (number + place) ≡ false → rows_at befores place ≡ rows_at afters place
-  unfolding net_from
-  same_from number place [] [] [] leads lone linked = refl
-  same_from number place [] [] (after ∷ afters) leads lone linked = absurd leads
-  same_from number place [] (before ∷ befores) afters leads lone linked = absurd leads
-  same_from number place (table ∷ tables) [] afters leads lone linked = absurd leads
-  same_from number place (table ∷ tables) (before ∷ befores) [] leads lone linked = absurd leads
-  same_from number zero (table ∷ tables) (before ∷ befores) (after ∷ afters) leads lone linked =
-      let n : number + zero ≡ number = omega arith in
-      rows_linked number table before after leads.0 (subst (λ n. is_unlinked schema n ≡ false) n linked) (each_front _ (net_in number table before after) (net_from (number + 1) tables befores afters) lone)
-  same_from number (suc place) (table ∷ tables) (before ∷ befores) (after ∷ afters) leads lone linked =
-      let n : number + suc place ≡ number + 1 + place = omega arith in
-      same_from (number + 1) place tables befores afters leads.1 (each_back _ (net_in number table before after) (net_from (number + 1) tables befores afters) lone)
-      (subst (λ n. is_unlinked schema n ≡ false) n linked)
-
-  pub same-elsewhere : (befores afters : List (List Row)) → LeadsFrom 0 schema.tables befores afters → AreLone schema (net_from 0 schema.tables befores afters) → AreSameElsewhere schema befores afters
-  same-elsewhere befores afters leads lone = record {
-    same = λ number linked.
-        let n : number ≡ 0 + number = omega arith in
-        same_from 0 number schema.tables befores afters leads lone (subst (λ n. is_unlinked schema n ≡ false) n linked);
-  }
-
-module _ (db next : Db) (owner : IsOwnerSchema db.schema) (before : IsOrdered db) (after : IsOrdered (under db next)) (are : AreSameElsewhere db.schema db.rows next.rows) where
-  -- the rows of a table that is linked weigh what they weighed
-  linked_table : (number : ℕ) (table : TableDef) (own : List Row) → is_unlinked db.schema number ≡ false
+module _ (db next : Db) (owner : IsOwnerSchema db.schema) (before : IsOrdered db) (after : IsOrdered (under db next)) (are : AreSameElsewhere (is_edgeless db.schema) db.rows next.rows) where
+  -- the rows of a table at which an edge is weigh what they weighed
+  edged_table : (number : ℕ) (table : TableDef) (own : List Row) → is_edgeless db.schema number ≡ false
       → sum_by (row_weight db) (rows_in number table own) ≡ sum_by (row_weight (under db next)) (rows_in number table own)
-  linked_table number table [] linked = refl
-  linked_table number table (row ∷ own) linked =
+  edged_table number table [] edged = refl
+  edged_table number table (row ∷ own) edged =
       let named : NamedRow = record { name = name_of number table row; row = row } in
-      let first = same_weight db next are owner before after (name_of number table row) linked row in
-      let later = linked_table number table own linked in
+      let first = same_weight db next are owner before after (name_of number table row) edged row in
+      let later = edged_table number table own edged in
       let one = sum_by-cons (row_weight db) named (rows_in number table own) in
       let other = sum_by-cons (row_weight (under db next)) named (rows_in number table own) in
       omega arith
 
-  table_step : (number : ℕ) (table : TableDef) (own new : List Row) → Leads number table own new → AreLone db.schema (net_in number table own new) → (lone : Bool) → is_unlinked db.schema number ≡ lone
+  table_step : (number : ℕ) (table : TableDef) (own new : List Row) → Leads number table own new → AreWithin (is_edgeless db.schema) (net_in number table own new) → (lone : Bool) → is_edgeless db.schema number ≡ lone
       → Exchanged (sum_by (row_weight db) (rows_in number table own)) (sum_by (row_weight (under db next)) (rows_in number table new))
       (sum_before row_size (net_in number table own new)) (sum_after row_size (net_in number table own new))
   table_step number table own new leads changes true lone =
       exchanged_as _ _ _ _ _ _ _ _ (table-sum row_size number table own new leads) (lone_table db before owner number table own lone)
       (lone_table (under db next) after owner number table new lone) refl refl
-  table_step number table own new leads changes false linked =
-      let none = net_linked db.schema number table own new linked changes in
-      let same : own ≡ new = rows_linked db.schema number table own new leads linked changes in
-      let kept = linked_table number table own linked in
+  table_step number table own new leads changes false edged =
+      let none = net_other (is_edgeless db.schema) number table own new edged changes in
+      let same : own ≡ new = rows_other (is_edgeless db.schema) number table own new leads edged changes in
+      let kept = edged_table number table own edged in
       let moved = ap (λ some. sum_by (row_weight (under db next)) (rows_in number table some)) same in
       record { kept = sum_by (row_weight db) (rows_in number table own); was = rw none (omega arith); is = rw none (omega arith) }
 
   -- all rows
-  rows_from_sum : (number : ℕ) (tables : List TableDef) (befores afters : List (List Row)) → LeadsFrom number tables befores afters → AreLone db.schema (net_from number tables befores afters)
+  rows_from_sum : (number : ℕ) (tables : List TableDef) (befores afters : List (List Row)) → LeadsFrom number tables befores afters → AreWithin (is_edgeless db.schema) (net_from number tables befores afters)
       → Exchanged (sum_by (row_weight db) (rows_from number tables befores)) (sum_by (row_weight (under db next)) (rows_from number tables afters))
       (sum_before row_size (net_from number tables befores afters)) (sum_after row_size (net_from number tables befores afters))
   unfolding net_from rows_from
@@ -176,10 +127,10 @@ module _ (db next : Db) (leads : LeadsFrom 0 db.schema.tables db.rows next.rows)
   come_parts = sum_by-both _ _ _ (λ (change : Change). counted-both _ _ _ (row_after change) (λ row. refl)) changes
 
   -- The changes take off the weight of the rows that went, and add that of those that came.
-  pub weight-sum : IsOwnerSchema db.schema → IsOrdered db → IsOrdered (under db next) → AreLone db.schema changes
+  pub weight-sum : IsOwnerSchema db.schema → IsOrdered db → IsOrdered (under db next) → AreWithin (is_edgeless db.schema) changes
       → Exchanged (weight db) (weight (under db next)) (weight_gone db.schema changes) (weight_come db.schema changes)
   unfolding weight
   weight-sum owner before after lone =
-      let are = same-elsewhere db.schema db.rows next.rows leads lone in
+      let are = same-elsewhere (is_edgeless db.schema) db.schema.tables db.rows next.rows leads lone in
       let all = rows_from_sum db next owner before after are 0 db.schema.tables db.rows next.rows leads lone in
       exchanged_as _ _ _ _ _ _ _ _ (exchanged_both _ _ _ _ _ _ _ _ all (views_sum db.schema.views)) refl refl gone_parts come_parts

@@ -1,2 +1,3 @@
+pub mod Edgeless
 pub mod Unlinked
 pub mod NetWeight

@@ -1,4 +1,4 @@
--- What the changes of tables that nothing is linked with take off the weight, and what they add to it.
+-- What the changes of tables at which no edge is take off the weight, and what they add to it.
 use Rattle.std.specs.Prelude.{ℕ, ◌+◌, ◌==◌, List, sum_by, if◌then◌else◌}
 use Rattle.std.specs.Option.{option_map_or}
 use Rattle.own_base.specs.Row.{row_size}
@@ -20,7 +20,7 @@ shown_size number row view = by view.query.source
     by (Pair left right left_column right_column) = 0
     by (View of) = 0
 
--- a row of a table that nothing is linked with weighs its size, and that of what each view shows of it
+-- a row of such a table weighs its size, and that of what each view shows of it
 abbrev pub lone_weight : Schema → ℕ → Row → ℕ
 lone_weight schema number row = row_size row + sum_by (shown_size number row) schema.views
 

@@ -4,9 +4,9 @@ use Rattle.std.specs.List.{list_all, list_any}
 use Rattle.std.specs.Option.{option_map_or}
 use Rattle.own_base.specs.declared.change.Change.{Change}
 use Rattle.own_model.specs.declared.schema.Column.{Column}
-use Rattle.own_model.specs.declared.schema.Edge.{Edge}
 use Rattle.own_model.specs.declared.schema.Schema.{Schema}
 use Rattle.own_model.specs.declared.schema.TableDef.{TableDef}
+use Rattle.unlinked_check.specs.Edgeless.{is_edgeless}
 
 -- whether a column is UNIQUE or refers to a table
 abbrev pub is_linking : Column → Bool
@@ -20,10 +20,6 @@ refers_to number column = option_map_or (λ link. link.1.0 == number) column.ref
 abbrev pub table_refers : ℕ → TableDef → Bool
 table_refers number table = list_any (refers_to number) table.columns
 
--- whether an edge goes out of that table, or leads up to it
-abbrev pub touches : ℕ → Edge → Bool
-touches number edge = edge.lower.0 == number || edge.upper.0 == number
-
 -- whether a column of that table links it
 abbrev pub links : Schema → ℕ → Bool
 links schema number = option_map_or (λ table. list_any is_linking table.columns) (slice_get schema.tables number) false
@@ -31,7 +27,7 @@ links schema number = option_map_or (λ table. list_any is_linking table.columns
 -- Whether nothing is linked with a table: none of its columns is UNIQUE or refers to a table, no column of any table refers
 -- to it, and no edge goes out of it or leads up to it.
 unfoldable pub is_unlinked : Schema → ℕ → Bool
-is_unlinked schema number = (not (links schema number) && not (list_any (table_refers number) schema.tables)) && not (list_any (touches number) schema.edges)
+is_unlinked schema number = (not (links schema number) && not (list_any (table_refers number) schema.tables)) && is_edgeless schema number
 
 -- whether nothing is linked with any table of some changes
 abbrev pub are_unlinked : Schema → List Change → Bool

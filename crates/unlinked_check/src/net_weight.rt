@@ -34,7 +34,7 @@ fn all_shown(schema: &Schema, table: TableNo, row: &Row) -> u64
     size
 }
 
-/// What a row of a table that nothing is linked with weighs, where it is there.
+/// What a row of a table at which no edge is weighs, where it is there.
 fn lone_weight(schema: &Schema, table: TableNo, row: Option<&Row>) -> u64
     ensures { result ≡ saturated (option_map_or (lone_weight schema.now table.0) (option_copied row.entry) 0) }
 {

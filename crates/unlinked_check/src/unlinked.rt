@@ -1,10 +1,11 @@
 ghost use Rattle.std.specs.Prelude.{◌≡◌, slice_get};
 ghost use Rattle.std.specs.List.{list_any};
 ghost use Rattle.std.specs.Option.{option_copied};
-ghost use Rattle.unlinked_check.specs.Unlinked.{are_unlinked, is_linking, is_unlinked, links, refers_to, table_refers, touches};
+ghost use Rattle.unlinked_check.specs.Unlinked.{are_unlinked, is_linking, is_unlinked, links, refers_to, table_refers};
 
+use crate::edgeless::is_edgeless;
 use own_base::{Change, TableNo};
-use own_model::{Column, Edge, Schema, TableDef};
+use own_model::{Column, Schema, TableDef};
 
 /// Whether a column is UNIQUE or refers to a table.
 fn is_linking(column: &Column) -> bool
@@ -32,13 +33,6 @@ fn table_refers(definition: &TableDef, table: TableNo) -> bool
         .items()
         .iter()
         .any(|column| refers_to(column, table))
-}
-
-/// Whether an edge is of a table: it goes out of it, or leads up to it.
-fn touches(edge: &Edge, table: TableNo) -> bool
-    ensures { result ≡ touches table.0 edge.now }
-{
-    edge.lower.0 == table.0 || edge.upper.0 == table.0
 }
 
 /// Whether a column of a table links it.
@@ -76,19 +70,12 @@ fn is_referred(schema: &Schema, table: TableNo) -> bool
         .any(|definition| table_refers(definition, table))
 }
 
-/// Whether an edge goes out of a table, or leads up to it.
-fn has_edge(schema: &Schema, table: TableNo) -> bool
-    ensures { result ≡ list_any (touches table.0) schema.now.edges }
-{
-    schema.edges.items().iter().any(|edge| touches(edge, table))
-}
-
 /// Whether nothing is linked with a table. It goes over the columns of all tables, and over the edges. Takes no memory.
 #[tactic(auto, unfolding(crate::specs::Unlinked::is_unlinked))]
 pub fn is_unlinked(schema: &Schema, table: TableNo) -> bool
     ensures { result ≡ is_unlinked schema.now table.0 }
 {
-    !links(schema, table) && !is_referred(schema, table) && !has_edge(schema, table)
+    !links(schema, table) && !is_referred(schema, table) && is_edgeless(schema, table)
 }
 
 /// Whether nothing is linked with the tables of changes. Of changes of one table that follow one another only the first is
