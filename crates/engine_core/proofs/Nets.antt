@@ -2,12 +2,15 @@
 use Rattle.std.proofs.Common.{◌≡◌, ℕ, ◌+◌, List, [], ◌∷◌, length, Bool, true, false, refl, ap, sym, ◌∙◌, subst, arith}
 use Rattle.std.specs.Prelude.{◌==◌, None, if◌then◌else◌}
 use Rattle.std.proofs.lemmas.Bool.{eqb-true}
+use Rattle.std.specs.List.{AllByRecursion}
 use Rattle.own_base.specs.declared.change.Change.{Change}
 use Rattle.own_model.specs.declared.history.Verdict.TheVariants.{Took}
 use Rattle.own_model.specs.declared.reply.Reply.{Reply}
 use Rattle.own_model.specs.declared.schema.TableDef.{TableDef}
 use Rattle.own_model.specs.Db.{AreRising, Db, IsOrdered, Row}
+use Rattle.owner_model.specs.Joins.{row_of}
 use Rattle.page_model.specs.Changed.{with_changes}
+use Rattle.page_model.proofs.RisingLemmas.{each_weaker}
 use Rattle.ref_index.specs.Tells.{Tell}
 use Rattle.ref_index.proofs.TellLemmas.{net_tells}
 use Rattle.state_model.specs.LeadTo.{LeadTo}
@@ -34,10 +37,13 @@ none-of [] is = refl
 none-of (change ∷ list) is = let never = eqb-true (length (change ∷ list)) 0 is in absurd (omega arith)
 
 -- a net leads to what it is put into
-pub lead-net : (db next : Db) (list : List Change) → IsOrdered db → IsOrdered next → next ≡ put db list → list ≡ net db (put db list) → LeadTo db next list
+pub lead-net : (db next : Db) (list : List Change) → IsOrdered db → IsOrdered (put db list) → next ≡ put db list → list ≡ net db (put db list) → LeadTo db next list
 lead-net db next list before after next_is is =
-    let rises = subst IsOrdered next_is after in
-    subst (λ next. LeadTo db next list) (sym next_is) (subst (LeadTo db (put db list)) (sym is) (net_leads db (put db list) before rises refl))
+    subst (λ next. LeadTo db next list) (sym next_is) (subst (LeadTo db (put db list)) (sym is) (net_leads db (put db list) before after refl))
+
+-- and each change tells the row that it leaves
+pub told-net : (db next : Db) (list : List Change) → LeadTo db next list → AllByRecursion (λ change. change.after ≡ row_of next change.name) list
+told-net db next list lead = each_weaker _ _ (λ change tells. tells.is) list lead.each
 
 -- a net tells what stands
 pub tells-net : (db : Db) (list : List Change) → IsOrdered db → IsOrdered (put db list) → list ≡ net db (put db list) → Tell db list
