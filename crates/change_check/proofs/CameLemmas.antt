@@ -1,7 +1,7 @@
 -- Which change brought what a row holds.
 use Rattle.std.proofs.Common.{◌≡◌, ℕ, List, Bool, true, false, inl, inr, refl, ap, sym, ◌∙◌}
 use Rattle.std.specs.Prelude.{◌⊎◌, Option, None, Some, slice_get}
-use Rattle.std.specs.List.{list_any}
+use Rattle.std.specs.List.{AllByRecursion, list_any}
 use Rattle.std.specs.Option.{option_map_or}
 use Rattle.std.proofs.lemmas.Option.{slice_get_read}
 use Rattle.own_base.specs.Key.{key_cmp}
@@ -13,6 +13,7 @@ use Rattle.own_model.specs.Stored.{is_equal}
 use Rattle.owner_model.specs.Joins.{row_of}
 use Rattle.query_model.specs.Footprints.{literal_key}
 use Rattle.query_model.specs.Truth.{cell}
+use Rattle.schema_model.proofs.Places.{all-weaker}
 use Rattle.subject_model.specs.Named.{is_name}
 use Rattle.subject_model.proofs.Members.{all_contained, contains_any}
 use Rattle.subject_model.proofs.NamedLemmas.{one_name}
@@ -87,3 +88,7 @@ module _ (before after : Db) (changes : List Change) (lead : LeadTo before after
           → CameBy name column value ⊎ (option_map_or (holds column value) (row_of before name) false ≡ true)
       by_name (inl named) = with_old named _ refl
       by_name (inr same) = inr (ap (λ o. option_map_or (holds column value) o false) (same ∙ is) ∙ holding)
+
+-- changes that lead to a database tell the rows of their names there
+pub told_after : (before after : Db) (changes : List Change) → LeadTo before after changes → AllByRecursion (λ change. change.after ≡ row_of after change.name) changes
+told_after before after changes lead = all-weaker (TellsRows before after) (λ change. change.after ≡ row_of after change.name) (λ change tells. tells.is) changes lead.each

@@ -5,4 +5,3 @@ pub mod Came
 pub mod Holders
 pub mod Shared
 pub mod Dangling
-pub mod Referring
