@@ -1,0 +1,5 @@
+pub mod KeptLists
+pub mod Listing
+pub mod MoveLemmas
+pub mod StandingLemmas
+pub mod Untouched

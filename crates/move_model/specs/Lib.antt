@@ -1,0 +1,5 @@
+pub mod KeepsEdges
+pub mod MoveOrder
+pub mod Moves
+pub mod Standing
+pub mod Touches

@@ -1,0 +1,16 @@
+pub mod AddsLemmas
+pub mod AfterLemmas
+pub mod CreateLemmas
+pub mod DerivedNames
+pub mod GatheredLemmas
+pub mod HeldLemmas
+pub mod HeldMoveLemmas
+pub mod HoldersLemmas
+pub mod NamesLemmas
+pub mod OneRowLemmas
+pub mod RunLemmas
+pub mod SearchLemmas
+pub mod SettleLemmas
+pub mod TablesLemmas
+pub mod TouchedLemmas
+pub mod UpperLemmas

@@ -1,0 +1,10 @@
+pub mod Adds
+pub mod Before
+pub mod Gathered
+pub mod Held
+pub mod HeldMoves
+pub mod Names
+pub mod Referrers
+pub mod Settled
+pub mod UnderWay
+pub mod Uppers
