@@ -16,6 +16,8 @@ mod locks;
 #[cfg(test)]
 mod looks;
 #[cfg(test)]
+mod moving;
+#[cfg(test)]
 mod owning;
 #[cfg(test)]
 mod reading;
