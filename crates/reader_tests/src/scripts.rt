@@ -53,7 +53,7 @@ fn check_scripts(rt: &(impl Abort + AllocGlobal), rows: &[(&str, &str)]) {
 }
 
 /// Where a call's text begins and ends.
-const TEXTS: [(&str, &str); 24] = [
+const TEXTS: [(&str, &str); 26] = [
     ("", ""),
     (" \t\r\n", ""),
     (";; ;", ""),
@@ -68,6 +68,7 @@ const TEXTS: [(&str, &str); 24] = [
     ),
     ("-- '\ncommit -- ';\n;", "1.1 run,1.2 end,"),
     ("commit -- no end", "1.1 syntax 6,1.2 end,"),
+    ("\n\n commit \t\n \r\n", "1.1 syntax 6,1.2 end,"),
     ("delete from t -- all\nwhere a = 1;", "1.1 run,1.2 end,"),
     ("delete from t where a = '--;';", "1.1 run,1.2 end,"),
     (
@@ -88,12 +89,16 @@ const TEXTS: [(&str, &str); 24] = [
     ("\u{feff}commit;", "1.1 syntax 0,1.2 end,"),
     ("commit;\0", "1.1 run,1.2 syntax 1,1.3 end,"),
     ("\u{a0};\u{e9}", "1.1 syntax 0,1.2 syntax 2,1.3 end,"),
+    (
+        "\u{e9}x \u{a0} \n-\u{e9} ; a",
+        "1.1 syntax 0,1.2 syntax 1,1.3 end,",
+    ),
     ("begin{65520  }transaction;", "1.1 run,1.2 end,"),
     ("begin{65521  }transaction;", "1.1 limit Statement,1.2 end,"),
 ];
 
 /// Session lines, and lines that are none.
-const SESSIONS: [(&str, &str); 24] = [
+const SESSIONS: [(&str, &str); 27] = [
     (
         "-- session 2\ncommit;\n-- session 1\ncommit;",
         "2.1 run,1.1 run,1.2 end,2.2 end,",
@@ -106,10 +111,15 @@ const SESSIONS: [(&str, &str); 24] = [
     ("-- session 9", ""),
     ("-- session 3\r\ncommit;\r\n", "3.1 run,3.2 end,"),
     ("-- session 4 \t\ncommit;", "4.1 run,4.2 end,"),
+    ("\n \t\n-- session 5\ncommit;", "5.1 run,5.2 end,"),
     // A call that isn't closed is refused at its length, and the calls after it are read.
     (
         "commit -- a\n\n-- session 2\ncommit;",
         "1.1 syntax 6,2.1 run,1.2 end,2.2 end,",
+    ),
+    (
+        "begin \n\n-- session 2\ncommit;",
+        "1.1 syntax 5,2.1 run,1.2 end,2.2 end,",
     ),
     (
         "begin\n-- session 1\ntransaction;",
@@ -119,6 +129,7 @@ const SESSIONS: [(&str, &str); 24] = [
     ("-- session", ""),
     ("--session 0\ncommit;", "1.1 run,1.2 end,"),
     (" -- session 0\ncommit;", "1.1 run,1.2 end,"),
+    ("\n  -- session 0\ncommit;", "1.1 run,1.2 end,"),
     (";-- session 0\ncommit;", "1.1 run,1.2 end,"),
     ("-- sessions 0\ncommit;", "1.1 run,1.2 end,"),
     ("-- Session 0\ncommit;", "1.1 run,1.2 end,"),

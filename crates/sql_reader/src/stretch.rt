@@ -77,8 +77,8 @@ fn scan(text: &str, from: usize) -> Scanned
     while at < bytes.len() {
         match front_of(&bytes[at..], begins) {
             Front::Empty(len) => {
-                begins = bytes[at] == b'\n';
                 at += len;
+                begins = bytes[at - 1] == b'\n';
             }
             Front::Text { len, held } => {
                 if start == end {

@@ -25,7 +25,8 @@ use Rattle.sql_reader.specs.declared.stretch.Stretch.{Stretch as Found}
 use Rattle.sql_reader.proofs.Scripts.Marking.{byte_in, pieces_bytes}
 use Rattle.sql_reader.proofs.Scripts.Numbering.{Takes-none, Takes-append, first_fault, later_fault, line_fault}
 use Rattle.sql_reader.proofs.Scripts.OnePiece.{pieces_in}
-use Rattle.sql_reader.proofs.Scripts.Scanning.{begins_after, begins_after-push, ArePieces-append}
+use Rattle.sql_reader.specs.scripts.Fronts.{begins_after}
+use Rattle.sql_reader.proofs.Scripts.Scanning.{begins_after-push, ArePieces-append}
 
 abbrev inner_piece : Piece → Type 0
 inner_piece piece = is_inner piece ≡ true

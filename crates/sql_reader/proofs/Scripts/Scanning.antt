@@ -3,17 +3,16 @@ use Rattle.std.proofs.Common.{◌≡◌, ◌≢◌, ◌<◌, ◌≤◌, ◌+◌,
 use Rattle.std.specs.Prelude.{◌==◌, slice_range, codes}
 use Rattle.std.specs.List.{AllByRecursion, flat_map}
 use Rattle.std.specs.Str.{IsCharBoundary, IsUtf8}
-use Rattle.std.proofs.lemmas.Bool.{cases_lt, not-true}
-use Rattle.std.proofs.lemmas.Bool.Decides.{eqb_tells, nat_tests}
+use Rattle.std.proofs.lemmas.Bool.{cases_lt}
 use Rattle.std.proofs.lemmas.List.{append-nil, length-append, length-map, length-drop, length-take, length-take-le, map-append, append_assoc, take-append-drop, drop-drop, drop-take, drop_more, get_or-drop, get_or-take}
 use Rattle.std.proofs.lemmas.List.Concat.{flat_map-append}
 use Rattle.std.proofs.lemmas.Str.{IsCharBoundary-end, IsCharBoundary-before_ascii, IsCharBoundary-after_ascii}
-use Rattle.sql_lex.specs.Bytes.{is_space}
 use Rattle.sql_lex.specs.Filler.{EndsLine}
-use Rattle.script_model.specs.Piece.{Piece, Byte, Quoted, Unclosed, Comment, SessionLine, Semicolon, bytes_of, ArePieces, IsPiece, ends_line}
+use Rattle.sql_reader.proofs.Scripts.FrontPieces.{space_low}
+use Rattle.script_model.specs.Piece.{Piece, SessionLine, Semicolon, bytes_of, ArePieces, ends_line}
 use Rattle.script_model.specs.Stretch.{Ending, AtSemicolon, AtSession, AtEnd}
 use Rattle.script_model.specs.CallText.{Mark, mark_of, marks_of, marks_in, is_closed}
-use Rattle.sql_reader.specs.scripts.Fronts.{is_inner, AtFront, IsEmptyFront, IsTextFront, AreEmpty, Holds, begins_full}
+use Rattle.sql_reader.specs.scripts.Fronts.{is_inner, AtFront, IsEmptyFront, IsTextFront, AreEmpty, Holds, begins_after}
 use Rattle.sql_reader.specs.scripts.Stretches.{Spans, IsStretchAt, IsLineMet, IsLineEnding, IsScan, IsStretch, ending_pieces, call_with}
 use denote.Ref.{Bor}
 use Rattle.sql_reader.specs.declared.stretch.Scanned.{Scanned}
@@ -24,14 +23,14 @@ use Rattle.sql_reader.proofs.Scripts.Marking.{byte_in, pieces_bytes, each_append
 abbrev inner_piece : Piece → Type 0
 inner_piece piece = is_inner piece ≡ true
 
--- whether a line begins after pieces
-abbrev pub begins_after : Bool → List Piece → Bool
-begins_after begins [] = begins
-begins_after begins (piece ∷ pieces) = begins_after (ends_line piece) pieces
-
 pub begins_after-push : (begins : Bool) (pieces : List Piece) (piece : Piece) → begins_after begins (pieces ++ piece ∷ []) ≡ ends_line piece
 begins_after-push begins [] piece = refl
 begins_after-push begins (first ∷ pieces) piece = begins_after-push (ends_line first) pieces piece
+
+-- whether a line begins after pieces and others
+begins_after-append : (begins : Bool) (pieces more : List Piece) → begins_after begins (pieces ++ more) ≡ begins_after (begins_after begins pieces) more
+begins_after-append begins [] more = refl
+begins_after-append begins (first ∷ pieces) more = begins_after-append (ends_line first) pieces more
 
 -- pieces after pieces
 pub ArePieces-append : (begins : Bool) (pieces more : List Piece) (bytes middle after : List ℕ) → ArePieces begins pieces bytes middle → ArePieces (begins_after begins pieces) more middle after → ArePieces begins (pieces ++ more) bytes after
@@ -39,13 +38,19 @@ ArePieces-append begins [] more bytes middle after before next = subst (λ l. Ar
 ArePieces-append begins (piece ∷ pieces) more bytes middle after before next =
     (before.0, before.1, before.2, ArePieces-append (ends_line piece) pieces more before.0 middle after before.3 next)
 
+-- further pieces
+ArePieces-more : (first begins : Bool) (pieces more : List Piece) (bytes start : List ℕ) (at len : ℕ) → ArePieces first pieces start (drop at bytes) → begins ≡ begins_after first pieces → ArePieces begins more (drop at bytes) (drop len (drop at bytes)) → ArePieces first (pieces ++ more) start (drop (at + len) bytes)
+ArePieces-more first begins pieces more bytes start at len before same are =
+    let rest = drop len (drop at bytes) in
+    subst (ArePieces first (pieces ++ more) start) (drop-drop len at bytes)
+    (ArePieces-append first pieces more start (drop at bytes) rest before (subst (λ b. ArePieces b more (drop at bytes) rest) same are))
+
 -- one piece more
 ArePieces-push : (first begins : Bool) (pieces : List Piece) (piece : Piece) (bytes start : List ℕ) (at len : ℕ) → ArePieces first pieces start (drop at bytes) → begins ≡ begins_after first pieces → AtFront begins (drop at bytes) piece len → ArePieces first (pieces ++ piece ∷ []) start (drop (at + len) bytes)
 ArePieces-push first begins pieces piece bytes start at len before same front =
     let rest = drop len (drop at bytes) in
     let split : drop at bytes ≡ bytes_of piece ++ rest = sym (take-append-drop len (drop at bytes)) ∙ ap (λ l. l ++ rest) front.is in
-    subst (ArePieces first (pieces ++ piece ∷ []) start) (drop-drop len at bytes)
-    (ArePieces-append first pieces (piece ∷ []) start (drop at bytes) rest before (rest, split, subst (λ b. IsPiece b piece rest) same front.fits, refl))
+    ArePieces-more first begins pieces (piece ∷ []) bytes start at len before same (rest, split, front.fits, refl)
 
 -- how many bytes are gone over
 scanned_len : (begins : Bool) (pieces : List Piece) (bytes : List ℕ) (from at : ℕ) → from ≤ at → at ≤ length bytes → ArePieces begins pieces (drop from bytes) (drop at bytes) → at ≡ from + length (flat_map marks_of pieces)
@@ -59,9 +64,6 @@ first_is bytes more byte zero is = absurd (let wrong : ◌≡◌ {A = List ℕ} 
 first_is [] more byte (suc len) is = absurd (let wrong : ◌≡◌ {A = List ℕ} [] (byte ∷ more) = is in cc)
 first_is (first ∷ bytes) more byte (suc len) is = cc
 
-space_low : (byte : ℕ) → is_space byte ≡ true → byte < 128
-space_low byte space = grind (arith, nat_tests)
-
 -- the end of a line may be cut at
 line_boundary : (bytes : List ℕ) (at : ℕ) → at ≤ length bytes → EndsLine (drop at bytes) → IsCharBoundary bytes at
 line_boundary bytes at within ends =
@@ -70,55 +72,13 @@ line_boundary bytes at within ends =
       | inr past ↦ let same : length bytes ≡ at = omega arith in subst (IsCharBoundary bytes) same (IsCharBoundary-end bytes)
     ]
 
--- Where an empty piece stands: its first byte, and the byte after it, may be cut at, and whether it ends a line is told
--- by its first byte.
-record EmptyPlace (bytes : List ℕ) (at len : ℕ) (ends : Bool) : Type 0 where
-  low : get_or bytes at 0 < 128
-  after : IsCharBoundary bytes (at + len)
-  ends_is : (get_or bytes at 0 == 10) ≡ ends
-
-no_truth : {A : Type 0} → false ≡ true → A
-no_truth wrong = absurd (let never : ⊥ = cc in never)
-
-empty_place : (bytes : List ℕ) (at len : ℕ) (begins : Bool) (piece : Piece) → IsUtf8 bytes → at < length bytes → AtFront begins (drop at bytes) piece len → is_inner piece ≡ true → AreEmpty (marks_of piece) → EmptyPlace bytes at len (ends_line piece)
-empty_place bytes at len begins (Byte byte) text within front inner empty =
-    let here : get_or bytes at 0 ≡ byte = ap (λ n. get_or bytes n 0) (omega arith) ∙ sym (get_or-drop at bytes 0 0) ∙ first_is (drop at bytes) [] byte len front.is in
-    let low : get_or bytes at 0 < 128 = subst (λ b. b < 128) (sym here) (space_low byte empty.0) in
-    let one : at + 1 ≡ at + len = omega (arith, ap length front.is, length-take-le len (drop at bytes) front.within) in
-    record { low = low; after = subst (IsCharBoundary bytes) one (IsCharBoundary-after_ascii bytes at text within low); ends_is = ap (λ b. b == 10) here }
-empty_place bytes at len begins (Comment line) text within front inner empty =
-    let here : get_or bytes at 0 ≡ 45 = ap (λ n. get_or bytes n 0) (omega arith) ∙ sym (get_or-drop at bytes 0 0) ∙ first_is (drop at bytes) (45 ∷ line) 45 len front.is in
-    record {
-      low = omega arith;
-      after = line_boundary bytes (at + len) (omega (arith, front.within, length-drop at bytes)) (subst EndsLine (drop-drop len at bytes) front.fits.0.1);
-      ends_is = ap (λ b. b == 10) here;
-    }
-empty_place bytes at len begins (Quoted between) text within front inner empty = no_truth empty.0
-empty_place bytes at len begins (Unclosed after) text within front inner empty = no_truth empty.0
-empty_place bytes at len begins (SessionLine line) text within front inner empty = no_truth inner
-empty_place bytes at len begins Semicolon text within front inner empty = no_truth inner
-
 -- the byte after what a piece holds
 held_low : (bytes : List ℕ) (text back : List Mark) → map mark_of bytes ≡ text ++ back → AreEmpty back → length text < length bytes → get_or bytes (length text) 0 < 128
 held_low [] text back split empty more = absurd (omega arith)
 held_low (byte ∷ bytes) [] back split empty more = space_low byte (subst AreEmpty (sym split) empty).0
 held_low (byte ∷ bytes) (mark ∷ text) back split empty more = held_low bytes text back (cc) empty (omega arith)
 
-holds_first : (marks : List Mark) (held : ℕ) → Holds marks held → begins_full marks ≡ true
-holds_first marks held holds = subst (λ l. begins_full l ≡ true) (sym holds.split) (first holds.text holds.tight.first)
-  where
-    first : (text : List Mark) → begins_full text ≡ true → begins_full (text ++ holds.back) ≡ true
-    first [] full = no_truth full
-    first (mark ∷ text) full = full
-
--- where a piece that holds text stands
-record TextPlace (bytes : List ℕ) (at len held : ℕ) (ends : Bool) : Type 0 where
-  some : 0 < held
-  within : held ≤ len
-  cut : (held ≡ len) ⊎ (get_or bytes (at + held) 0 < 128)
-  ends_is : false ≡ ends
-
--- of a piece whose bytes are not in a comment
+-- of bytes that are not in a comment
 text_place_of : (bytes : List ℕ) (at len held : ℕ) (own : List ℕ) → take len (drop at bytes) ≡ own → len ≤ length (drop at bytes) → Holds (map mark_of own) held → (0 < held) × (held ≤ len) × ((held ≡ len) ⊎ (get_or bytes (at + held) 0 < 128))
 text_place_of bytes at len held own is within holds =
     let long : length own ≡ len = sym (ap length is) ∙ length-take-le len (drop at bytes) within in
@@ -133,22 +93,9 @@ text_place_of bytes at len held own is within holds =
       ],
     )
 
-text_place : (bytes : List ℕ) (at len held : ℕ) (begins : Bool) (piece : Piece) → AtFront begins (drop at bytes) piece len → is_inner piece ≡ true → Holds (marks_of piece) held → TextPlace bytes at len held (ends_line piece)
-text_place bytes at len held begins (Byte byte) front inner holds =
-    let place = text_place_of bytes at len held (bytes_of (Byte byte)) front.is front.within holds in
-    record { some = place.0; within = place.1; cut = place.2; ends_is = no_line (not-true (is_space byte) (holds_first (marks_of (Byte byte)) held holds)) }
-  where
-    no_line : is_space byte ≡ false → false ≡ (byte == 10)
-    no_line full = elim (eqb_tells byte 10) [ inl is ↦ no_truth (sym full ∙ ap is_space is.1) | inr is ↦ sym is.0 ]
-text_place bytes at len held begins (Quoted between) front inner holds =
-    let place = text_place_of bytes at len held (bytes_of (Quoted between)) front.is front.within holds in
-    record { some = place.0; within = place.1; cut = place.2; ends_is = refl }
-text_place bytes at len held begins (Unclosed after) front inner holds =
-    let place = text_place_of bytes at len held (bytes_of (Unclosed after)) front.is front.within holds in
-    record { some = place.0; within = place.1; cut = place.2; ends_is = refl }
-text_place bytes at len held begins (Comment line) front inner holds = no_truth (holds_first (marks_of (Comment line)) held holds)
-text_place bytes at len held begins (SessionLine line) front inner holds = no_truth inner
-text_place bytes at len held begins Semicolon front inner holds = no_truth inner
+-- where pieces that hold text stand
+text_place : (bytes : List ℕ) (at len held : ℕ) (begins : Bool) → IsTextFront begins (drop at bytes) len held → (0 < held) × (held ≤ len) × ((held ≡ len) ⊎ (get_or bytes (at + held) 0 < 128))
+text_place bytes at len held begins found = text_place_of bytes at len held (take len (drop at bytes)) refl found.within found.holds
 
 -- the stretch that begins at `from` is gone over up to `at`
 pub record ScannedTo (bytes : List ℕ) (from at : ℕ) (begins : Bool) (start end : ℕ) : Type 0 where
@@ -185,61 +132,80 @@ ScannedTo-start bytes from within boundary =
 marks_push : (pieces : List Piece) (piece : Piece) → flat_map marks_of pieces ++ marks_of piece ≡ flat_map marks_of (pieces ++ piece ∷ [])
 marks_push pieces piece = ap (λ l. flat_map marks_of pieces ++ l) (sym (append-nil (marks_of piece))) ∙ sym (flat_map-append marks_of pieces (piece ∷ []))
 
--- an empty piece more
-pub ScannedTo-empty : (bytes : List ℕ) (from at : ℕ) (begins : Bool) (start end len : ℕ) → IsUtf8 bytes → at < length bytes → ScannedTo bytes from at begins start end → IsEmptyFront begins (drop at bytes) len → ScannedTo bytes from (at + len) (get_or bytes at 0 == 10) start end
+-- the byte after empty pieces may be cut at
+after_empty : (bytes : List ℕ) (at len : ℕ) (begins : Bool) → IsUtf8 bytes → at < length bytes → IsEmptyFront begins (drop at bytes) len → IsCharBoundary bytes (at + len)
+after_empty bytes at len begins text more found =
+    let within : at + len ≤ length bytes = omega (arith, found.within, length-drop at bytes) in
+    let last : at + (len - 1) < length bytes = omega (arith, found.some) in
+    let next : at + (len - 1) + 1 ≡ at + len = omega (arith, found.some) in
+    elim found.cut [
+      | inl low ↦ subst (IsCharBoundary bytes) next (IsCharBoundary-after_ascii bytes (at + (len - 1)) text last (subst (λ b. b < 128) (get_or-drop at bytes (len - 1) 0) low))
+      | inr ends ↦ line_boundary bytes (at + len) within (subst EndsLine (drop-drop len at bytes) ends)
+    ]
+
+-- empty pieces more
+pub ScannedTo-empty : (bytes : List ℕ) (from at : ℕ) (begins : Bool) (start end len : ℕ) → IsUtf8 bytes → at < length bytes → ScannedTo bytes from at begins start end → IsEmptyFront begins (drop at bytes) len → ScannedTo bytes from (at + len) (get_or bytes (at + len - 1) 0 == 10) start end
 ScannedTo-empty bytes from at begins start end len text more scanned found =
-    let place = empty_place bytes at len begins found.piece text more found.at_front found.inner found.all_empty in
     record {
-      within = omega (arith, found.at_front.within, length-drop at bytes);
+      within = omega (arith, found.within, length-drop at bytes);
       from_within = omega (arith, scanned.from_within);
-      pieces = scanned.pieces ++ found.piece ∷ [];
-      are = ArePieces-push (from == 0) begins scanned.pieces found.piece bytes (drop from bytes) at len scanned.are scanned.begins_is found.at_front;
-      inner = each_append inner_piece scanned.pieces (found.piece ∷ []) scanned.inner (found.inner, tt);
-      begins_is = place.ends_is ∙ sym (begins_after-push (from == 0) scanned.pieces found.piece);
-      spans = subst (Spans from start end) (marks_push scanned.pieces found.piece) (Spans-empty from start end (flat_map marks_of scanned.pieces) (marks_of found.piece) scanned.spans found.all_empty);
+      pieces = scanned.pieces ++ found.pieces;
+      are = ArePieces-more (from == 0) begins scanned.pieces found.pieces bytes (drop from bytes) at len scanned.are scanned.begins_is found.are;
+      inner = each_append inner_piece scanned.pieces found.pieces scanned.inner found.inner;
+      begins_is = ap (λ b. b == 10) last_is ∙ sym (begins_after-append (from == 0) scanned.pieces found.pieces ∙ ap (λ b. begins_after b found.pieces) (sym scanned.begins_is) ∙ found.line);
+      spans = subst (Spans from start end) (sym (flat_map-append marks_of scanned.pieces found.pieces)) (Spans-empty from start end (flat_map marks_of scanned.pieces) (flat_map marks_of found.pieces) scanned.spans found.all_empty);
       in_order = scanned.in_order;
       end_within = omega (arith, scanned.end_within);
       start_boundary = scanned.start_boundary;
-      at_boundary = λ same. place.after;
-      end_boundary = inr (elim scanned.end_boundary [ inl same ↦ subst (IsCharBoundary bytes) (sym same) (IsCharBoundary-before_ascii bytes at more place.low) | inr boundary ↦ boundary ]);
+      at_boundary = λ same. after_empty bytes at len begins text more found;
+      end_boundary = inr (elim scanned.end_boundary [ inl same ↦ subst (IsCharBoundary bytes) (sym same) (IsCharBoundary-before_ascii bytes at more low) | inr boundary ↦ boundary ]);
     }
+  where
+    last_is : get_or bytes (at + len - 1) 0 ≡ get_or (drop at bytes) (len - 1) 0
+    last_is = let place : at + len - 1 ≡ at + (len - 1) = omega (arith, found.some) in ap (λ n. get_or bytes n 0) place ∙ sym (get_or-drop at bytes (len - 1) 0)
 
--- a piece more that holds text
+    low : get_or bytes at 0 < 128
+    low = let here : get_or (drop at bytes) 0 0 ≡ get_or bytes at 0 = get_or-drop at bytes 0 0 ∙ ap (λ n. get_or bytes n 0) (omega arith) in subst (λ b. b < 128) here found.first
+
+-- pieces more that hold text
 module _ (bytes : List ℕ) (from at : ℕ) (begins : Bool) (start end len held : ℕ) (more : at < length bytes) (scanned : ScannedTo bytes from at begins start end) (found : IsTextFront begins (drop at bytes) len held) where
-  place : TextPlace bytes at len held (ends_line found.piece)
-  place = text_place bytes at len held begins found.piece found.at_front found.inner found.holds
+  place : (0 < held) × (held ≤ len) × ((held ≡ len) ⊎ (get_or bytes (at + held) 0 < 128))
+  place = text_place bytes at len held begins found
 
   at_is : at ≡ from + length (flat_map marks_of scanned.pieces)
   at_is = scanned_len (from == 0) scanned.pieces bytes from at scanned.from_within scanned.within scanned.are
 
-  text_more : (first : ℕ) → first ≤ at → IsCharBoundary bytes first → Spans from first (at + held) (flat_map marks_of scanned.pieces ++ marks_of found.piece) → ScannedTo bytes from (at + len) false first (at + held)
+  abbrev more_marks : List Mark
+  more_marks = map mark_of (take len (drop at bytes))
+
+  text_more : (first : ℕ) → first ≤ at → IsCharBoundary bytes first → Spans from first (at + held) (flat_map marks_of scanned.pieces ++ more_marks) → ScannedTo bytes from (at + len) false first (at + held)
   text_more first order boundary spans =
       record {
-        within = omega (arith, found.at_front.within, length-drop at bytes);
+        within = omega (arith, found.within, length-drop at bytes);
         from_within = omega (arith, scanned.from_within);
-        pieces = scanned.pieces ++ found.piece ∷ [];
-        are = ArePieces-push (from == 0) begins scanned.pieces found.piece bytes (drop from bytes) at len scanned.are scanned.begins_is found.at_front;
-        inner = each_append inner_piece scanned.pieces (found.piece ∷ []) scanned.inner (found.inner, tt);
-        begins_is = place.ends_is ∙ sym (begins_after-push (from == 0) scanned.pieces found.piece);
-        spans = subst (Spans from first (at + held)) (marks_push scanned.pieces found.piece) spans;
+        pieces = scanned.pieces ++ found.pieces;
+        are = ArePieces-more (from == 0) begins scanned.pieces found.pieces bytes (drop from bytes) at len scanned.are scanned.begins_is found.are;
+        inner = each_append inner_piece scanned.pieces found.pieces scanned.inner found.inner;
+        begins_is = sym (begins_after-append (from == 0) scanned.pieces found.pieces ∙ ap (λ b. begins_after b found.pieces) (sym scanned.begins_is) ∙ found.no_line);
+        spans = subst (Spans from first (at + held)) (ap (λ l. flat_map marks_of scanned.pieces ++ l) (sym found.marks_are) ∙ sym (flat_map-append marks_of scanned.pieces found.pieces)) spans;
         in_order = omega arith;
-        end_within = omega (arith, place.within);
+        end_within = omega (arith, place.1);
         start_boundary = boundary;
-        at_boundary = λ same. absurd (omega (arith, place.some));
-        end_boundary = elim place.cut [
+        at_boundary = λ same. absurd (omega (arith, place.0));
+        end_boundary = elim place.2 [
           | inl same ↦ inl (ap (λ n. at + n) same)
           | inr low ↦ elim (cases_lt (at + held) (length bytes)) [
             | inl less ↦ inr (IsCharBoundary-before_ascii bytes (at + held) less low)
-            | inr past ↦ inl (omega (arith, place.within, found.at_front.within, length-drop at bytes))
+            | inr past ↦ inl (omega (arith, place.1, found.within, length-drop at bytes))
           ]
         ];
       }
 
   pub ScannedTo-first : start ≡ end → ScannedTo bytes from (at + len) false at (at + held)
-  ScannedTo-first none = text_more at (omega arith) (scanned.at_boundary none) (Spans-first from start end at held (flat_map marks_of scanned.pieces) (marks_of found.piece) none scanned.spans found.holds at_is)
+  ScannedTo-first none = text_more at (omega arith) (scanned.at_boundary none) (Spans-first from start end at held (flat_map marks_of scanned.pieces) more_marks none scanned.spans found.holds at_is)
 
   pub ScannedTo-later : start ≢ end → ScannedTo bytes from (at + len) false start (at + held)
-  ScannedTo-later some = text_more start (omega (arith, scanned.in_order, scanned.end_within)) scanned.start_boundary (Spans-later from start end at held (flat_map marks_of scanned.pieces) (marks_of found.piece) some scanned.spans found.holds at_is)
+  ScannedTo-later some = text_more start (omega (arith, scanned.in_order, scanned.end_within)) scanned.start_boundary (Spans-later from start end at held (flat_map marks_of scanned.pieces) more_marks some scanned.spans found.holds at_is)
 
 -- the stretch is gone over, and the bytes meet something that may be cut off
 scan_at : (bytes : List ℕ) (from at start end next : ℕ) (begins : Bool) (found : Met) (ending : Ending) (scanned : ScannedTo bytes from at begins start end) → IsCharBoundary bytes at → IsStretchAt bytes from (record { pieces = scanned.pieces; ending = ending }) found next → IsScan bytes from (record { start = start; end = end; ending = found; next = next })
@@ -316,10 +282,9 @@ scan-end bytes from at begins start end past scanned =
       boundary = boundary;
     })
 
--- what a piece holds is no more than it has
+-- what pieces hold is no more than they have
 pub held_within : (bytes : List ℕ) (at len held : ℕ) (begins : Bool) → IsTextFront begins (drop at bytes) len held → (held ≤ len) × (len ≤ length bytes - at)
-held_within bytes at len held begins found =
-    ((text_place bytes at len held begins found.piece found.at_front found.inner found.holds).within, omega (arith, found.at_front.within, length-drop at bytes))
+held_within bytes at len held begins found = ((text_place bytes at len held begins found).1, omega (arith, found.within, length-drop at bytes))
 
 -- the marks of what a stretch meets
 abbrev end_marks : Ending → List Mark

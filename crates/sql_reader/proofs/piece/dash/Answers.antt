@@ -1,11 +1,10 @@
-use Rattle.std.proofs.Common.{◌≡◌, ◌≤◌, ◌≢◌, true, false, length, drop, take, All, ap, ◌∙◌, sym, subst, arith}
+use Rattle.std.proofs.Common.{◌≡◌, ◌≤◌, ◌≢◌, true, false, length, drop, take, All, ◌∙◌, sym, subst}
 use Rattle.std.proofs.lemmas.Bool.{both_ways}
 use Rattle.std.proofs.lemmas.List.{take_rest}
 use Rattle.std.specs.Prelude.{codes}
-use Rattle.sql_lex.specs.Bytes.{is_space}
 use Rattle.sql_lex.specs.Filler.{EndsLine}
 use Rattle.script_model.specs.Piece.{starts}
-use Rattle.sql_reader.proofs.Scripts.FrontPieces.{comment_front, session_front, plain_front}
+use Rattle.sql_reader.proofs.Scripts.FrontPieces.{comment_front, session_front, dash_front}
 use Rattle.sql_reader.proofs.piece.dash.Goals as goal
 use Rattle.sql_reader.proofs.piece.dash.Goals.{else-begins-via-then-begins+else-starts_with, else-begins-via-else-begins}
 
@@ -32,4 +31,4 @@ returns-then-starts_with-2 c =
 
 pub returns-else-starts_with-2 : goal.returns-else-starts_with-2
 returns-else-starts_with-2 c =
-    plain_front c.args.begins c.args.bytes.now c.requires.some (omega arith) (omega arith) (sym c.starts_with-else-begins.ensures.value ∙ c.if-starts_with-2.false) (ap is_space c.requires.dash)
+    dash_front c.args.begins c.args.bytes.now c.requires.some c.requires.dash (sym c.starts_with-else-begins.ensures.value ∙ c.if-starts_with-2.false)

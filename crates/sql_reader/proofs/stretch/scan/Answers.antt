@@ -1,4 +1,4 @@
-use Rattle.std.proofs.Common.{◌+◌, drop, get_or, sym, ap, ◌∙◌, subst, arith}
+use Rattle.std.proofs.Common.{◌+◌, ◌-◌, drop, get_or, sym, ap, ◌∙◌, subst, arith}
 use Rattle.std.specs.Prelude.{◌==◌}
 use Rattle.std.proofs.lemmas.List.{take_rest}
 use Rattle.script_model.specs.Piece.{SessionLine, Semicolon}
@@ -12,7 +12,7 @@ pub loop-at-preserved-in-Empty : goal.loop-at-preserved-in-Empty
 loop-at-preserved-in-Empty c =
     let same = c.as_bytes-bytes.ensures.value in
     let rest = take_rest c.as_bytes-bytes.result.now c.loop-at.at ∙ ap (drop c.loop-at.at) same in
-    subst (λ l. ScannedTo c.args.text.now c.args.from (c.loop-at.at + c.in-Empty.len) (get_or l c.loop-at.at 0 == 10) c.loop-at.start c.loop-at.end) (sym same)
+    subst (λ l. ScannedTo c.args.text.now c.args.from (c.loop-at.at + c.in-Empty.len) (get_or l (c.loop-at.at + c.in-Empty.len - 1) 0 == 10) c.loop-at.start c.loop-at.end) (sym same)
     (ScannedTo-empty c.args.text.now c.args.from c.loop-at.at c.loop-at.begins c.loop-at.start c.loop-at.end c.in-Empty.len c.utf8.text (omega arith) c.loop-at.invariant
     (subst (λ l. IsEmptyFront c.loop-at.begins l c.in-Empty.len) rest c.in-Empty.ensures))
 
