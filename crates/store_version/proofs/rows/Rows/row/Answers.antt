@@ -2,7 +2,7 @@ use Rattle.std.proofs.Common.{◌<◌, ◌∙◌, ap, length, subst, sym}
 use Rattle.own_model.specs.Db.{Db}
 use Rattle.own_model.specs.Stored.{row_named}
 use Rattle.store_version.proofs.NamedRows.{row-named}
-use Rattle.store_version.proofs.version.Version.row.Goals as goal
+use Rattle.store_version.proofs.rows.Rows.row.Goals as goal
 
 pub returns : goal.returns
 returns c =
