@@ -1,6 +1,7 @@
 pub mod CellOrderLemmas
 pub mod LeastLemmas
 pub mod BrokenCells
+pub mod LeastRow
 pub mod LeastFault
 pub mod HeldLemmas
 pub mod HolderRows
@@ -11,3 +12,6 @@ pub mod LinkLemmas
 pub mod DanglingLemmas
 pub mod ReferringLemmas
 pub mod ReferenceCaught
+pub mod UnownedCells
+pub mod FirstUnowned
+pub mod OwnerCaught

@@ -5,3 +5,4 @@ pub mod Came
 pub mod Holders
 pub mod Shared
 pub mod Dangling
+pub mod Unowned

@@ -1,5 +1,6 @@
 ghost use Rattle.std.specs.Prelude.{◌≡◌, IfOk};
 ghost use Rattle.change_check.specs.Rule.{refusal_at, refused_by};
+ghost use Rattle.change_check.specs.Unowned.{owner_refusal};
 
 use crate::cell_name::CellName;
 use own_base::{Key, MakeCopy, Name};
@@ -44,4 +45,23 @@ pub(crate) fn refusal_at(
     let table = definition.name.copy(alloc)?;
     let column = column.name.copy(alloc)?;
     Ok(Some(refused_by(rule, table, cell.row.key, column)))
+}
+
+/// What is refused where a cell is of a row without an owner.
+pub(crate) fn owner_refusal(
+    alloc: Global,
+    schema: &Schema,
+    found: Option<CellName>,
+) -> Result<Option<Refusal>, AllocError>
+    ensures { IfOk result (λ told. told ≡ owner_refusal schema.now found) }
+{
+    let Some(cell) = found else {
+        return Ok(None);
+    };
+    let Some(definition) = schema.tables.items().get(cell.row.table.0 as usize) else {
+        return Ok(None);
+    };
+    let table = definition.name.copy(alloc)?;
+    let key = cell.row.key;
+    Ok(Some(Refusal::Owner { table, key }))
 }

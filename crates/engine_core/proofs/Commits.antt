@@ -1,11 +1,14 @@
 -- What a commit is answered, and what it leaves.
 use Rattle.std.proofs.Common.{◌≡◌, List, [], ◌∷◌, Bool, true, ap, arith, length, refl, subst}
 use Rattle.std.specs.Prelude.{Option, None, slice_index_or}
+use Rattle.std.proofs.lemmas.Bool.{and_parts}
 use Rattle.own_base.specs.declared.change.Change.{Change}
 use Rattle.own_model.specs.declared.history.Verdict.TheVariants.{Took}
 use Rattle.own_model.specs.declared.refusal.Refusal.{Refusal}
 use Rattle.own_model.specs.declared.reply.Reply.{Reply}
+use Rattle.own_model.specs.declared.schema.Schema.{Schema}
 use Rattle.own_model.specs.Db.{Db}
+use Rattle.schema_model.specs.Lone.{are_lone, is_lone}
 use Rattle.payload_size.specs.SoundNet.{IsSoundNet}
 use Rattle.state_model.specs.Fault.{fault}
 use Rattle.state_model.specs.Net.{net}
@@ -41,3 +44,7 @@ pub one-alone : (list : List Change) (first : Change) → length list ≡ 1 → 
 one-alone [] first one is = absurd (omega (arith, one))
 one-alone (change ∷ []) first one is = ap (λ (head : Change). head ∷ []) is
 one-alone (change ∷ next ∷ rest) first one is = absurd (omega (arith, one))
+
+-- the table of a change that stands alone is lone where all are
+pub lone-alone : (schema : Schema) (change : Change) → are_lone schema (change ∷ []) ≡ true → is_lone schema change.name.table.0 ≡ true
+lone-alone schema change lone = (and_parts (is_lone schema change.name.table.0) true lone).0

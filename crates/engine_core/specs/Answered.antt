@@ -1,13 +1,17 @@
 -- What a statement outside a transaction is answered, and what it leaves.
-use Rattle.std.specs.Prelude.{◌≡◌, ◌∷◌, [], ◌++◌, ◌&&◌, ℕ, List, Bool, false, not, Option, None, Some, if◌then◌else◌}
+use Rattle.std.specs.Prelude.{◌≡◌, ◌∷◌, [], ◌++◌, ◌&&◌, ℕ, List, Bool, false, true, not, length, Option, None, Some, if◌then◌else◌}
 use Rattle.std.specs.Option.{option_map_or}
+use Rattle.own_base.specs.declared.change.Change.{Change as MadeChange}
 use Rattle.own_model.specs.declared.bound.Bound.{Bound}
 use Rattle.own_model.specs.declared.bound.Bound.TheVariants.{Delete, Forget, Insert, Update}
 use Rattle.own_model.specs.declared.footprint.FootItem.{FootItem}
 use Rattle.own_model.specs.declared.history.Verdict.TheVariants.{Took}
 use Rattle.own_model.specs.declared.reply.Reply.{Reply}
 use Rattle.own_model.specs.declared.request.Request.{Request}
+use Rattle.own_model.specs.declared.schema.Schema.{Schema}
 use Rattle.own_model.specs.Db.{Db, IsOrdered}
+use Rattle.schema_model.specs.Lone.{are_lone, is_lone}
+use Rattle.schema_model.specs.OwnerSchema.{IsOwnerSchema}
 use Rattle.query_model.specs.Footprints.{footprint_of}
 use Rattle.ref_index.specs.Tells.{Tell}
 use Rattle.state_model.specs.Put.{put}
@@ -28,10 +32,23 @@ abbrev pub led_to : Db → Ahead → Db
 led_to db (Version next) = next
 led_to db (Change change) = put db (change ∷ [])
 
--- a change that is still to be made tells what stands, and the rows are in their order
+-- one change, of a lone table
+pub record IsOneLone (schema : Schema) (changes : List MadeChange) : Type 0 where
+  pub one : length changes ≡ 1
+  pub lone : are_lone schema changes ≡ true
+
+-- A change that is still to be made tells what stands, and is of a lone table; the rows are in their order, and the schema is
+-- one that creates give.
+pub record IsMakable (db : Db) (change : MadeChange) : Type 0 where
+  pub tells : Tell db (change ∷ [])
+  pub lone : is_lone db.schema change.name.table.0 ≡ true
+  pub ordered : IsOrdered db
+  pub owner : IsOwnerSchema db.schema
+
+-- a version that is prepared needs nothing
 abbrev pub MayBeMade : Db → Ahead → Type 0
 MayBeMade db (Version next) = Unit {0}
-MayBeMade db (Change change) = Tell db (change ∷ []) × IsOrdered db
+MayBeMade db (Change change) = IsMakable db change
 
 -- the database that is left: what is prepared, where something is
 abbrev pub left : Db → Option Prepared → Db

@@ -1,6 +1,7 @@
-ghost use Rattle.std.specs.Prelude.{◌≡◌, ◌≢◌, [], Bool, false, length, None, IfOk, IfSome, IsTrue, OnErr};
+ghost use Rattle.std.specs.Prelude.{◌≡◌, ◌≢◌, [], Bool, false, None, IfOk, IfSome, OnErr};
 ghost use Rattle.own_model.specs.declared.history.Verdict.TheVariants.{Took};
 ghost use Rattle.own_model.specs.Db.{Db};
+ghost use Rattle.move_model.specs.Moves.{AreMovesOf};
 ghost use Rattle.state_model.specs.Fault.{fault};
 ghost use Rattle.state_model.specs.Net.{net};
 ghost use Rattle.state_model.specs.Payload.{payload_bytes};
@@ -10,99 +11,44 @@ ghost use Rattle.state_model.specs.Sound.{IsWellFormed, Sound};
 ghost use Rattle.state_model.specs.Weight.{weight};
 ghost use Rattle.commit_check.specs.Judged.{IsJudged};
 ghost use Rattle.payload_size.specs.SoundNet.{IsSoundNet};
-ghost use Rattle.unlinked_check.specs.Edgeless.{are_edgeless};
 ghost use Rattle.history_model.specs.Reply as spec_of;
 ghost use Rattle.history_model.specs.Reply.{committing};
-ghost use Rattle.engine_core.specs.Answered.{led_to, MayBeMade, Tells};
+ghost use Rattle.engine_core.specs.Answered.{led_to, IsOneLone, MayBeMade, Tells};
 
 use crate::answer::Answer;
 use crate::prepared::{Ahead, Prepared};
-use change_check::{first_reference_fault_by, first_unique_fault_by};
-use commit_check::{Judged, judge, weigh};
+use commit_check::Judged;
+use commit_judge::{judge_alone, judge_by};
+use move_model::OwnerMove;
 use own_base::{Change, List, MakeCopy};
 use own_model::{PAYLOAD_BYTES, Refusal, Reply};
 use payload_size::payload_size;
-use ref_index::WithIndex;
 use std::alloc::{AllocError, Global};
 use std::mem::drop;
 use store_version::{Next, Shown, Version, prepare};
-use unlinked_check::{are_edgeless, are_unlinked, judge_change, judge_edgeless};
 
-/// What is judged of a next version as a whole.
-fn judged(alloc: Global, next: &Next) -> Result<Judged, AllocError>
-    requires { IsWellFormed next.now }
-    ensures { IfOk result (IsJudged next.now) }
-{
-    let after = next.version();
-    let left = Shown { version: after };
-    judge(alloc, &left, after.graph())
-}
-
-/// What is judged of a next version that is sound: what it weighs. No rule is asked.
-pub(crate) fn weighed(alloc: Global, next: &Next) -> Result<Judged, AllocError>
-    requires { Sound next.now }
-    ensures { IfOk result (IsJudged next.now) }
-{
-    let after = next.version();
-    let left = Shown { version: after };
-    let weighs = weigh(alloc, &left, after.graph())?;
-    Ok(Judged::Weighs(weighs))
-}
-
-/// What is judged of it, where changes of tables at which there is no edge lead to it: by the rows that changed, and by who
-/// holds their values or refers to them.
-fn judged_edgeless(
-    alloc: Global,
-    version: &Version,
-    weighs: u64,
-    next: &Next,
-    changes: &[Change],
-) -> Result<Judged, AllocError>
-    requires sound { Sound version.now }
-    requires weighs { weight version.now ≡ weighs }
-    requires net { changes.now ≡ net version.now (put version.now changes.now) }
-    requires well_formed { IsWellFormed next.now }
-    requires next { next.now ≡ put version.now changes.now }
-    requires edgeless { IsTrue (are_edgeless version.now.schema changes.now) }
-    ensures { IfOk result (IsJudged next.now) }
-{
-    let left = Shown {
-        version: next.version(),
-    };
-    let linked = WithIndex::new(&left, next.version().index());
-    let unique = first_unique_fault_by(alloc, &linked, changes)?;
-    match first_reference_fault_by(alloc, &linked, changes) {
-        Ok(reference) => {
-            let before = Shown { version };
-            Ok(judge_edgeless(&before, &left, weighs, changes, unique, reference))
-        }
-        Err(refused) => {
-            drop(unique);
-            Err(refused)
-        }
-    }
-}
-
-/// What is judged of it, where changes lead to it. Where there is no edge at their tables, no other rows are gone over.
+/// What is judged of a next version to which changes lead, by these and the moves that come with them.
 fn judged_by(
     alloc: Global,
     version: &Version,
     weighs: u64,
     next: &Next,
     changes: &[Change],
+    moves: &[OwnerMove],
 ) -> Result<Judged, AllocError>
     requires sound { Sound version.now }
     requires weighs { weight version.now ≡ weighs }
     requires net { changes.now ≡ net version.now (put version.now changes.now) }
     requires well_formed { IsWellFormed next.now }
     requires next { next.now ≡ put version.now changes.now }
+    requires moves { AreMovesOf version.now (put version.now changes.now) moves.now }
     ensures { IfOk result (IsJudged next.now) }
 {
-    if are_edgeless(version.schema(), changes) {
-        judged_edgeless(alloc, version, weighs, next, changes)
-    } else {
-        judged(alloc, next)
-    }
+    let before = Shown { version };
+    let after = Shown {
+        version: next.version(),
+    };
+    judge_by(alloc, &before, &after, weighs, changes, moves)
 }
 
 /// Whether a reply is a refusal.
@@ -183,15 +129,12 @@ fn judged_alone(version: &Version, weighs: u64, changes: &[Change]) -> Option<Ju
     requires weighs { weight version.now ≡ weighs }
     requires net { changes.now ≡ net version.now (put version.now changes.now) }
     requires well_formed { IsWellFormed (put version.now changes.now) }
-    ensures { IfSome result (λ judged. IsJudged (put version.now changes.now) judged × (length changes.now ≡ 1)) }
+    ensures { IfSome result (λ judged. IsJudged (put version.now changes.now) judged × IsOneLone version.now.schema changes.now) }
 {
     let [change] = changes else {
         return None;
     };
-    if !are_unlinked(version.schema(), changes) {
-        return None;
-    }
-    judge_change(&Shown { version }, weighs, change)
+    judge_alone(&Shown { version }, weighs, change)
 }
 
 /// The answer to a commit of one change that is judged before it is made.
@@ -206,7 +149,7 @@ fn commit_alone(
     requires net { changes.now ≡ net version.now (put version.now changes.now) }
     requires well_formed { IsWellFormed (put version.now changes.now) }
     requires judged { IsJudged (put version.now changes.now) judged }
-    requires one { length changes.now ≡ 1 }
+    requires one { IsOneLone version.now.schema changes.now }
     requires accepted { spec_of.is_refusal reply ≡ false }
     ensures tells { IfOk result (Tells version.now (committing Took (spec_of.changes version.now (put version.now changes.now))
         (spec.commit_refusal version.now (put version.now changes.now)) reply) (put version.now changes.now)) }
@@ -242,8 +185,10 @@ fn commit_beside(
         (spec.commit_refusal version.now (put version.now changes.now)) reply) (put version.now changes.now)) }
     ensures nothing { IfOk result (λ answer. answer.erased ≡ []) }
 {
-    let next = prepare(alloc, version, changes)?;
-    match judged_by(alloc, version, weighs, &next, changes) {
+    let (next, moves) = prepare(alloc, version, changes)?;
+    let judged = judged_by(alloc, version, weighs, &next, changes, moves.items());
+    drop(moves);
+    match judged {
         Ok(judged) => {
             let cause = cause_of(version, &judged, changes);
             Ok(decided(alloc, Ahead::Version(next), judged, cause, reply))

@@ -55,7 +55,7 @@ fn answer_meant(alloc: Global, asker: &Asker<'_>, bound: &Bound) -> Result<Answe
             let reply = get_reply(alloc, &asker.state.version, subject)?;
             Ok(Answer::told(alloc, reply))
         }
-        Bound::Forget(subject) => forget(alloc, &asker.state.version, subject),
+        Bound::Forget(subject) => forget(alloc, &asker.state.version, asker.state.weighs, subject),
         Bound::Explain => unreachable!(),
     }
 }

@@ -2,21 +2,28 @@ ghost use Rattle.std.specs.Prelude.{◌≡◌, ◌<◌, ◌^◌, IsTrue, count_b
 ghost use Rattle.own_model.specs.declared.bound.Bound.TheVariants.{Forget};
 ghost use Rattle.own_model.specs.declared.history.Verdict.TheVariants.{Took};
 ghost use Rattle.own_model.specs.declared.reply.Reply.TheVariants.{Forgot};
+ghost use Rattle.move_model.specs.Moves.{AreMovesOf};
 ghost use Rattle.schema_model.specs.Tables.{is_subject};
+ghost use Rattle.ref_index.specs.Tells.{Tell};
+ghost use Rattle.state_model.specs.Put.{put};
 ghost use Rattle.state_model.specs.Sound.{IsWellFormed, Sound};
+ghost use Rattle.state_model.specs.Weight.{weight};
 ghost use Rattle.run_model.specs.Run.{forget_subject, show_subject};
 ghost use Rattle.subject_erase.specs.Plan.{leaves_row};
 ghost use Rattle.history_model.specs.Reply.{forget_reply};
 ghost use Rattle.engine_core.specs.Answered.{ErasesBound, Tells};
 
 use crate::answer::Answer;
-use crate::commit::{decided, weighed};
+use crate::commit::decided;
 use crate::prepared::Ahead;
+use change_weight::weight_by;
+use commit_check::Judged;
+use move_model::OwnerMove;
 use own_base::{Change, List, MakeCopy, RowName, Subject};
 use own_model::{Reply, StoreView};
 use std::alloc::{AllocError, Global};
 use std::mem::drop;
-use store_version::{Shown, Version, prepare};
+use store_version::{Next, Shown, Version, prepare};
 use subject_access::{collect_by_graph, no_subject};
 use subject_erase::erase_changes;
 
@@ -65,15 +72,41 @@ fn names_of(alloc: Global, changes: &[Change]) -> Result<List<RowName>, AllocErr
     Ok(List::from_vec(names))
 }
 
+/// What the version weighs that a FORGET leaves, by its changes and the moves that come with them. No rule is asked.
+fn weight_left(
+    alloc: Global,
+    version: &Version,
+    weighs: u64,
+    next: &Next,
+    changes: &[Change],
+    moves: &[OwnerMove],
+) -> Result<u64, AllocError>
+    requires sound { Sound version.now }
+    requires weighs { weight version.now ≡ weighs }
+    requires tells { Tell version.now changes.now }
+    requires next { next.now ≡ put version.now changes.now }
+    requires sound_next { Sound next.now }
+    requires moves { AreMovesOf version.now (put version.now changes.now) moves.now }
+    ensures { IfOk result (λ left. left ≡ weight next.now) }
+{
+    let before = Shown { version };
+    let after = Shown {
+        version: next.version(),
+    };
+    weight_by(alloc, &before, &after, weighs, changes, moves)
+}
+
 /// The answer to a bound GDPR FORGET, which commits by itself: no constraint, limit or length refuses it, and none is asked. It names the rows
 /// that it removes or changes as erased.
 #[tactic(auto, unfolding(run_model::specs::Run::forget_subject))]
 pub(crate) fn forget(
     alloc: Global,
     version: &Version,
+    weighs: u64,
     subject: &Subject,
 ) -> Result<Answer, AllocError>
     requires sound { Sound version.now }
+    requires weighs { weight version.now ≡ weighs }
     requires subject { IsTrue (is_subject version.now.schema subject.now.0.table.0) }
     ensures tells { IfOk result (Tells version.now (forget_reply Took (forget_subject version.now subject.now.0)) (forget_subject version.now subject.now.0).db) }
     ensures erases { IfOk result (ErasesBound version.now (Forget subject.now)) }
@@ -85,10 +118,22 @@ pub(crate) fn forget(
     }
     let changes = erase_changes(alloc, &shown, version.graph(), subject)?;
     let names = names_of(alloc, changes.items())?;
-    let next = prepare(alloc, version, changes.items())?;
+    let (next, moves) = prepare(alloc, version, changes.items())?;
     let reply = forgotten(changes.items());
-    match weighed(alloc, &next) {
-        Ok(judged) => Ok(decided(alloc, Ahead::Version(next), judged, None, reply).erasing(names)),
+    let left = weight_left(
+        alloc,
+        version,
+        weighs,
+        &next,
+        changes.items(),
+        moves.items(),
+    );
+    drop(moves);
+    match left {
+        Ok(left) => {
+            let judged = Judged::Weighs(left);
+            Ok(decided(alloc, Ahead::Version(next), judged, None, reply).erasing(names))
+        }
         Err(refused) => {
             drop(next);
             Err(refused)

@@ -1,5 +1,5 @@
 /// The number of a table, from 0, in the order in which tables were created.
-#[derive(Clone, Copy, Debug, PartialEq, Eq, PartialOrd, Ord, Hash)]
+#[derive(Clone, Copy, Debug, Default, PartialEq, Eq, PartialOrd, Ord, Hash)]
 pub struct TableNo(pub u32);
 
 /// The number of a column, from 0, in its table's or its view's order.

@@ -4,14 +4,14 @@ use crate::value::Key;
 use std::alloc::{AllocError, Global};
 
 /// What a row is called, whether it is there or not: its table and its primary key.
-#[derive(Debug, Drop, PartialEq, Eq, PartialOrd, Ord)]
+#[derive(Debug, Default, Drop, PartialEq, Eq, PartialOrd, Ord)]
 pub struct RowName {
     pub table: TableNo,
     pub key: Key,
 }
 
 /// A data subject: a row of a subject table, by its name.
-#[derive(Debug, Drop, PartialEq, Eq, PartialOrd, Ord)]
+#[derive(Debug, Default, Drop, PartialEq, Eq, PartialOrd, Ord)]
 pub struct Subject(pub RowName);
 
 impl MakeCopy for RowName {

@@ -51,6 +51,13 @@ impl Key {
     }
 }
 
+impl Default for Key {
+    /// The number 0: what stands in a place kept for a key before there is one.
+    fn default() -> Key {
+        Key::Int(0)
+    }
+}
+
 impl MakeCopy for Value {
     fn copy(&self, alloc: Global) -> Result<Value, AllocError> {
         match self {

@@ -19,12 +19,13 @@ use Rattle.subject_model.proofs.Members.{contains_cases, contains_flat_map, cont
 use Rattle.owner_sets.specs.IsSortedSet.{IsSortedSet}
 use Rattle.owner_sets.specs.SubjectOrder.{subject_cmp}
 use Rattle.move_model.proofs.Listing.{Listed, Whose, solved}
+use Rattle.link_model.specs.Whose.{as_subject}
 use Rattle.owner_index.specs.declared.entry.Entry.{Entry}
 use Rattle.owner_index.specs.declared.upper.Upper.{Upper}
 use Rattle.owner_index.specs.declared.which.Which.{Which}
 use Rattle.owner_index.specs.declared.which.Which.TheVariants.{Owners, Reach}
 use Rattle.owner_index.specs.Gathered.{gathered, handed_by, handed_down, is_counted, own_subject}
-use Rattle.owner_index.specs.Held.{as_subject, counts, held, listed}
+use Rattle.owner_index.specs.Held.{counts, held, listed}
 use Rattle.owner_index.specs.Settled.{IsRightAbove}
 use Rattle.owner_index.specs.Uppers.{AreUppers, as_upper}
 use Rattle.owner_index.proofs.TablesLemmas.{listed_are, names_of, names_of-subjects, subjects-names_of}

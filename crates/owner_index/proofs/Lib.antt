@@ -6,6 +6,7 @@ pub mod GatheredLemmas
 pub mod HeldLemmas
 pub mod HeldMoveLemmas
 pub mod HoldersLemmas
+pub mod LoneLemmas
 pub mod NamesLemmas
 pub mod OneRowLemmas
 pub mod RunLemmas

@@ -14,11 +14,12 @@ use Rattle.subject_model.specs.NameOrder.{name_cmp}
 use Rattle.subject_model.specs.Named.{is_there}
 use Rattle.subject_model.specs.Owners.{owners, reach}
 use Rattle.owner_sets.proofs.DerivedOrder.{derived_eq, derived_exact}
+use Rattle.link_model.specs.Whose.{as_subject}
 use Rattle.owner_index.specs.declared.entry.Entry.{Entry}
 use Rattle.owner_index.specs.declared.which.Which.{Which}
 use Rattle.owner_index.specs.declared.which.Which.TheVariants.{Owners, Reach}
 use Rattle.owner_index.specs.Adds.{Adds, ForSome}
-use Rattle.owner_index.specs.Held.{SetsAt, as_subject, held, listed, owners_of, reach_of}
+use Rattle.owner_index.specs.Held.{SetsAt, held, listed, owners_of, reach_of}
 use Rattle.owner_index.specs.Settled.{HasBelow, IsRightAbove, Settles}
 use Rattle.owner_index.proofs.GatheredLemmas.{subject_row-there}
 use Rattle.owner_index.proofs.SettleLemmas.{name_tied}

@@ -22,9 +22,10 @@ use Rattle.subject_model.specs.Paths.{is_subject_row}
 use Rattle.subject_model.proofs.Members.{all_contained, contains_cases, contains_none}
 use Rattle.subject_model.proofs.NamedLemmas.{one_key}
 use Rattle.subject_model.proofs.RisingNames.{name_order}
+use Rattle.link_model.specs.Whose.{as_subject}
 use Rattle.owner_index.specs.declared.entry.Entry.{Entry}
 use Rattle.owner_index.specs.declared.which.Which.{Which}
-use Rattle.owner_index.specs.Held.{IsRight, as_subject, held, listed}
+use Rattle.owner_index.specs.Held.{IsRight, held, listed}
 use Rattle.owner_index.specs.Settled.{AreNamesOf, IsRightAbove, IsRightAboveTable, Settles, SettlesSome, SettlesTable}
 use Rattle.owner_index.specs.UnderWay.{IsUnderWay}
 

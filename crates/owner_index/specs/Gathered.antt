@@ -4,11 +4,12 @@ use Rattle.own_base.specs.declared.row_name.RowName.{RowName}
 use Rattle.own_base.specs.declared.row_name.Subject.{Subject}
 use Rattle.own_model.specs.declared.schema.Schema.{Schema}
 use Rattle.schema_model.specs.Tables.{is_subject}
+use Rattle.link_model.specs.Whose.{as_subject}
 use Rattle.owner_index.specs.declared.entry.Entry.{Entry}
 use Rattle.owner_index.specs.declared.upper.Upper.{Upper}
 use Rattle.owner_index.specs.declared.which.Which.{Which}
 use Rattle.owner_index.specs.declared.which.Which.TheVariants.{Owners, Reach}
-use Rattle.owner_index.specs.Held.{as_subject, held}
+use Rattle.owner_index.specs.Held.{held}
 
 -- whether an upper row counts
 abbrev pub is_counted : Which → Upper → Bool

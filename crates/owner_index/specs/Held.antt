@@ -10,13 +10,10 @@ use Rattle.page_model.specs.Found.{found}
 use Rattle.subject_model.specs.LocalEquation.{counts_for_owners, counts_for_reach}
 use Rattle.subject_model.specs.NameOrder.{name_cmp}
 use Rattle.subject_model.specs.Owners.{owners, reach}
+use Rattle.link_model.specs.Whose.{as_subject, owners_at, reach_at}
 use Rattle.owner_index.specs.declared.entry.Entry.{Entry}
 use Rattle.owner_index.specs.declared.which.Which.{Which}
 use Rattle.owner_index.specs.declared.which.Which.TheVariants.{Owners, Reach}
-
--- a row's name as a subject
-abbrev pub as_subject : RowName → Subject
-as_subject name = record { 0 = name }
 
 -- the entry of a row, where there is one
 abbrev pub entry_of : List Entry → RowName → Option Entry
@@ -47,8 +44,8 @@ counts Reach = counts_for_reach
 
 -- For each row they are the subjects that own it, and those that reach it.
 pub record StandsFor (db : Db) (entries : List Entry) : Type 0 where
-  pub owners : (name : RowName) → owners_of entries name ≡ map as_subject (owners db name)
-  pub reach : (name : RowName) → reach_of entries name ≡ map as_subject (reach db name)
+  pub owners : (name : RowName) → owners_of entries name ≡ owners_at db name
+  pub reach : (name : RowName) → reach_of entries name ≡ reach_at db name
 
 -- they are for one row
 abbrev pub IsRight : Db → List Entry → RowName → Type 0

@@ -16,6 +16,7 @@ use move_model::OwnerMove;
 use own_base::{Change, List, MakeCopy};
 use own_model::StoreView;
 use owner_graph::Graph;
+use row_reading::are_lone;
 use std::alloc::{AllocError, Global};
 
 impl OwnerIndex {
@@ -35,6 +36,28 @@ impl OwnerIndex {
         requires linked { R.linked references.now ≡ V.db view.now }
         requires owner { IsOwnerSchema (V.db view.now).schema }
         // Whatever the state before was for which this index stands, and from which the changes lead here.
+        ensures stands { IfOk result (λ both. (before : Db) → IsBefore before (V.db view.now) changes.now self.now → StandsFor (V.db view.now) both.0) }
+        ensures moves { IfOk result (λ both. (before : Db) → IsBefore before (V.db view.now) changes.now self.now → AreMovesOf before (V.db view.now) both.1) }
+    {
+        if are_lone(view.schema(), changes) {
+            let same = self.copy(alloc)?;
+            return Ok((same, List::new(alloc)));
+        }
+        self.carried(alloc, graph, view, references, changes)
+    }
+
+    /// The same, of changes of whatever tables.
+    fn carried<V: StoreView, R: Referring>(
+        &self,
+        alloc: Global,
+        graph: &Graph,
+        view: &V,
+        references: &R,
+        changes: &[Change],
+    ) -> Result<(OwnerIndex, List<OwnerMove>), AllocError>
+        requires graph { IsGraphOf (length (V.db view.now).schema.tables) (V.db view.now).schema.edges graph.now }
+        requires linked { R.linked references.now ≡ V.db view.now }
+        requires owner { IsOwnerSchema (V.db view.now).schema }
         ensures stands { IfOk result (λ both. (before : Db) → IsBefore before (V.db view.now) changes.now self.now → StandsFor (V.db view.now) both.0) }
         ensures moves { IfOk result (λ both. (before : Db) → IsBefore before (V.db view.now) changes.now self.now → AreMovesOf before (V.db view.now) both.1) }
     {

@@ -1,6 +1,6 @@
 ghost use Rattle.std.specs.Prelude.{◌≡◌, [], ◌∷◌, ◌++◌, IfOk, OnOk};
+ghost use Rattle.link_model.specs.Whose.{as_subject};
 ghost use Rattle.owner_index.specs.Gathered.{gathered, handed_by, handed_down, own_subject};
-ghost use Rattle.owner_index.specs.Held.{as_subject};
 ghost use Rattle.owner_sets.specs.IsSortedSet.{IsSortedSet};
 
 use crate::index::OwnerIndex;

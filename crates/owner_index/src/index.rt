@@ -4,6 +4,7 @@ ghost use Rattle.owner_index.specs.Held.{SetsAt, owners_of, reach_of};
 
 use crate::entry::Entry;
 use crate::name_key::{EntryChange, NameKey};
+use crate::subject_list::SubjectList;
 use own_base::{List, MakeCopy, RowName, Subject};
 use page_tree::Pages;
 use std::alloc::{AllocError, Global};
@@ -91,8 +92,8 @@ fn entry_of(name: RowName, owners: List<Subject>, reach: List<Subject>) -> Optio
     } else {
         Some(Entry {
             name,
-            owners,
-            reach,
+            owners: SubjectList::from_list(owners),
+            reach: SubjectList::from_list(reach),
         })
     }
 }

@@ -14,6 +14,7 @@ mod pass;
 mod referrers;
 mod rows;
 mod settle;
+mod subject_list;
 mod touching;
 mod upper;
 mod which;

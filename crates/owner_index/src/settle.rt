@@ -1,11 +1,11 @@
-ghost use Rattle.std.specs.Prelude.{◌≡◌, [], Contains, IfOk, IsTrue, OnOk, length, map};
+ghost use Rattle.std.specs.Prelude.{◌≡◌, [], Contains, IfOk, IsTrue, OnOk, length};
 ghost use Rattle.own_base.specs.declared.row_name.RowName.{RowName as Seen};
 ghost use Rattle.owner_graph.specs.Graph.{IsGraphOf};
-ghost use Rattle.owner_index.specs.Held.{as_subject, owners_of, reach_of};
+ghost use Rattle.link_model.specs.Whose.{owners_at, reach_at};
+ghost use Rattle.owner_index.specs.Held.{owners_of, reach_of};
 ghost use Rattle.owner_index.specs.Settled.{HasBelow, IsRightAbove, Settles};
 ghost use Rattle.owner_index.specs.declared.which.Which.TheVariants.{Owners, Reach};
 ghost use Rattle.schema_model.specs.OwnerSchema.{IsOwnerSchema};
-ghost use Rattle.subject_model.specs.Owners.{owners, reach};
 
 use crate::gather::set_of;
 use crate::index::OwnerIndex;
@@ -60,8 +60,8 @@ fn subjects_of<V: StoreView, R: Referring>(
     requires graph { IsGraphOf (length (V.db view.now).schema.tables) (V.db view.now).schema.edges graph.now }
     requires linked { R.linked references.now ≡ V.db view.now }
     requires owner { IsOwnerSchema (V.db view.now).schema }
-    ensures owners { IfOk result (λ subjects. IsRightAbove (V.db view.now) Owners index.now name.now → subjects.owners ≡ map as_subject (owners (V.db view.now) name.now)) }
-    ensures reach { IfOk result (λ subjects. IsRightAbove (V.db view.now) Reach index.now name.now → subjects.reach ≡ map as_subject (reach (V.db view.now) name.now)) }
+    ensures owners { IfOk result (λ subjects. IsRightAbove (V.db view.now) Owners index.now name.now → subjects.owners ≡ owners_at (V.db view.now) name.now) }
+    ensures reach { IfOk result (λ subjects. IsRightAbove (V.db view.now) Reach index.now name.now → subjects.reach ≡ reach_at (V.db view.now) name.now) }
 {
     let Some(row) = row_of(view, name) else {
         return Ok(Subjects::none(alloc));

@@ -1,7 +1,7 @@
 mod EntryLemmas
 mod HalfwayLemmas
 mod HoldersLemmas
-mod PutUnder
+pub mod PutUnder
 mod StandsLemmas
 mod TableLemmas
 pub mod TellLemmas

@@ -3,7 +3,7 @@ ghost use Rattle.ref_index.specs.OneProof.{stands-prop};
 ghost use Rattle.ref_index.specs.Stands.{Stands};
 
 use crate::index::RefIndex;
-use link_model::{Linked, Referring};
+use link_model::Referring;
 use own_base::{ColNo, Key, Row, RowName, TableNo};
 use own_model::{Schema, StoreView};
 
@@ -61,10 +61,4 @@ impl<'a, V: StoreView> Referring for WithIndex<'a, V> {
     fn holders_from(&self, table: TableNo, column: ColNo, value: &Key, at: u64) -> &[(Key, Key)] {
         self.index.holders_from(table, column, value, at)
     }
-}
-
-impl<'a, V: StoreView> Linked for WithIndex<'a, V> {
-    ghost use Rattle.std.specs.Prelude.{refl};
-
-    ghost one = { λ both. refl };
 }

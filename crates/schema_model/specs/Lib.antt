@@ -1,6 +1,7 @@
 pub mod Columns
 pub mod Explained
 pub mod Kinds
+pub mod Lone
 pub mod NewEdges
 pub mod NewTable
 pub mod OnRules

@@ -143,9 +143,11 @@ fn with_changes(rt: &(impl Abort + AllocGlobal), version: &Version, bound: &Boun
     ensures { IsWellFormed result }
 {
     let changes = written(rt, version, bound);
-    let next = prepare(rt.alloc(), version, changes.items());
+    let both = prepare(rt.alloc(), version, changes.items());
     drop(changes);
-    next.expect(rt, "memory")
+    let (next, moves) = both.expect(rt, "memory");
+    drop(moves);
+    next
 }
 
 /// The next version by a bound statement, which has to be a write.

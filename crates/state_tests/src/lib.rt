@@ -18,6 +18,8 @@ mod looks;
 #[cfg(test)]
 mod moving;
 #[cfg(test)]
+mod moving_looks;
+#[cfg(test)]
 mod owning;
 #[cfg(test)]
 mod reading;

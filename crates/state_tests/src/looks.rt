@@ -12,7 +12,8 @@ use crate::kept::row_bound;
 use crate::sessions::{begun, reply_to_statement};
 use crate::store::{Store, store_of};
 use crate::texts::{check_lines, read};
-use own_base::{Row, RowName, SessionNo, TableNo};
+use link_model::{Linked, Referring};
+use own_base::{ColNo, Key, Row, RowName, SessionNo, Subject, TableNo};
 use own_model::{Bound, Reply, Schema, StoreView};
 use std::cell::Cell;
 use std::mem::drop;
@@ -22,9 +23,9 @@ use txn_core::Txns;
 
 /// A version that counts how often its rows are looked at. A run of it is one row, so each row that is lent is a look.
 #[derive(Drop)]
-struct Counted<'a> {
-    shown: Shown<'a>,
-    looks: Cell<u64>,
+pub struct Counted<'a> {
+    pub shown: Shown<'a>,
+    pub looks: Cell<u64>,
 }
 
 impl<'a> Counted<'a> {
@@ -67,6 +68,36 @@ impl<'a> StoreView for Counted<'a> {
     }
 
     ghost ordered = { λ counted. counted.shown.ordered };
+}
+
+impl<'a> Referring for Counted<'a> {
+    ghost linked = { λ counted. counted.shown.version.now };
+
+    fn holder_count(&self, table: TableNo, column: ColNo, value: &Key) -> u64 {
+        self.look();
+        self.shown.holder_count(table, column, value)
+    }
+
+    fn holders_from(&self, table: TableNo, column: ColNo, value: &Key, at: u64) -> &[(Key, Key)] {
+        self.look();
+        self.shown.holders_from(table, column, value, at)
+    }
+}
+
+impl<'a> Linked for Counted<'a> {
+    ghost use Rattle.std.specs.Prelude.{refl};
+
+    ghost one = { λ counted. refl };
+
+    fn owners(&self, name: &RowName) -> &[Subject] {
+        self.look();
+        self.shown.owners(name)
+    }
+
+    fn reach(&self, name: &RowName) -> &[Subject] {
+        self.look();
+        self.shown.reach(name)
+    }
 }
 
 /// How many rows the table has, numbered from 0.

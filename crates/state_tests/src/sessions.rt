@@ -14,8 +14,9 @@ use crate::changes::check_names;
 use crate::kept::{bound, row_bound};
 use crate::store::store_of;
 use crate::texts::{check_lines, read};
+use link_model::Linked;
 use own_base::{Key, Place, RowName, SessionNo, TableNo};
-use own_model::{Bound, Refusal, Reply, StoreView};
+use own_model::{Bound, Refusal, Reply};
 use std::alloc::{AllocError, Global};
 use std::mem::drop;
 use std::process::Abort;
@@ -37,7 +38,7 @@ fn refused(rt: &impl Abort, why: Refusal) -> Reply
 }
 
 /// The reply to a bound statement in the open transaction of a session.
-pub fn reply_to_statement<V: StoreView>(
+pub fn reply_to_statement<V: Linked>(
     rt: &(impl Abort + AllocGlobal),
     version: &V,
     txns: &mut Txns,

@@ -1,6 +1,7 @@
 //! What writes change, and what is judged of a store by their changes.
 ghost use Rattle.std.specs.Prelude.{◌≡◌};
 ghost use Rattle.commit_check.specs.declared.judged.Judged.TheVariants.{Weighs};
+ghost use Rattle.move_model.specs.Moves.{AreMovesOf};
 ghost use Rattle.run_model.specs.Run.{run_bound};
 ghost use Rattle.state_model.specs.Net.{net};
 ghost use Rattle.state_model.specs.Put.{put};
@@ -14,13 +15,14 @@ use crate::kept::{bound, written};
 use crate::store::{Store, judged, judged_now, store_of};
 use crate::texts::{check_lines, read};
 use commit_check::Judged;
+use commit_judge::judge_by;
+use move_model::OwnerMove;
 use own_base::Change;
 use own_model::{Bound, Reply};
 use payload_size::payload_size;
 use std::mem::drop;
 use std::process::Abort;
 use store_version::{Next, Shown, Version, prepare};
-use unlinked_check::{are_unlinked, judge_unlinked};
 use write_eval::{Written, write_changes};
 
 const STORE: &str = "\
@@ -132,19 +134,21 @@ fn weight_by_changes(
     version: &Version,
     next: &Next,
     changes: &[Change],
+    moves: &[OwnerMove],
 ) -> u64
     requires sound { Sound version.now }
     requires net { changes.now ≡ net version.now (put version.now changes.now) }
     requires well_formed { IsWellFormed next.now }
     requires next { next.now ≡ put version.now changes.now }
+    requires moves { AreMovesOf version.now (put version.now changes.now) moves.now }
 {
     let before = weight(rt, version);
-    assert!(rt; are_unlinked(version.schema(), changes));
     let shown = Shown { version };
     let left = Shown {
         version: next.version(),
     };
-    weight_in(rt, judge_unlinked(&shown, &left, before, changes))
+    let judged = judge_by(rt.alloc(), &shown, &left, before, changes, moves);
+    weight_in(rt, judged.expect(rt, "memory"))
 }
 
 /// Looks at what is judged of a version behind the net of a write, and at the bytes of that.
@@ -153,17 +157,19 @@ fn check_next(
     version: &Version,
     next: &Next,
     changes: &[Change],
+    moves: &[OwnerMove],
     case: &Case,
 )
     requires sound { Sound version.now }
     requires net { changes.now ≡ net version.now (put version.now changes.now) }
     requires well_formed { IsWellFormed next.now }
     requires next { next.now ≡ put version.now changes.now }
+    requires moves { AreMovesOf version.now (put version.now changes.now) moves.now }
 {
     let whole = weight_in(rt, judged(rt, next));
     assert_eq!(rt; whole, case.weighs);
     assert_eq!(rt; payload_size(changes), case.bytes);
-    let alone = weight_by_changes(rt, version, next, changes);
+    let alone = weight_by_changes(rt, version, next, changes, moves);
     assert_eq!(rt; alone, case.weighs);
 }
 
@@ -175,8 +181,9 @@ fn check_net(rt: &(impl Abort + AllocGlobal), version: &Version, bound: &Bound, 
 {
     let changes = written(rt, version, bound);
     check_names(rt, &changes, case.net);
-    let next = prepare(rt.alloc(), version, changes.items()).expect(rt, "memory");
-    check_next(rt, version, &next, changes.items(), case);
+    let (next, moves) = prepare(rt.alloc(), version, changes.items()).expect(rt, "memory");
+    check_next(rt, version, &next, changes.items(), moves.items(), case);
+    drop(moves);
     drop(next);
     drop(changes);
 }

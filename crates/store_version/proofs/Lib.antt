@@ -1,5 +1,9 @@
+mod CreatedOwners
 mod Indexed
+mod LoneChange
 mod NamedRows
 mod OneChange
 mod PartsAfter
+pub mod PutLemmas
+mod SameOwners
 pub mod TheirParts

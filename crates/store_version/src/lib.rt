@@ -4,7 +4,9 @@
 
 mod after;
 mod preparing;
+mod rows;
 mod shown;
+mod shown_rows;
 mod version;
 
 pub use preparing::{prepare, prepare_table, prepare_view, publish, publish_change};

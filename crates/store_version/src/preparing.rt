@@ -1,38 +1,44 @@
-ghost use Rattle.std.specs.Prelude.{◌≡◌, ◌<◌, ◌∷◌, [], length, IfOk, OnErr, OnOk};
+ghost use Rattle.std.specs.Prelude.{◌≡◌, ◌<◌, ◌∷◌, [], length, IfOk, IsTrue, OnErr, OnOk};
 ghost use Rattle.own_model.specs.declared.limit.TheConstants.{VIEWS};
 ghost use Rattle.own_model.specs.Db.{IsOrdered};
+ghost use Rattle.schema_model.specs.Lone.{is_lone};
+ghost use Rattle.schema_model.specs.OwnerSchema.{IsOwnerSchema};
 ghost use Rattle.state_model.specs.Put.{put};
+ghost use Rattle.move_model.specs.Moves.{AreMovesOf};
 ghost use Rattle.annot_schema.specs.Created.{IsAdmissible};
 ghost use Rattle.ref_index.specs.Tells.{Tell};
 ghost use Rattle.store_version.specs.Added.{db_viewed, db_with};
 
-use crate::after::{parts_after, parts_copied};
+use crate::shown_rows::ShownRows;
 use crate::version::{Next, Version};
 use annot_schema::Admitted;
-use own_base::{Change, MakeCopy, TableNo, Text};
+use move_model::OwnerMove;
+use own_base::{Change, List, MakeCopy, Text};
 use own_model::ViewDef;
 use std::alloc::{AllocError, Global};
-use std::mem::drop;
-use std::slice;
-use std::sync::Arc;
-use table_part::TablePart;
 
-/// The version with changes of rows, which may come in any order, each of which tells the row as it is.
-pub fn prepare(alloc: Global, version: &Version, changes: &[Change]) -> Result<Next, AllocError>
+/// The version with changes of rows, which may come in any order, each of which tells the row as it is, and which subjects
+/// stand otherwise to which rows than before.
+pub fn prepare(
+    alloc: Global,
+    version: &Version,
+    changes: &[Change],
+) -> Result<(Next, List<OwnerMove>), AllocError>
     requires tells { Tell version.now changes.now }
     requires ordered { IsOrdered version.now }
-    ensures { IfOk result (λ next. next ≡ put version.now changes.now) }
+    requires owner { IsOwnerSchema version.now.schema }
+    ensures next { IfOk result (λ both. both.0 ≡ put version.now changes.now) }
+    ensures moves { IfOk result (λ both. AreMovesOf version.now (put version.now changes.now) both.1) }
 {
-    let parts = parts_after(alloc, &version.catalog, &version.parts, changes)?;
-    let index = version.index.with_changes(alloc, changes)?;
-    let catalog = Arc::try_clone(&version.catalog)?;
-    Ok(Next {
-        version: Version {
-            catalog,
-            parts,
-            index,
-        },
-    })
+    let rows = version.rows.after(alloc, changes)?;
+    let left = ShownRows { rows: &rows };
+    let (owners, moves) = version
+        .owners
+        .after(alloc, rows.graph(), &left, &left, changes)?;
+    let next = Next {
+        version: Version { rows, owners },
+    };
+    Ok((next, moves))
 }
 
 /// The version with a table that was admitted over its schema, without rows, and with the text of its create.
@@ -46,19 +52,10 @@ pub fn prepare_table(
     requires ordered { IsOrdered version.now }
     ensures { IfOk result (λ next. next ≡ db_with version.now admitted text) }
 {
-    let number = TableNo(version.catalog.schema().tables.items().len() as u32);
-    let index = version.index.with_table(alloc, number, &admitted.table)?;
-    let part = TablePart::new(admitted.table.key);
-    let catalog = version.catalog.with_table(alloc, admitted, text)?;
-    let catalog = Arc::new(alloc, catalog)?;
-    let mut parts = parts_copied(alloc, &version.parts)?;
-    parts.push(part)?;
+    let rows = version.rows.with_table(alloc, admitted, text)?;
+    let owners = version.owners.copy(alloc)?;
     Ok(Next {
-        version: Version {
-            catalog,
-            parts,
-            index,
-        },
+        version: Version { rows, owners },
     })
 }
 
@@ -72,16 +69,10 @@ pub fn prepare_view(
     requires { length version.now.schema.views < VIEWS }
     ensures { IfOk result (λ next. next ≡ db_viewed version.now definition text) }
 {
-    let catalog = version.catalog.with_view(alloc, definition, text)?;
-    let catalog = Arc::new(alloc, catalog)?;
-    let parts = parts_copied(alloc, &version.parts)?;
-    let index = version.index.copy(alloc)?;
+    let rows = version.rows.with_view(alloc, definition, text)?;
+    let owners = version.owners.copy(alloc)?;
     Ok(Next {
-        version: Version {
-            catalog,
-            parts,
-            index,
-        },
+        version: Version { rows, owners },
     })
 }
 
@@ -92,8 +83,8 @@ pub fn publish(version: &mut Version, next: Next)
     *version = next.version;
 }
 
-/// Makes one change of a row, which tells the row as it is, in the version itself: in place, where nobody shares the rows
-/// that it falls among. After `AllocError` the version is as it was.
+/// Makes one change of a row of a lone table, which tells the row as it is, in the version itself: in place, where nobody
+/// shares the rows that it falls among. Nobody's rows are others' by it. After `AllocError` the version is as it was.
 pub fn publish_change(
     alloc: Global,
     version: &mut Version,
@@ -101,18 +92,10 @@ pub fn publish_change(
 ) -> Result<(), AllocError>
     requires tells { Tell version.old (change.now ∷ []) }
     requires ordered { IsOrdered version.old }
+    requires owner { IsOwnerSchema version.old.schema }
+    requires lone { IsTrue (is_lone version.old.schema change.now.name.table.0) }
     ensures changed { OnOk result (version.new ≡ put version.old (change.now ∷ [])) }
     ensures unchanged { OnErr result (version.new ≡ version.old) }
 {
-    let index = version.index.with_changes(alloc, slice::from_ref(change))?;
-    match version.parts[change.name.table.0 as usize].change(alloc, change) {
-        Ok(()) => {
-            version.index = index;
-            Ok(())
-        }
-        Err(refused) => {
-            drop(index);
-            Err(refused)
-        }
-    }
+    version.rows.change(alloc, change)
 }

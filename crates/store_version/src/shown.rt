@@ -1,11 +1,13 @@
+ghost use Rattle.std.specs.Prelude.{refl};
 ghost use Rattle.own_model.specs.Db.{IsOrdered};
 ghost use Rattle.own_model.proofs.OneOrder.{ordered-prop};
 
 use crate::version::Version;
-use own_base::{Row, RowName, TableNo};
+use link_model::{Linked, Referring};
+use own_base::{ColNo, Key, Row, RowName, Subject, TableNo};
 use own_model::{Schema, StoreView};
 
-/// The rows of a version, lent, whose keys rise in each table.
+/// A version, lent, whose rows' keys rise in each table: its rows, who holds what in them, and whose they are.
 #[derive(Drop)]
 pub struct Shown<'a> {
     pub version: &'a Version,
@@ -20,20 +22,44 @@ impl<'a> StoreView for Shown<'a> {
     }
 
     fn count(&self, table: TableNo) -> u64 {
-        self.version.count(table)
+        self.version.rows().count(table)
     }
 
     fn row_at(&self, table: TableNo, at: u64) -> Option<&Row> {
-        self.version.row_at(table, at)
+        self.version.rows().row_at(table, at)
     }
 
     fn row(&self, name: &RowName) -> Option<&Row> {
-        self.version.row(name)
+        self.version.rows().row(name)
     }
 
     fn rows_from(&self, table: TableNo, at: u64) -> &[Row] {
-        self.version.rows_from(table, at)
+        self.version.rows().rows_from(table, at)
     }
 
     ghost ordered = { λ shown. shown.ordered };
+}
+
+impl<'a> Referring for Shown<'a> {
+    ghost linked = { λ shown. shown.version.now };
+
+    fn holder_count(&self, table: TableNo, column: ColNo, value: &Key) -> u64 {
+        self.version.rows().holder_count(table, column, value)
+    }
+
+    fn holders_from(&self, table: TableNo, column: ColNo, value: &Key, at: u64) -> &[(Key, Key)] {
+        self.version.rows().holders_from(table, column, value, at)
+    }
+}
+
+impl<'a> Linked for Shown<'a> {
+    fn owners(&self, name: &RowName) -> &[Subject] {
+        self.version.owners(name)
+    }
+
+    fn reach(&self, name: &RowName) -> &[Subject] {
+        self.version.reach(name)
+    }
+
+    ghost one = { λ shown. refl };
 }

@@ -27,6 +27,7 @@ use crate::conflict::conflict;
 use crate::session_state::SessionState;
 use crate::sessions::Sessions;
 use crate::single_write::single;
+use link_model::Linked;
 use own_base::{Change, List, Place, RowName, SessionNo};
 use own_model::{Bound, Footprint, Refusal, Reply, SESSIONS, Schema, StoreView};
 use plan_bind::footprint;
@@ -143,7 +144,7 @@ impl Txns {
     /// Runs a bound SELECT, INSERT, UPDATE or DELETE in the open transaction of a session, which then holds the rows of its
     /// footprint besides. Where another session stands in the way it is refused with the conflict, and where memory is
     /// refused with `Memory`: nothing changes then. A statement that is refused as it runs is one of the transaction.
-    pub fn statement<V: StoreView>(
+    pub fn statement<V: Linked>(
         &mut self,
         alloc: Global,
         version: &V,
@@ -186,7 +187,7 @@ impl Txns {
 
     /// A write of a session outside a transaction: the reply to it, and the net of what it changes, by table, then key; or
     /// why it is refused, with the conflict where a session stands in the way. Where memory is refused, it is `Memory`.
-    pub fn single<V: StoreView>(
+    pub fn single<V: Linked>(
         &self,
         alloc: Global,
         version: &V,
@@ -208,7 +209,7 @@ impl Txns {
     }
 
     /// What the open transaction of a session changes in a version: the net. Where it has run no write that takes no memory.
-    pub fn changes<V: StoreView>(
+    pub fn changes<V: Linked>(
         &self,
         alloc: Global,
         version: &V,

@@ -1,4 +1,8 @@
-use Rattle.std.proofs.Common.{true}
+use Rattle.std.proofs.Common.{◌∙◌, List, true, ap, subst, sym}
+use Rattle.own_base.specs.declared.change.Change.{Change}
+use Rattle.move_model.specs.declared.owner_move.OwnerMove.{OwnerMove}
+use Rattle.move_model.specs.Moves.{AreMovesOf}
+use Rattle.state_model.specs.Put.{put}
 use Rattle.state_model.proofs.CreatedSchema.{owner_schema-created, within-created}
 use Rattle.engine_core.proofs.Erased.{erases-forgotten, forgot-accepted, tells-erasing}
 use Rattle.engine_core.proofs.Forgotten.{erased-sound, few-erased, lent-there, planned-next, tells-forgotten}
@@ -14,6 +18,7 @@ pub prepare-requires : goal.prepare-requires
 prepare-requires c = record {
   tells = rw c.items-2.ensures (record { was = c.in_ok-changes.ensures.was; may = c.in_ok-changes.ensures.may });
   ordered = c.requires.sound.well_formed.ordered;
+  owner = owner_schema-created c.args.version.now c.requires.sound.well_formed.created;
 }
 
 pub forgotten-reply-requires : goal.forgotten-reply-requires
@@ -21,12 +26,23 @@ forgotten-reply-requires c =
     let db = c.args.version.now in
     rw c.items-3.ensures (few-erased db c.args.subject.now.0 c.in_ok-changes.changes c.requires.sound.faultless c.in_ok-changes.ensures.plan)
 
-pub weighed-requires : goal.weighed-requires
-weighed-requires c =
+-- what the changes leave is sound
+pub weight_left-left-requires : goal.weight_left-left-requires
+weight_left-left-requires c =
     let db = c.args.version.now in
     let subject = c.args.subject.now.0 in
-    let is = planned-next db c.in_ok-next.next subject c.items-2.result.now c.in_ok-changes.changes c.in_ok-next.ensures c.items-2.ensures c.in_ok-changes.ensures.put in
-    erased-sound db c.in_ok-next.next subject c.requires.subject c.requires.sound is
+    let next = c.in_ok-next.next in
+    let is = planned-next db next subject c.items-2.result.now c.in_ok-changes.changes c.in_ok-next.ensures.next c.items-2.ensures c.in_ok-changes.ensures.put in
+    let same = c.items-2.ensures ∙ sym c.items-4.ensures in
+    let moves : AreMovesOf db (put db c.items-4.result.now) c.in_ok-next.moves = subst (λ (list : List Change). AreMovesOf db (put db list) c.in_ok-next.moves) same c.in_ok-next.ensures.moves in
+    record {
+      sound = c.requires.sound;
+      weighs = c.requires.weighs;
+      tells = rw c.items-4.ensures (record { was = c.in_ok-changes.ensures.was; may = c.in_ok-changes.ensures.may });
+      next = c.in_ok-next.ensures.next ∙ ap (put db) same;
+      sound_next = erased-sound db next subject c.requires.subject c.requires.sound is;
+      moves = subst (λ (list : List OwnerMove). AreMovesOf db (put db c.items-4.result.now) list) (sym c.items-5.ensures) moves;
+    }
 
 -- it is told with its counts
 told : goal.returns-in-Ok-clause-tells
@@ -34,12 +50,12 @@ told c =
     let db = c.args.version.now in
     let subject = c.args.subject.now.0 in
     let next = c.in_ok-next.next in
-    let is = planned-next db next subject c.items-2.result.now c.in_ok-changes.changes c.in_ok-next.ensures c.items-2.ensures c.in_ok-changes.ensures.put in
+    let is = planned-next db next subject c.items-2.result.now c.in_ok-changes.changes c.in_ok-next.ensures.next c.items-2.ensures c.in_ok-changes.ensures.put in
     let sound = erased-sound db next subject c.requires.subject c.requires.sound is in
     let there = lent-there db subject c.row.result c.row.ensures c.if-is_none.ensures in
     let counted = rw c.items-3.ensures at c.forgotten-reply.ensures in
     tells-erasing db _ _ c.decided.result c.erasing.result c.erasing.ensures.reply c.erasing.ensures.next
-    (tells-forgotten db next subject c.in_ok-changes.changes c.forgotten-reply.result c.decided.result there is sound.faultless c.in_ok-changes.ensures.plan counted (c.decided.ensures.tells db true c.in-Ok.ensures tt))
+    (tells-forgotten db next subject c.in_ok-changes.changes c.forgotten-reply.result c.decided.result there is sound.faultless c.in_ok-changes.ensures.plan counted (c.decided.ensures.tells db true (sound.faultless, sym c.in-Ok.ensures) tt))
 
 pub returns-in-Ok-clause-tells : goal.returns-in-Ok-clause-tells
 returns-in-Ok-clause-tells c = told c

@@ -1,17 +1,23 @@
-use Rattle.std.proofs.Common.{◌∙◌, ap, sym}
-use Rattle.own_model.specs.Db.{Db}
-use Rattle.state_model.specs.Net.{net}
+use Rattle.std.proofs.Common.{◌∙◌, ap, subst, sym}
+use Rattle.own_model.specs.Db.{Db, IsOrdered}
+use Rattle.move_model.specs.Moves.{AreMovesOf}
+use Rattle.state_model.specs.Rows.{AreRowsOf}
+use Rattle.engine_core.proofs.Nets.{lead-net}
 use Rattle.state_tests.proofs.KeptStores.{owner_schema, within_limits}
 use Rattle.state_tests.proofs.writing.weight_by_changes.Goals as goal
 
-pub judge_unlinked-requires-clause-schema : goal.judge_unlinked-requires-clause-schema
-judge_unlinked-requires-clause-schema g c = ap (λ (db : Db). db.schema) (c.version.ensures ∙ c.requires.next)
-
-pub judge_unlinked-requires-clause-limits : goal.judge_unlinked-requires-clause-limits
-judge_unlinked-requires-clause-limits g c = within_limits c.args.version.now c.requires.sound.well_formed
-
-pub judge_unlinked-requires-clause-owner : goal.judge_unlinked-requires-clause-owner
-judge_unlinked-requires-clause-owner g c = owner_schema c.args.version.now c.requires.sound.well_formed
-
-pub judge_unlinked-requires-clause-net : goal.judge_unlinked-requires-clause-net
-judge_unlinked-requires-clause-net g c = c.requires.net ∙ ap (net c.args.version.now) (sym (c.version.ensures ∙ c.requires.next))
+pub judge_by-judged-requires : goal.judge_by-judged-requires
+judge_by-judged-requires g c =
+    let db = c.args.version.now in
+    let is = c.version.ensures ∙ c.requires.next in
+    let after = subst IsOrdered c.requires.next c.requires.well_formed.ordered in
+    record {
+      schema = ap (λ (db : Db). db.schema) is;
+      limits = within_limits db c.requires.sound.well_formed;
+      owner = owner_schema db c.requires.sound.well_formed;
+      rows = subst (λ (db : Db). AreRowsOf db.schema.tables db.rows) (sym c.version.ensures) c.requires.well_formed.rows;
+      faultless = c.requires.sound.faultless;
+      weight = c.weight-before.ensures;
+      leads = lead-net db _ c.args.changes.now c.requires.sound.well_formed.ordered after is c.requires.net;
+      moves = subst (λ (next : Db). AreMovesOf db next c.args.moves.now) (sym is) c.requires.moves;
+    }

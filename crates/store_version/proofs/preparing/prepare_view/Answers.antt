@@ -1,17 +1,13 @@
-use Rattle.std.proofs.Common.{◌∙◌, ap}
-use Rattle.annot_schema.specs.Created.{Created, created_viewed}
-use Rattle.store_version.proofs.Indexed.{parts-viewed, view-stands}
+use Rattle.std.proofs.Common.{List, subst, sym}
+use Rattle.owner_index.specs.declared.entry.Entry.{Entry}
+use Rattle.owner_index.specs.Held.{StandsFor}
+use Rattle.store_version.specs.Added.{db_viewed}
+use Rattle.store_version.proofs.CreatedOwners.{stands-viewed}
 use Rattle.store_version.proofs.preparing.prepare_view.Goals as goal
 
--- a view leaves the tables and their rows
+-- a view leaves whose the rows are
 pub invariant_of-result : goal.invariant_of-result
 invariant_of-result c =
-    let catalog = c.version.inside.catalog.value in
-    let after = c.in_ok-catalog-2.catalog.value in
-    let parts = c.version.inside.parts.items in
-    let after_is = c.in_ok-catalog-2.ensures.ok ∙ (c.in_ok-catalog.ensures ∙ ap (λ (catalog : Created). created_viewed catalog c.args.definition c.args.text) c.deref.ensures) in
-    let copies = c.in_ok-parts.ensures ∙ c.deref-2.ensures.value in (
-      parts-viewed catalog after c.args.definition c.args.text parts c.in_ok-parts.parts.items c.version.invariant.0 after_is copies,
-      view-stands catalog after c.args.definition c.args.text parts c.in_ok-parts.parts.items c.version.inside.index c.in_ok-index.index after_is copies c.in_ok-index.ensures
-          c.version.invariant.1,
-    )
+    subst (λ db. StandsFor db c.in_ok-owners.owners) (sym c.in_ok-rows.ensures)
+    (subst (λ (entries : List Entry). StandsFor (db_viewed c.version.inside.rows c.args.definition c.args.text) entries) (sym c.in_ok-owners.ensures)
+    (stands-viewed c.version.inside.rows c.args.definition c.args.text c.version.inside.owners c.version.invariant))

@@ -1,31 +1,19 @@
-use Rattle.std.proofs.Common.{sym, subst}
-use Rattle.ref_index.specs.Stands.{Stands}
+use Rattle.std.proofs.Common.{[], ◌∷◌, subst, sym}
+use Rattle.std.specs.Prelude.{IsTrue}
+use Rattle.own_model.specs.Db.{Db, IsOrdered}
+use Rattle.schema_model.specs.Lone.{is_lone}
+use Rattle.schema_model.specs.OwnerSchema.{IsOwnerSchema}
 use Rattle.ref_index.specs.Tells.{Tell}
-use Rattle.store_version.proofs.Indexed.{version-changed}
-use Rattle.store_version.proofs.OneChange.{keyed-there, parts-changed}
+use Rattle.store_version.proofs.LoneChange.{stands-lone}
 use Rattle.store_version.proofs.preparing.publish_change.Goals as goal
 
-pub change-requires : goal.change-requires
-change-requires c =
-    keyed-there c.version.inside.catalog.value.schema.tables c.version.inside.parts.items c.args.change.now c.index_mut.result.now c.version.invariant.0
-    (rw (← c.version.view_is) at c.requires.tells.may.theirs.0) c.index_mut.ensures.value
-
--- the parts stay those of the tables, and the index is that of the rows with the change
+-- the owner sets stay those of the rows
 pub invariant_of-version : goal.invariant_of-version
 invariant_of-version c =
-    let may = rw (← c.version.view_is) at c.requires.tells.may.theirs.0 in
-    let catalog = c.version.inside.catalog.value in
-    let parts = c.version.inside.parts.items in
-    let stands = subst (λ db. Stands db c.version.inside.index) c.version.view_is c.version.invariant.1 in
-    let is = version-changed catalog parts c.args.change.now c.index_mut.result.now c.change.new.self c.args.version.now c.version.invariant.0 may c.index_mut.ensures.value c.in-Ok.ensures.rows c.version.view_is in (
-      parts-changed catalog.schema.tables parts c.args.change.now c.index_mut.result.now c.change.new.self c.version.invariant.0 may c.index_mut.ensures.value c.in-Ok.ensures.key,
-      subst (λ db. Stands db c.in_ok-index.index) (sym is)
-          (rw c.from_ref.ensures.value at
-          (c.in_ok-index.ensures c.args.version.now c.requires.ordered stands (subst (Tell c.args.version.now) (sym c.from_ref.ensures.value) c.requires.tells))),
-    )
-
--- the rows of its table alone have the change
-pub returns-in-Ok-clause-changed : goal.returns-in-Ok-clause-changed
-returns-in-Ok-clause-changed c =
-    version-changed c.version.inside.catalog.value c.version.inside.parts.items c.args.change.now c.index_mut.result.now c.change.new.self c.args.version.now c.version.invariant.0
-    (rw (← c.version.view_is) at c.requires.tells.may.theirs.0) c.index_mut.ensures.value c.in-Ok.ensures.rows c.version.view_is
+    let same = sym c.version.view_is in
+    stands-lone c.version.inside.rows c.args.change.now c.version.inside.owners
+    (subst IsOrdered same c.requires.ordered)
+    (subst (λ (db : Db). IsOwnerSchema db.schema) same c.requires.owner)
+    (subst (λ (db : Db). IsTrue (is_lone db.schema c.args.change.now.name.table.0)) same c.requires.lone)
+    (subst (λ (db : Db). Tell db (c.args.change.now ∷ [])) same c.requires.tells)
+    c.version.invariant c.change.result c.change.new.self c.change.ensures.changed c.change.ensures.unchanged

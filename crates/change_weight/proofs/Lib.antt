@@ -1,0 +1,9 @@
+mod AtNames
+mod DerivedNames
+mod Exchange
+mod LoneChange
+mod LoneTables
+mod Moved
+mod Sums
+mod ViewSums
+mod WeightSums

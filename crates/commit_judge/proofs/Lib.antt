@@ -1,0 +1,10 @@
+pub mod TableLeads
+pub mod SameElsewhere
+pub mod EdgeLemmas
+pub mod LinkLemmas
+pub mod EdgeRows
+pub mod RowBound
+pub mod OwnersLeft
+pub mod FaultsLeft
+pub mod Judgement
+pub mod RowFaults

@@ -1,8 +1,0 @@
-use Rattle.std.proofs.Common.{◌≡◌, take}
-use Rattle.commit_check.specs.Saturated.{saturated}
-use Rattle.unlinked_check.specs.NetWeight.{weight_gone}
-use Rattle.unlinked_check.proofs.net_weight.weight_gone.Given as goal
-
--- the changes so far are counted
-abbrev pub invariant-loop-change : goal.invariant-loop-change
-invariant-loop-change l = l.weight ≡ saturated (weight_gone l.schema (take l.change-index l.changes))

@@ -1,3 +1,0 @@
-pub mod Edgeless
-pub mod Unlinked
-pub mod NetWeight
