@@ -1,6 +1,6 @@
 -- The least row without an owner is what is refused first.
-use Rattle.std.proofs.Common.{◌≡◌, ℕ, List, [], ◌∷◌, Bool, true, false, not, refl, ap, sym, ◌∙◌, subst}
-use Rattle.std.specs.Prelude.{◌&&◌, Option, None, Some, is_some, slice_get, if◌then◌else◌}
+use Rattle.std.proofs.Common.{◌≡◌, List, [], ◌∷◌, Bool, true, false, not, refl, ap, sym, ◌∙◌, subst}
+use Rattle.std.specs.Prelude.{◌&&◌, Option, None, Some, is_some, if◌then◌else◌}
 use Rattle.std.specs.declared.cmp.Ordering.TheVariants.{Less}
 use Rattle.std.proofs.lemmas.Bool.{false_from_ne_true}
 use Rattle.own_base.specs.declared.row_name.RowName.{RowName}
@@ -8,7 +8,7 @@ use Rattle.own_base.specs.declared.value.Key.{Key}
 use Rattle.own_model.specs.declared.refusal.Refusal.{Refusal}
 use Rattle.own_model.specs.declared.refusal.Refusal.TheVariants.{Owner}
 use Rattle.own_model.specs.declared.schema.TableDef.{TableDef}
-use Rattle.own_model.specs.Db.{Db, IsOrdered, Row, key_of}
+use Rattle.own_model.specs.Db.{Db, IsOrdered, Row}
 use Rattle.own_model.specs.Stored.{rows_at}
 use Rattle.owner_model.specs.Joins.{row_of}
 use Rattle.schema_model.specs.Tables.{is_private}

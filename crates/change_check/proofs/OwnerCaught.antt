@@ -1,6 +1,6 @@
 -- Each row that has no owner any more is the row of some change, or of some move.
 use Rattle.std.proofs.Common.{◌≡◌, ℕ, List, [], Bool, true, false, inl, inr, refl, ap, sym, ◌∙◌, subst}
-use Rattle.std.specs.Prelude.{◌⊎◌, Contains, Option, None, Some, not, is_some, slice_get, ◌&&◌, if◌then◌else◌}
+use Rattle.std.specs.Prelude.{◌⊎◌, Option, None, Some, not, is_some, slice_get, ◌&&◌, if◌then◌else◌}
 use Rattle.std.proofs.lemmas.Bool.{and_parts, false_from_ne_true, not-true}
 use Rattle.std.proofs.lemmas.Option.{slice_get_read}
 use Rattle.own_base.specs.declared.change.Change.{Change}
@@ -21,7 +21,7 @@ use Rattle.move_model.specs.declared.owner_move.Standing.TheVariants.{Nothing, R
 use Rattle.move_model.specs.Moves.{AreMovesOf, IsMoveOf}
 use Rattle.move_model.specs.Standing.{standing}
 use Rattle.change_check.specs.declared.cell_name.CellName.{CellName}
-use Rattle.change_check.specs.Least.{IsFurther, is_reached}
+use Rattle.change_check.specs.Least.{IsFurther}
 use Rattle.change_check.specs.Unowned.{IsCaught, is_of_unowned, is_unowned, owner_refusal}
 use Rattle.change_check.proofs.CameLemmas.{ChangeNamed, named_or_same}
 use Rattle.change_check.proofs.FirstUnowned.{first_of_unowned, none_unowned}

@@ -1,6 +1,6 @@
 -- Changes of lone tables leave each row the owners that it had, and those that reach it.
 use Rattle.std.proofs.Common.{◌≡◌, ℕ, List, [], ◌∷◌, map, Bool, true, false, cond, not, refl, ap, sym, ◌∙◌, subst, eq-eqb}
-use Rattle.std.specs.Prelude.{◌&&◌, ◌||◌, ◌==◌, Contains, IsSome, IsTrue, Option, Some, is_some, slice_get}
+use Rattle.std.specs.Prelude.{◌&&◌, ◌==◌, Contains, IsSome, IsTrue, Option, Some, is_some, slice_get}
 use Rattle.std.specs.List.{list_any}
 use Rattle.std.specs.List.Sorted.{IsStrictlySortedBy}
 use Rattle.std.specs.Option.{option_and_then}
@@ -11,7 +11,7 @@ use Rattle.own_base.specs.declared.row_name.RowName.{RowName}
 use Rattle.own_model.specs.declared.schema.Edge.{Edge}
 use Rattle.own_model.specs.declared.schema.Schema.{Schema}
 use Rattle.own_model.specs.Db.{Db, IsOrdered, Row}
-use Rattle.owner_model.specs.Joins.{Joins, holder_of, other_of, row_of, value_of}
+use Rattle.owner_model.specs.Joins.{Joins, other_of, row_of, value_of}
 use Rattle.schema_model.specs.Lone.{are_lone, is_lone, touches}
 use Rattle.schema_model.specs.OwnerSchema.{IsOwnerSchema}
 use Rattle.schema_model.specs.Tables.{is_subject}

@@ -20,10 +20,25 @@ fn compare_names(one: &RowName, other: &RowName) -> Ordering
 /// The bits of a hint that are a key's.
 const KEY_BITS: u32 = 57;
 
-/// The hint of a name: its table, then its key as far as there is room.
+/// The middle of the numbers that a key's bits tell apart.
+const MIDDLE: i64 = 1 << (KEY_BITS - 1);
+
+/// The hint of a key among its table's: a number as it is, as far as there is room, and of a text what it begins with.
+fn hint_in_table(key: &Key) -> u64 {
+    match key {
+        Key::Int(number) => (*number)
+            .max(-MIDDLE)
+            .min(MIDDLE - 1)
+            .wrapping_add(MIDDLE)
+            .cast_unsigned(),
+        Key::Text(_) => hint_of_key(key) >> (64 - KEY_BITS),
+    }
+}
+
+/// The hint of a name: its table, then its key.
 fn hint_of_name(name: &RowName) -> u64 {
     let table = u64::from(name.table.0.min(127));
-    (table << KEY_BITS) | (hint_of_key(&name.key) >> (64 - KEY_BITS))
+    (table << KEY_BITS) | hint_in_table(&name.key)
 }
 
 /// An entry is found by its row's name.

@@ -5,6 +5,5 @@ pub mod Entries
 pub mod Halfway
 pub mod IndexOf
 pub mod Moved
-pub mod OneProof
 pub mod Stands
 pub mod Tells

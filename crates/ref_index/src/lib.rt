@@ -4,7 +4,5 @@
 mod column_index;
 mod entries;
 mod index;
-mod with_index;
 
 pub use index::RefIndex;
-pub use with_index::WithIndex;
