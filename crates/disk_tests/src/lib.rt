@@ -8,8 +8,12 @@ mod images;
 #[cfg(test)]
 mod journals;
 #[cfg(test)]
+mod opening;
+#[cfg(test)]
 mod parts;
 #[cfg(test)]
 mod payloads;
+#[cfg(test)]
+mod recovering;
 #[cfg(test)]
 mod words;

@@ -5,7 +5,8 @@ use Rattle.own_model.specs.declared.history.Entry.{Entry}
 use Rattle.own_model.specs.declared.refusal.Refusal.{Refusal}
 use Rattle.own_model.specs.declared.reply.Reply.{Reply}
 use Rattle.own_model.specs.declared.reply.Reply.TheVariants.{Refused}
-use Rattle.own_model.specs.Db.{Db, empty}
+use Rattle.own_model.specs.Db.{Db}
+use Rattle.state_model.specs.Sound.{Sound}
 use Rattle.state_model.specs.Weight.{weight}
 use Rattle.history_model.specs.Held.{held, items_held}
 use Rattle.history_model.specs.History.{History, dooms, flat_after, happens, own_after, world}
@@ -52,11 +53,12 @@ stands-kept before after world version weighs same stands = record {
 }
 
 -- so an entry may come behind it as before
-pub event-kept : (history : History) (entry : Entry) (before after : State) → after.version ≡ before.version → after.weighs ≡ before.weighs → AreSame before.txns after.txns
+pub event-kept : (history : History) (entry : Entry) (before after : State) → after.opened ≡ before.opened → after.version ≡ before.version → after.weighs ≡ before.weighs → AreSame before.txns after.txns
     → IsEvent before history entry → IsEvent after history entry
-event-kept history entry before after version weighs same event = record {
+event-kept history entry before after opened version weighs same event = record {
   entries = event.entries;
-  stands = stands-kept before after (world empty history) version weighs same event.stands;
+  begun = subst Sound (sym opened) event.begun;
+  stands = subst (λ base. RepresentsWorld after (world base history)) (sym opened) (stands-kept before after (world before.opened history) version weighs same event.stands);
   is_entry = event.is_entry;
   took = event.took;
   built = event.built;
@@ -64,21 +66,21 @@ event-kept history entry before after version weighs same event = record {
 
 module _ (history : History) (entry : Entry) (before after : State) (event : IsEvent before history entry) where
   abbrev now : World
-  now = world empty history
+  now = world before.opened history
 
   abbrev told : Reply
   told = answer now entry
 
   pub stands-calm : (stood : SessionStanding) → after.version ≡ before.version → after.weighs ≡ before.weighs → AreOthersSame entry.session.0 before.txns after.txns
-      → flat_after (world empty history) entry (answer (world empty history) entry) ≡ (world empty history).flat
-      → ((other : ℕ) → dooms (world empty history) entry (answer (world empty history) entry) other ≡ false)
-      → own_after (world empty history) entry (answer (world empty history) entry) ≡ stood
-      → RepresentsSession (world empty history).flat (state_by after.txns.states entry.session.0) stood
-      → RepresentsItems (held_by after.txns.held entry.session.0) (items_held (world empty history).flat.schema stood)
-      → RepresentsWorld after (happens (world empty history) entry)
+      → flat_after (world before.opened history) entry (answer (world before.opened history) entry) ≡ (world before.opened history).flat
+      → ((other : ℕ) → dooms (world before.opened history) entry (answer (world before.opened history) entry) other ≡ false)
+      → own_after (world before.opened history) entry (answer (world before.opened history) entry) ≡ stood
+      → RepresentsSession (world before.opened history).flat (state_by after.txns.states entry.session.0) stood
+      → RepresentsItems (held_by after.txns.held entry.session.0) (items_held (world before.opened history).flat.schema stood)
+      → RepresentsWorld after (happens (world before.opened history) entry)
   stands-calm stood version weighs others calm undoomed stands kept holds =
       let is = event.stands in
-      stands-next history entry event.entries event.is_entry event.took before is after (record { 0 = length history }) refl
+      stands-next history entry event.entries event.is_entry event.took before event.begun is after (record { 0 = length history }) refl
       (version ∙ (is.flat ∙ sym calm)) (ap weight version ∙ (is.weighs ∙ sym weighs))
       (subst (λ db. RepresentsSession db (state_by after.txns.states entry.session.0) (own_after now entry told)) (sym calm)
       (subst (λ stood. RepresentsSession now.flat (state_by after.txns.states entry.session.0) stood) (sym stands) kept))
@@ -90,7 +92,7 @@ module _ (history : History) (entry : Entry) (before after : State) (event : IsE
       })
 
   -- a refusal does both
-  module _ (why : Refusal) (is : answer (world empty history) entry ≡ Refused why) where
+  module _ (why : Refusal) (is : answer (world before.opened history) entry ≡ Refused why) where
     refusal : is_refusal told ≡ true
     refusal = ap is_refusal is
 
@@ -98,16 +100,16 @@ module _ (history : History) (entry : Entry) (before after : State) (event : IsE
     calm = rw refusal refl
 
     pub stands-refused : (stood : SessionStanding) → after.version ≡ before.version → after.weighs ≡ before.weighs → AreOthersSame entry.session.0 before.txns after.txns
-        → own_after (world empty history) entry (answer (world empty history) entry) ≡ stood
-        → RepresentsSession (world empty history).flat (state_by after.txns.states entry.session.0) stood
-        → RepresentsItems (held_by after.txns.held entry.session.0) (items_held (world empty history).flat.schema stood)
-        → RepresentsWorld after (happens (world empty history) entry)
+        → own_after (world before.opened history) entry (answer (world before.opened history) entry) ≡ stood
+        → RepresentsSession (world before.opened history).flat (state_by after.txns.states entry.session.0) stood
+        → RepresentsItems (held_by after.txns.held entry.session.0) (items_held (world before.opened history).flat.schema stood)
+        → RepresentsWorld after (happens (world before.opened history) entry)
     stands-refused stood version weighs others = stands-calm stood version weighs others calm (λ other. refused-dooms now entry told other refusal)
 
     -- and where its session stands as it did the state is the same
     pub stands-unmoved : after.version ≡ before.version → after.weighs ≡ before.weighs → AreSame before.txns after.txns
-        → own_after (world empty history) entry (answer (world empty history) entry) ≡ (world empty history).standing entry.session.0
-        → RepresentsWorld after (happens (world empty history) entry)
+        → own_after (world before.opened history) entry (answer (world before.opened history) entry) ≡ (world before.opened history).standing entry.session.0
+        → RepresentsWorld after (happens (world before.opened history) entry)
     unfolding held
     stands-unmoved version weighs same stays =
         let now_after = stands-kept before after now version weighs same event.stands in

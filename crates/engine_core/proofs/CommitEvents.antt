@@ -9,13 +9,12 @@ use Rattle.own_model.specs.declared.reply.Reply.{Reply}
 use Rattle.own_model.specs.declared.reply.Reply.TheVariants.{Done}
 use Rattle.own_model.specs.declared.request.Request.TheVariants.{Run}
 use Rattle.own_model.specs.declared.statement.Statement.TheVariants as of
-use Rattle.own_model.specs.Db.{Db, empty}
+use Rattle.own_model.specs.Db.{Db}
 use Rattle.state_model.specs.Net.{net}
 use Rattle.state_model.specs.CommitRefusal.{commit_refusal}
 use Rattle.state_model.specs.Put.{put}
 use Rattle.state_model.specs.Sound.{IsWellFormed}
 use Rattle.state_model.specs.Weight.{weight}
-use Rattle.state_model.proofs.WellFormedLemmas.{sound-empty}
 use Rattle.history_model.specs.Held.{held, items_held}
 use Rattle.history_model.specs.History.{History, after_request, dooms, flat, flat_after, forgotten, is_conflict, left_by, own_after, standing, world}
 use Rattle.history_model.specs.Reply.{answer, changes, commit_reply, committing, is_refusal, reply_in}
@@ -46,7 +45,7 @@ module _ (history : History) (entry : Entry) (before : State) (event : IsEvent b
     (asks : entry.request ≡ Run of.Commit) (made : List Change)
     (nets : made ≡ net before.version (changed_db before.version (space_of (state_by before.txns.states entry.session.0)))) where
   abbrev now : World
-  now = world empty history
+  now = world before.opened history
 
   abbrev session : ℕ
   session = entry.session.0
@@ -60,8 +59,8 @@ module _ (history : History) (entry : Entry) (before : State) (event : IsEvent b
   is : IsOpenTxn now.flat own (now.standing session)
   is = stood-open now.flat own (now.standing session) (event.stands.states session) opened
 
-  opens : IsOpenBlock empty history now.flat session is.block
-  opens = open-block empty history now (serial-world empty history sound-empty event.entries) session is.begun is.block is.stands
+  opens : IsOpenBlock before.opened history now.flat session is.block
+  opens = open-block before.opened history now (serial-world before.opened history event.begun event.entries) session is.begun is.block is.stands
 
   -- the database that its statements leave
   abbrev behind : Db
@@ -74,7 +73,7 @@ module _ (history : History) (entry : Entry) (before : State) (event : IsEvent b
 
   block_is : (made ≡ net now.flat behind) × ((put now.flat made).rows ≡ behind.rows)
   unfolding flat standing
-  block_is = net_block empty history sound-empty event.entries session is.begun is.block is.stands is.txn.space is.kept_as.0 made nets_flat
+  block_is = net_block before.opened history event.begun event.entries session is.begun is.block is.stands is.txn.space is.kept_as.0 made nets_flat
 
   changed_flat : put now.flat made ≡ behind
   changed_flat =
@@ -92,7 +91,7 @@ module _ (history : History) (entry : Entry) (before : State) (event : IsEvent b
   pub kept-committed : IsWellFormed (put before.version made)
   kept-committed =
       subst IsWellFormed (sym changed_is)
-      (kept-block (length history) now.flat is.block (sound-now history entry event.entries event.is_entry event.took before event.stands).well_formed opens.stated)
+      (kept-block (length history) now.flat is.block (sound-now history entry event.entries event.is_entry event.took before event.begun event.stands).well_formed opens.stated)
 
   module _ (given : Answer)
       (tells : Tells before.version (committing Took (changes before.version (put before.version made)) (commit_refusal before.version (put before.version made)) Done)
@@ -108,7 +107,7 @@ module _ (history : History) (entry : Entry) (before : State) (event : IsEvent b
 
     told_commit : told ≡ commit_reply Took now.flat behind
     told_commit =
-        answer-in history entry event.entries event.is_entry event.took before event.stands
+        answer-in history entry event.entries event.is_entry event.took before event.begun event.stands
         ∙ (λ i. reply_in now session Took (is.stands i) (asks i))
 
     replied : told ≡ given.reply
@@ -116,7 +115,7 @@ module _ (history : History) (entry : Entry) (before : State) (event : IsEvent b
 
     own_commit : own_after now entry told ≡ Outside
     own_commit =
-        own-in history entry event.entries event.is_entry event.took before event.stands
+        own-in history entry event.entries event.is_entry event.took before event.begun event.stands
         ∙ (λ i. after_request now.place (is.stands i) (asks i) (is_conflict told))
 
     left_commit : left_by now.flat (now.standing session) entry.request ≡ behind
@@ -139,10 +138,10 @@ module _ (history : History) (entry : Entry) (before : State) (event : IsEvent b
     undoomed_all : (other : ℕ) → dooms now entry told other ≡ false
     undoomed_all other = undoomed now entry told other (ap (forgotten now.flat.schema) asks)
 
-    pub serves-commit : Serves {E = ℕ} after history entry (Ok given.reply)
+    pub serves-commit : Serves {E = ℕ} before.opened after history entry (Ok given.reply)
     serves-commit = (
       replied,
-      stands-next history entry event.entries event.is_entry event.took before event.stands after place at left_is
+      stands-next history entry event.entries event.is_entry event.took before event.begun event.stands after place at left_is
           (ap weight version_after ∙ (weighs ∙ sym weighs_after))
           (subst (λ stood. RepresentsSession (flat_after now entry told) (state_by after.txns.states session) stood) (sym own_commit)
           (subst (λ one. RepresentsSession (flat_after now entry told) one Outside) (sym keeps) tt))

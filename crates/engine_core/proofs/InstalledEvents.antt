@@ -12,9 +12,8 @@ use Rattle.own_model.specs.declared.reply.Reply.{Reply}
 use Rattle.own_model.specs.declared.request.Request.TheVariants.{Run}
 use Rattle.own_model.specs.declared.statement.Statement.{Statement}
 use Rattle.own_model.specs.declared.statement.Statement.TheVariants as of
-use Rattle.own_model.specs.Db.{Db, empty}
+use Rattle.own_model.specs.Db.{Db}
 use Rattle.state_model.specs.Weight.{weight}
-use Rattle.state_model.proofs.WellFormedLemmas.{sound-empty}
 use Rattle.run_model.specs.Run.{run}
 use Rattle.history_model.specs.Held.{held, items_held}
 use Rattle.history_model.specs.History.{History, after_request, dooms, flat_after, forgotten, is_conflict, is_doomed_by, left_by, lie_on, own_after, world}
@@ -74,7 +73,7 @@ same_undoomed place before after held are doomed = record {
 
 module _ (history : History) (entry : Entry) (before after : State) (event : IsEvent before history entry) (place : Place) (at : place.0 ≡ length history) where
   abbrev now : World
-  now = world empty history
+  now = world before.opened history
 
   abbrev session : ℕ
   session = entry.session.0
@@ -85,15 +84,15 @@ module _ (history : History) (entry : Entry) (before after : State) (event : IsE
   abbrev own : SessionState
   own = state_by before.txns.states session
 
-  is_serial : IsSerialWorld empty history now
-  is_serial = serial-world empty history sound-empty event.entries
+  is_serial : IsSerialWorld before.opened history now
+  is_serial = serial-world before.opened history event.begun event.entries
 
   -- a number that is no session's holds nothing
   none_held : (other : ℕ) → (other ≡ 0) ⊎ (SESSIONS < other) → held now other ≡ []
   unfolding held
   none_held other out = by (now.standing other) (is_serial.stands other)
     where
-      by : (stood : SessionStanding) → IsStanding empty history now.flat other stood → items_held now.flat.schema stood ≡ []
+      by : (stood : SessionStanding) → IsStanding before.opened history now.flat other stood → items_held now.flat.schema stood ≡ []
       by Outside stands = refl
       by (Doomed by_place) stands = refl
       by (Open begun block) stands = absurd (no out)
@@ -104,7 +103,7 @@ module _ (history : History) (entry : Entry) (before after : State) (event : IsE
 
   -- A statement outside a transaction that runs by itself
   module _ (asked : Statement) (asks : entry.request ≡ Run asked) (itself : RunsByItself asked) (nothing : state_by before.txns.states entry.session.0 ≡ kept.Nothing)
-      (given : Answer) (tells : Tells before.version (reply_outside (world empty history) entry.session.0 Took asked) (run before.version asked).db given)
+      (given : Answer) (tells : Tells before.version (reply_outside (world before.opened history) entry.session.0 Took asked) (run before.version asked).db given)
       (erased : Erases before.version (Run asked) given) (version : after.version ≡ left before.version given.next) (weighs : weight after.version ≡ after.weighs)
       (doomed : HasDoomed given.erased place before.txns after.txns) where
     stands_outside : now.standing session ≡ Outside
@@ -112,7 +111,7 @@ module _ (history : History) (entry : Entry) (before after : State) (event : IsE
 
     told_outside : told ≡ reply_outside now session Took asked
     told_outside =
-        answer-in history entry event.entries event.is_entry event.took before event.stands
+        answer-in history entry event.entries event.is_entry event.took before event.begun event.stands
         ∙ (λ i. reply_in now session Took (stands_outside i) (asks i))
 
     replied : told ≡ given.reply
@@ -120,7 +119,7 @@ module _ (history : History) (entry : Entry) (before after : State) (event : IsE
 
     own_outside : own_after now entry told ≡ Outside
     own_outside =
-        own-in history entry event.entries event.is_entry event.took before event.stands
+        own-in history entry event.entries event.is_entry event.took before event.begun event.stands
         ∙ ((λ i. after_request now.place (stands_outside i) (asks i) (is_conflict told)) ∙ by asked itself)
       where
         by : (asked : Statement) → RunsByItself asked → after_request now.place Outside (Run asked) (is_conflict told) ≡ Outside
@@ -158,11 +157,11 @@ module _ (history : History) (entry : Entry) (before after : State) (event : IsE
     dooms_is other =
         (λ i. not (is_refusal (replied i)) && option_map_or (is_doomed_by now other) (forgotten now.flat.schema (asks i)) false) ∙ sym (erased_now (held now other))
 
-    others : (other : ℕ) → (other ≡ session → ⊥) → IsLeft history entry event.entries event.is_entry event.took before event.stands place after other
+    others : (other : ℕ) → (other ≡ session → ⊥) → IsLeft history entry event.entries event.is_entry event.took before event.begun event.stands place after other
     others other differs = by (in_range other)
       where
         by : ((other ≡ 0) ⊎ (SESSIONS < other)) ⊎ ((1 ≤ other) × (other ≤ SESSIONS))
-            → IsLeft history entry event.entries event.is_entry event.took before event.stands place after other
+            → IsLeft history entry event.entries event.is_entry event.took before event.begun event.stands place after other
         by (inr within) = record {
           states = (doomed.once_doomed (held now) event.stands.held other within.0 within.1).0
               ∙ ap (λ (b : Bool). if b then once_doomed place (state_by before.txns.states other) else state_by before.txns.states other) (sym (dooms_is other));
@@ -194,10 +193,10 @@ module _ (history : History) (entry : Entry) (before after : State) (event : IsE
         by true = stand-same []
         by false = before_held
 
-    pub serves-outside : Serves {E = ℕ} after history entry (Ok given.reply)
+    pub serves-outside : Serves {E = ℕ} before.opened after history entry (Ok given.reply)
     serves-outside = (
       replied,
-      stands-next history entry event.entries event.is_entry event.took before event.stands after place at left_is weighs
+      stands-next history entry event.entries event.is_entry event.took before event.begun event.stands after place at left_is weighs
           (subst (λ stood. RepresentsSession (flat_after now entry told) (state_by after.txns.states session) stood) (sym own_outside)
           (subst (λ one. RepresentsSession (flat_after now entry told) one Outside) (sym own_kept) tt))
           (subst (λ stood. RepresentsItems (held_by after.txns.held session) (items_held (flat_after now entry told).schema stood)) (sym own_outside) own_held)
@@ -207,13 +206,13 @@ module _ (history : History) (entry : Entry) (before after : State) (event : IsE
 -- What an answer leads to is left, or memory is refused and the state is as it was.
 pub serves-installed : {E : Type 0} (history : History) (entry : Entry) (before after : State) (event : IsEvent before history entry) (place : Place) → place.0 ≡ length history
     → (asked : Statement) → entry.request ≡ Run asked → RunsByItself asked → state_by before.txns.states entry.session.0 ≡ kept.Nothing
-    → (given : Answer) → Tells before.version (reply_outside (world empty history) entry.session.0 Took asked) (run before.version asked).db given
+    → (given : Answer) → Tells before.version (reply_outside (world before.opened history) entry.session.0 Took asked) (run before.version asked).db given
     → Erases before.version (Run asked) given → (told : Result Reply E) → IfOk told (λ reply. reply ≡ given.reply)
     → OnOk told (after.version ≡ left before.version given.next) → OnOk told (weight after.version ≡ after.weighs) → OnOk told (HasDoomed given.erased place before.txns after.txns)
-    → OnErr told (after ≡ before) → Serves after history entry told
+    → OnErr told (after ≡ before) → Serves before.opened after history entry told
 serves-installed history entry before after event place at asked asks itself nothing given tells erased (Ok reply) is version weighs doomed stays =
     rw is (serves-outside history entry before after event place at asked asks itself nothing given tells erased version weighs doomed)
 serves-installed history entry before after event place at asked asks itself nothing given tells erased (Err why) is version weighs doomed stays = (
-  subst (λ (state : State). RepresentsWorld state (world empty history)) (sym stays) event.stands,
+  subst (λ (state : State). RepresentsWorld state (world before.opened history)) (sym stays) event.stands,
   unmade-outside history entry before event nothing asked asks itself,
 )

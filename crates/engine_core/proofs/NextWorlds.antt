@@ -7,10 +7,9 @@ use Rattle.own_model.specs.declared.history.Entry.{Entry}
 use Rattle.own_model.specs.declared.history.Verdict.TheVariants.{Took}
 use Rattle.own_model.specs.declared.reply.Reply.{Reply}
 use Rattle.own_model.specs.declared.schema.Schema.{Schema}
-use Rattle.own_model.specs.Db.{Db, empty}
+use Rattle.own_model.specs.Db.{Db}
 use Rattle.state_model.specs.Sound.{Sound}
 use Rattle.state_model.specs.Weight.{weight}
-use Rattle.state_model.proofs.WellFormedLemmas.{sound-empty}
 use Rattle.run_model.specs.Agree.{Agree}
 use Rattle.history_model.specs.HasWritten.{has_written}
 use Rattle.history_model.specs.Held.{held, is_open, items_held}
@@ -35,9 +34,9 @@ use Rattle.engine_core.specs.RepresentsWorld.{RepresentsWorld}
 use Rattle.engine_core.specs.declared.state.State.{State}
 
 module _ (history : History) (entry : Entry) (entered : IsHistory history) (is_entry : IsEntry entry) (took : entry.verdict ≡ Took)
-    (before : State) (stands : RepresentsWorld before (world empty history)) where
+    (before : State) (based : Sound before.opened) (stands : RepresentsWorld before (world before.opened history)) where
   abbrev now : World
-  now = world empty history
+  now = world before.opened history
 
   abbrev session : ℕ
   session = entry.session.0
@@ -48,24 +47,24 @@ module _ (history : History) (entry : Entry) (entered : IsHistory history) (is_e
   abbrev next_flat : Db
   next_flat = flat_after now entry told
 
-  is_serial : IsSerialWorld empty history now
-  is_serial = serial-world empty history sound-empty entered
+  is_serial : IsSerialWorld before.opened history now
+  is_serial = serial-world before.opened history based entered
 
   -- nothing is wrong with the state, before it and behind it
-  pub sound-now : Sound (world empty history).flat
+  pub sound-now : Sound (world before.opened history).flat
   sound-now = is_serial.sound
 
-  pub sound-next : Sound (flat_after (world empty history) entry (answer (world empty history) entry))
-  sound-next = (serial-step empty history now is_serial entry is_entry told (reply-last empty history entry) refl).sound
+  pub sound-next : Sound (flat_after (world before.opened history) entry (answer (world before.opened history) entry))
+  sound-next = (serial-step before.opened history now is_serial entry is_entry told (reply-last before.opened history entry) refl).sound
 
   -- what it is answered, by how its session stands
-  pub answer-in : answer (world empty history) entry ≡ reply_in (world empty history) entry.session.0 Took ((world empty history).standing entry.session.0) entry.request
+  pub answer-in : answer (world before.opened history) entry ≡ reply_in (world before.opened history) entry.session.0 Took ((world before.opened history).standing entry.session.0) entry.request
   unfolding answer
   answer-in = rw (stands.up, took) refl
 
   -- and how its session stands then
-  pub own-in : own_after (world empty history) entry (answer (world empty history) entry)
-      ≡ after_request (world empty history).place ((world empty history).standing entry.session.0) entry.request (is_conflict (answer (world empty history) entry))
+  pub own-in : own_after (world before.opened history) entry (answer (world before.opened history) entry)
+      ≡ after_request (world before.opened history).place ((world before.opened history).standing entry.session.0) entry.request (is_conflict (answer (world before.opened history) entry))
   own-in = rw (answer-works now entry took stands.up) refl
 
   module _ (other : ℕ) (differs : other ≡ entry.session.0 → ⊥) where
@@ -78,14 +77,14 @@ module _ (history : History) (entry : Entry) (entered : IsHistory history) (is_e
       same_standing = rw (apart, undoomed) refl
 
       agree : is_open (now.standing other) ≡ true → Agree (held now other) now.flat next_flat
-      agree opened = held-kept empty history now is_serial entry is_entry told (reply-last empty history entry) refl other (ap is_open same_standing ∙ opened)
+      agree opened = held-kept before.opened history now is_serial entry is_entry told (reply-last before.opened history entry) refl other (ap is_open same_standing ∙ opened)
 
       stands_still : (one : SessionState) (stood : SessionStanding) → now.standing other ≡ stood → RepresentsSession now.flat one stood → RepresentsSession next_flat one stood
       unfolding flat standing
       stands_still kept.Nothing Outside is stood = tt
       stands_still (kept.Open txn) (Open begun block) is stood =
           let same = agree (ap is_open is) in (
-            represents_elsewhere empty history sound-empty entered other begun block is txn.space stood.0 next_flat sound-next same,
+            represents_elsewhere before.opened history based entered other begun block is txn.space stood.0 next_flat sound-next same,
             stood.1,
             λ wrote. ap (λ schema. has_written schema block) (sym same.schema) ∙ stood.2 wrote,
           )
@@ -119,18 +118,18 @@ module _ (history : History) (entry : Entry) (entered : IsHistory history) (is_e
   -- what is kept of another session behind the entry: it is once_doomed where it is doomed, else it is as it was
   pub record IsLeft (place : Place) (after : State) (other : ℕ) : Type 0 where
     pub states : state_by after.txns.states other
-        ≡ (if dooms (world empty history) entry (answer (world empty history) entry) other then once_doomed place (state_by before.txns.states other) else state_by before.txns.states other)
-    pub held : held_by after.txns.held other ≡ (if dooms (world empty history) entry (answer (world empty history) entry) other then [] else held_by before.txns.held other)
+        ≡ (if dooms (world before.opened history) entry (answer (world before.opened history) entry) other then once_doomed place (state_by before.txns.states other) else state_by before.txns.states other)
+    pub held : held_by after.txns.held other ≡ (if dooms (world before.opened history) entry (answer (world before.opened history) entry) other then [] else held_by before.txns.held other)
 
-  module _ (after : State) (place : Place) (at : place.0 ≡ length history) (version : after.version ≡ flat_after (world empty history) entry (answer (world empty history) entry))
+  module _ (after : State) (place : Place) (at : place.0 ≡ length history) (version : after.version ≡ flat_after (world before.opened history) entry (answer (world before.opened history) entry))
       (weighs : weight after.version ≡ after.weighs)
-      (own_kept : RepresentsSession (flat_after (world empty history) entry (answer (world empty history) entry)) (state_by after.txns.states entry.session.0)
-      (own_after (world empty history) entry (answer (world empty history) entry)))
-      (own_held : RepresentsItems (held_by after.txns.held entry.session.0) (items_held (flat_after (world empty history) entry (answer (world empty history) entry)).schema
-      (own_after (world empty history) entry (answer (world empty history) entry))))
+      (own_kept : RepresentsSession (flat_after (world before.opened history) entry (answer (world before.opened history) entry)) (state_by after.txns.states entry.session.0)
+      (own_after (world before.opened history) entry (answer (world before.opened history) entry)))
+      (own_held : RepresentsItems (held_by after.txns.held entry.session.0) (items_held (flat_after (world before.opened history) entry (answer (world before.opened history) entry)).schema
+      (own_after (world before.opened history) entry (answer (world before.opened history) entry))))
       (others : (other : ℕ) → (other ≡ entry.session.0 → ⊥) → IsLeft place after other) where
     here : place.0 ≡ now.place
-    here = at ∙ sym (place-world empty history)
+    here = at ∙ sym (place-world before.opened history)
 
     -- of another session
     kept_by_doom : (other : ℕ) (differs : other ≡ session → ⊥) (b : Bool) → dooms now entry told other ≡ b
@@ -158,7 +157,7 @@ module _ (history : History) (entry : Entry) (entered : IsHistory history) (is_e
         let differs = eqb-false one session apart in
         subst (λ found. RepresentsItems found (items_held next_flat.schema (other_after now entry told one))) (sym (others one differs).held) (held_by_doom one differs (dooms now entry told one) refl)
 
-    pub stands-next : RepresentsWorld after (happens (world empty history) entry)
+    pub stands-next : RepresentsWorld after (happens (world before.opened history) entry)
     unfolding held
     stands-next = record {
       flat = version;

@@ -9,11 +9,10 @@ use Rattle.own_model.specs.declared.reply.Reply.{Reply}
 use Rattle.own_model.specs.declared.reply.Reply.TheVariants.{Refused}
 use Rattle.own_model.specs.declared.request.Request.TheVariants.{Run}
 use Rattle.own_model.specs.declared.statement.Statement.{Statement}
-use Rattle.own_model.specs.Db.{Db, empty}
+use Rattle.own_model.specs.Db.{Db}
 use Rattle.grammar_model.specs.Readable.{IsReadable, IsWritten}
 use Rattle.state_model.specs.Rows.{AreRowsOf}
 use Rattle.state_model.specs.Sound.{Sound}
-use Rattle.state_model.proofs.WellFormedLemmas.{sound-empty}
 use Rattle.history_model.specs.History.{History, flat, standing, world}
 use Rattle.history_model.specs.World.{World}
 use Rattle.txn_space.specs.Changed.{changed_rows}
@@ -35,20 +34,20 @@ pub written-event : (history : History) (entry : Entry) (before : State) (asked 
 written-event history entry before asked event asks = subst IsReadable asks event.is_entry.readable
 
 -- a refusal is reported, unless it is for want of memory
-pub serves-either : {E : Type 0} (history : History) (entry : Entry) (after : State) (why : Refusal) (result : Result Reply E)
+pub serves-either : {E : Type 0} (base : Db) (history : History) (entry : Entry) (after : State) (why : Refusal) (result : Result Reply E)
     → IfOk result (λ reply. (reply ≡ Refused why) × (why ≢ Memory)) → OnErr result (why ≡ Memory)
-    → (why ≢ Memory → Serves {E = ℕ} after history entry (Ok (Refused why))) → (why ≡ Memory → (e : E) → Serves {E = E} after history entry (Err e)) → Serves after history entry result
-serves-either history entry after why (Ok reply) told memory refused unmade =
-    subst (λ reply. Serves {E = ℕ} after history entry (Ok reply)) (sym told.0) (refused told.1)
-serves-either history entry after why (Err e) told memory refused unmade = unmade memory e
+    → (why ≢ Memory → Serves {E = ℕ} base after history entry (Ok (Refused why))) → (why ≡ Memory → (e : E) → Serves {E = E} base after history entry (Err e)) → Serves base after history entry result
+serves-either base history entry after why (Ok reply) told memory refused unmade =
+    subst (λ reply. Serves {E = ℕ} base after history entry (Ok reply)) (sym told.0) (refused told.1)
+serves-either base history entry after why (Err e) told memory refused unmade = unmade memory e
 
 module _ (history : History) (entry : Entry) (before : State) (event : IsEvent before history entry) where
   abbrev now : World
-  now = world empty history
+  now = world before.opened history
 
   -- nothing is wrong with the state
   pub sound-event : Sound before.version
-  sound-event = subst Sound (sym event.stands.flat) (sound-now history entry event.entries event.is_entry event.took before event.stands)
+  sound-event = subst Sound (sym event.stands.flat) (sound-now history entry event.entries event.is_entry event.took before event.begun event.stands)
 
   pub base-event : IsBase before.version.schema.tables before.version.rows
   base-event = base-sound before.version sound-event
@@ -75,7 +74,7 @@ module _ (history : History) (entry : Entry) (before : State) (event : IsEvent b
 
     shown : AreRowsOf now.flat.schema.tables (changed_rows now.flat.schema.tables now.flat.rows is.txn.space)
     unfolding flat standing
-    shown = rows_shown empty history sound-empty event.entries entry.session.0 is.begun is.block is.stands is.txn.space is.kept_as.0
+    shown = rows_shown before.opened history event.begun event.entries entry.session.0 is.begun is.block is.stands is.txn.space is.kept_as.0
 
     -- the rows that they show may stand there
     pub rows-event : AreRowsOf before.version.schema.tables (changed_rows before.version.schema.tables before.version.rows (space_of (state_by before.txns.states entry.session.0)))

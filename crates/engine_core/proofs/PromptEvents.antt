@@ -14,7 +14,6 @@ use Rattle.own_model.specs.declared.request.Request.TheVariants.{Run, Syntax, Li
 use Rattle.own_model.specs.declared.statement.Statement.{Statement}
 use Rattle.own_model.specs.declared.statement.Statement.TheVariants.{Begin, Commit, Rollback}
 use Rattle.own_model.specs.declared.statement.Statement.TheVariants as of
-use Rattle.own_model.specs.Db.{empty}
 use Rattle.run_model.specs.Run.{run}
 use Rattle.history_model.specs.Held.{held, items_held}
 use Rattle.history_model.specs.History.{History, after_request, flat_after, is_conflict, left_by, own_after, world}
@@ -63,7 +62,7 @@ inside_stays place begun block _ conflicts none = let never : true ≡ false = n
 module _ (history : History) (entry : Entry) (before after : State) (event : IsEvent before history entry)
     (version : after.version ≡ before.version) (weighs : after.weighs ≡ before.weighs) where
   abbrev now : World
-  now = world empty history
+  now = world before.opened history
 
   abbrev session : ℕ
   session = entry.session.0
@@ -77,13 +76,13 @@ module _ (history : History) (entry : Entry) (before after : State) (event : IsE
   -- by how the session stands and what it asks
   told_by : (stood : SessionStanding) (request : Request) → now.standing session ≡ stood → entry.request ≡ request → told ≡ reply_in now session Took stood request
   told_by stood request stands asks =
-      answer-in history entry event.entries event.is_entry event.took before event.stands
+      answer-in history entry event.entries event.is_entry event.took before event.begun event.stands
       ∙ (λ i. reply_in now session Took (stands i) (asks i))
 
   own_by : (stood : SessionStanding) (request : Request) → now.standing session ≡ stood → entry.request ≡ request
       → own_after now entry told ≡ after_request now.place stood request (is_conflict told)
   own_by stood request stands asks =
-      own-in history entry event.entries event.is_entry event.took before event.stands
+      own-in history entry event.entries event.is_entry event.took before event.begun event.stands
       ∙ (λ i. after_request now.place (stands i) (asks i) (is_conflict told))
 
   flat_by : (stood : SessionStanding) (request : Request) → now.standing session ≡ stood → entry.request ≡ request → left_by now.flat stood request ≡ now.flat
@@ -107,7 +106,7 @@ module _ (history : History) (entry : Entry) (before after : State) (event : IsE
   pub serves-doomed : (place : Place) → doom_of (state_by before.txns.states entry.session.0) ≡ Some place → AreOthersSame entry.session.0 before.txns after.txns
       → state_by after.txns.states entry.session.0 ≡ told_of (state_by before.txns.states entry.session.0)
       → held_by after.txns.held entry.session.0 ≡ held_by before.txns.held entry.session.0
-      → Serves {E = ℕ} after history entry (Ok (Refused (refusal.Doomed place)))
+      → Serves {E = ℕ} before.opened after history entry (Ok (Refused (refusal.Doomed place)))
   serves-doomed place doom others keeps holds =
       let stood = stood-doomed now.flat own (now.standing session) place (event.stands.states session) doom in
       let is : told ≡ Refused (refusal.Doomed place) = told_by (Doomed place.0) entry.request stood refl in (
@@ -143,7 +142,7 @@ module _ (history : History) (entry : Entry) (before after : State) (event : IsE
     free : IsUndoomed (now.standing session)
     free = stood-undoomed now.flat own (now.standing session) (event.stands.states session) none
 
-    pub serves-syntax : (byte : ℕ) → entry.request ≡ Syntax byte → AreSame before.txns after.txns → Serves {E = ℕ} after history entry (Ok (Refused (refusal.Syntax byte)))
+    pub serves-syntax : (byte : ℕ) → entry.request ≡ Syntax byte → AreSame before.txns after.txns → Serves {E = ℕ} before.opened after history entry (Ok (Refused (refusal.Syntax byte)))
     serves-syntax byte asks same =
         let is : told ≡ Refused (refusal.Syntax byte) = told_by (now.standing session) (Syntax byte) refl asks ∙ syntax_told byte (now.standing session) free in (
           is,
@@ -151,7 +150,7 @@ module _ (history : History) (entry : Entry) (before after : State) (event : IsE
               (own_by (now.standing session) (Syntax byte) refl asks ∙ syntax_stays byte (now.standing session) (is_conflict told) free),
         )
 
-    pub serves-limit : (limit : LimitName) → entry.request ≡ Limit limit → AreSame before.txns after.txns → Serves {E = ℕ} after history entry (Ok (Refused (refusal.Limit limit)))
+    pub serves-limit : (limit : LimitName) → entry.request ≡ Limit limit → AreSame before.txns after.txns → Serves {E = ℕ} before.opened after history entry (Ok (Refused (refusal.Limit limit)))
     serves-limit limit asks same =
         let is : told ≡ Refused (refusal.Limit limit) = told_by (now.standing session) (Limit limit) refl asks ∙ limit_told limit (now.standing session) free in (
           is,
@@ -176,7 +175,7 @@ module _ (history : History) (entry : Entry) (before after : State) (event : IsE
     end_left (Doomed by) = refl
 
     pub serves-end : entry.request ≡ End → AreOthersSame entry.session.0 before.txns after.txns → state_by after.txns.states entry.session.0 ≡ kept.Nothing
-        → held_by after.txns.held entry.session.0 ≡ [] → Serves {E = ℕ} after history entry (Ok Ended)
+        → held_by after.txns.held entry.session.0 ≡ [] → Serves {E = ℕ} before.opened after history entry (Ok Ended)
     serves-end asks others keeps holds = (
       told_by (now.standing session) End refl asks ∙ end_told (now.standing session) free,
       stands-calm history entry before after event Outside version weighs others
@@ -202,7 +201,7 @@ module _ (history : History) (entry : Entry) (before after : State) (event : IsE
 
     pub serves-begin : entry.request ≡ Run Begin → AreOthersSame entry.session.0 before.txns after.txns
         → state_by after.txns.states entry.session.0 ≡ kept.Open (record { space = []; wrote = false })
-        → held_by after.txns.held entry.session.0 ≡ held_by before.txns.held entry.session.0 → Serves {E = ℕ} after history entry (Ok Done)
+        → held_by after.txns.held entry.session.0 ≡ held_by before.txns.held entry.session.0 → Serves {E = ℕ} before.opened after history entry (Ok Done)
     serves-begin asks others keeps holds = (
       told_by Outside (Run Begin) outside asks ∙ begin_told,
       stands-calm history entry before after event (Open now.place []) version weighs others
@@ -210,14 +209,14 @@ module _ (history : History) (entry : Entry) (before after : State) (event : IsE
           (λ other. undoomed now entry told other (rw asks refl))
           (own_by Outside (Run Begin) outside asks)
           (subst (λ one. RepresentsSession now.flat one (Open now.place [])) (sym keeps)
-          (represents_begun now.flat now.place (sound-now history entry event.entries event.is_entry event.took before event.stands).well_formed))
+          (represents_begun now.flat now.place (sound-now history entry event.entries event.is_entry event.took before event.begun event.stands).well_formed))
           (subst (λ items. RepresentsItems items (items_held now.flat.schema (Open now.place []))) (sym holds)
           (subst (λ items. RepresentsItems (held_by before.txns.held session) items) (sym (items-nil now.flat.schema)) (held_by_standing Outside outside))),
     )
 
     refused_outside : (request : Request) → entry.request ≡ request → reply_in now session Took Outside request ≡ Refused refusal.Outside
         → ((conflicts : Bool) → after_request now.place Outside request conflicts ≡ Outside) → AreSame before.txns after.txns
-        → Serves {E = ℕ} after history entry (Ok (Refused refusal.Outside))
+        → Serves {E = ℕ} before.opened after history entry (Ok (Refused refusal.Outside))
     refused_outside request asks replies stays same =
         let is : told ≡ Refused refusal.Outside = told_by Outside request outside asks ∙ replies in (
           is,
@@ -225,10 +224,10 @@ module _ (history : History) (entry : Entry) (before after : State) (event : IsE
               (own_by Outside request outside asks ∙ (stays (is_conflict told) ∙ sym outside)),
         )
 
-    pub serves-commit_outside : entry.request ≡ Run Commit → AreSame before.txns after.txns → Serves {E = ℕ} after history entry (Ok (Refused refusal.Outside))
+    pub serves-commit_outside : entry.request ≡ Run Commit → AreSame before.txns after.txns → Serves {E = ℕ} before.opened after history entry (Ok (Refused refusal.Outside))
     serves-commit_outside asks same = refused_outside (Run Commit) asks refl (λ conflicts. refl) same
 
-    pub serves-rollback_outside : entry.request ≡ Run Rollback → AreSame before.txns after.txns → Serves {E = ℕ} after history entry (Ok (Refused refusal.Outside))
+    pub serves-rollback_outside : entry.request ≡ Run Rollback → AreSame before.txns after.txns → Serves {E = ℕ} before.opened after history entry (Ok (Refused refusal.Outside))
     serves-rollback_outside asks same = refused_outside (Run Rollback) asks refl (λ conflicts. refl) same
 
   -- in a transaction
@@ -238,7 +237,7 @@ module _ (history : History) (entry : Entry) (before after : State) (event : IsE
 
     -- ROLLBACK forgets it
     pub serves-rollback : entry.request ≡ Run Rollback → AreOthersSame entry.session.0 before.txns after.txns → state_by after.txns.states entry.session.0 ≡ kept.Nothing
-        → held_by after.txns.held entry.session.0 ≡ [] → Serves {E = ℕ} after history entry (Ok Done)
+        → held_by after.txns.held entry.session.0 ≡ [] → Serves {E = ℕ} before.opened after history entry (Ok Done)
     serves-rollback asks others keeps holds = (
       told_by (Open is.begun is.block) (Run Rollback) is.stands asks,
       stands-calm history entry before after event Outside version weighs others
@@ -251,7 +250,7 @@ module _ (history : History) (entry : Entry) (before after : State) (event : IsE
 
     -- what has no place in it
     pub serves-inside : (statement : Statement) → entry.request ≡ Run statement → has_place_inside statement ≡ false → AreSame before.txns after.txns
-        → Serves {E = ℕ} after history entry (Ok (Refused refusal.Inside))
+        → Serves {E = ℕ} before.opened after history entry (Ok (Refused refusal.Inside))
     serves-inside statement asks none same =
         let told_inside : told ≡ Refused refusal.Inside = told_by (Open is.begun is.block) (Run statement) is.stands asks ∙ replies statement none in (
           told_inside,

@@ -6,7 +6,7 @@ use Rattle.own_model.specs.declared.history.Entry.{Entry}
 use Rattle.own_model.specs.declared.reply.Reply.{Reply}
 use Rattle.own_model.specs.declared.request.Request.{Request}
 use Rattle.own_model.specs.declared.request.Request.TheVariants.{Run, Syntax, Limit, End}
-use Rattle.own_model.specs.Db.{empty}
+use Rattle.own_model.specs.Db.{Db}
 use Rattle.schema_model.proofs.Places.{all-append}
 use Rattle.state_model.specs.Weight.{weight}
 use Rattle.history_model.specs.Built.{built}
@@ -30,15 +30,15 @@ use Rattle.engine_core.specs.RepresentsWorld.{RepresentsWorld}
 use Rattle.engine_core.specs.declared.state.State.{State}
 
 -- before any entry
-pub stands-none : (state : State) → state.version ≡ empty → weight state.version ≡ state.weighs → ((session : ℕ) → state_by state.txns.states session ≡ kept.Nothing)
-    → ((session : ℕ) → held_by state.txns.held session ≡ []) → RepresentsWorld state (world empty [])
+pub stands-none : (state : State) (base : Db) → state.version ≡ base → weight state.version ≡ state.weighs → ((session : ℕ) → state_by state.txns.states session ≡ kept.Nothing)
+    → ((session : ℕ) → held_by state.txns.held session ≡ []) → RepresentsWorld state (world base [])
 unfolding held
-stands-none state version weighs nothing free =
-    subst (RepresentsWorld state) (sym (world-empty empty)) (record {
+stands-none state base version weighs nothing free =
+    subst (RepresentsWorld state) (sym (world-empty base)) (record {
       flat = version;
       weighs = weighs;
       up = refl;
-      states = λ session. subst (λ one. RepresentsSession empty one Outside) (sym (nothing session)) tt;
+      states = λ session. subst (λ one. RepresentsSession base one Outside) (sym (nothing session)) tt;
       held = λ session. subst (λ items. RepresentsItems items []) (sym (free session)) (stand-same []);
     })
 
@@ -54,47 +54,49 @@ built-request (Limit passed) same = tt
 built-request End same = tt
 
 -- an entry that was served comes into the history
-pub made-of : (before lent after : History) (state : State) (entry : Entry) (place : ℕ) (told : Reply) → lent ≡ before → after ≡ lent ++ entry ∷ [] → place ≡ length lent
-    → (answer (world empty lent) entry ≡ told) × RepresentsWorld state (happens (world empty lent) entry) → IsMade before after state entry place told
-made-of before lent after state entry place told same grown at served = subst (λ before. IsMade before after state entry place told) same (record {
+pub made-of : (base : Db) (before lent after : History) (state : State) (entry : Entry) (place : ℕ) (told : Reply) → lent ≡ before → after ≡ lent ++ entry ∷ [] → place ≡ length lent
+    → (answer (world base lent) entry ≡ told) × RepresentsWorld state (happens (world base lent) entry) → IsMade base before after state entry place told
+made-of base before lent after state entry place told same grown at served = subst (λ before. IsMade base before after state entry place told) same (record {
   history = grown;
   at = at;
   answered = served.0;
-  stands = subst (RepresentsWorld state) (sym (ap (world empty) grown ∙ world-append empty lent entry)) served.1;
+  stands = subst (RepresentsWorld state) (sym (ap (world base) grown ∙ world-append base lent entry)) served.1;
 })
 
 -- what is so of the history and of the state after a call, whether it was made or not
-pub history-after : {E : Type 0} (before after : History) (state : State) (entry : Entry) (result : Result (Place × Reply) E) → IsHistory before → IsEntry entry
-    → IfOk result (λ made. IsMade before after state entry made.0.0 made.1) → OnErr result ((after ≡ before) × RepresentsWorld state (world empty before))
-    → IsHistory after × RepresentsWorld state (world empty after)
-history-after before after state entry (Ok made) entered is ok err = (subst IsHistory (sym ok.history) (history-more before entry entered is), ok.stands)
-history-after before after state entry (Err e) entered is ok err = (subst IsHistory (sym err.0) entered, subst (λ history. RepresentsWorld state (world empty history)) (sym err.0) err.1)
+pub history-after : {E : Type 0} (base : Db) (before after : History) (state : State) (entry : Entry) (result : Result (Place × Reply) E) → IsHistory before → IsEntry entry
+    → IfOk result (λ made. IsMade base before after state entry made.0.0 made.1) → OnErr result ((after ≡ before) × RepresentsWorld state (world base before))
+    → IsHistory after × RepresentsWorld state (world base after)
+history-after base before after state entry (Ok made) entered is ok err = (subst IsHistory (sym ok.history) (history-more before entry entered is), ok.stands)
+history-after base before after state entry (Err e) entered is ok err = (subst IsHistory (sym err.0) entered, subst (λ history. RepresentsWorld state (world base history)) (sym err.0) err.1)
 
 -- a call is made
-pub makes-of : {D : Type 0} (before after : Seen D) (state : State) (made : Entry) (place : ℕ) (told : Reply) → IsMade before.history after.history state made place told
-    → before.spare ≤ after.spare + 1 → after.disk ≡ before.disk → Makes before after made place told
-makes-of before after state made place told is room disk = record {
+pub makes-of : {D : Type 0} (before after : Seen D) (state : State) (made : Entry) (place : ℕ) (told : Reply) → IsMade before.base before.history after.history state made place told
+    → before.spare ≤ after.spare + 1 → after.disk ≡ before.disk → after.base ≡ before.base → Makes before after made place told
+makes-of before after state made place told is room disk base = record {
   history = is.history;
   stands = is.at;
   answered =
-      ap (λ h. reply empty h place) is.history
-      ∙ (ap (reply empty (before.history ++ made ∷ [])) is.at ∙ (reply-last empty before.history made ∙ ap (λ r. Some r) is.answered));
+      ap (λ h. reply before.base h place) is.history
+      ∙ (ap (reply before.base (before.history ++ made ∷ [])) is.at ∙ (reply-last before.base before.history made ∙ ap (λ r. Some r) is.answered));
   spare = room;
   disk = disk;
+  base = base;
 }
 
 -- or memory kept it from being made
-may_of : (history : History) (entry : Entry) → MayBeUnmadeFrom (world empty history).flat.schema ((world empty history).standing entry.session.0) entry.request
-    → MayBeUnmadeFrom (flat empty history).schema (standing empty history entry.session.0) entry.request
+may_of : (base : Db) (history : History) (entry : Entry) → MayBeUnmadeFrom (world base history).flat.schema ((world base history).standing entry.session.0) entry.request
+    → MayBeUnmadeFrom (flat base history).schema (standing base history entry.session.0) entry.request
 unfolding flat standing
-may_of history entry may = may
+may_of base history entry may = may
 
-pub leaves-of : {D : Type 0} (before after : Seen D) (unmade : Entry) → after.history ≡ before.history → before.spare ≤ after.spare → after.disk ≡ before.disk
-    → (0 < before.spare → MayBeUnmadeFrom (world empty before.history).flat.schema ((world empty before.history).standing unmade.session.0) unmade.request)
+pub leaves-of : {D : Type 0} (before after : Seen D) (unmade : Entry) → after.history ≡ before.history → before.spare ≤ after.spare → after.disk ≡ before.disk → after.base ≡ before.base
+    → (0 < before.spare → MayBeUnmadeFrom (world before.base before.history).flat.schema ((world before.base before.history).standing unmade.session.0) unmade.request)
     → LeavesUnmade before after unmade
-leaves-of before after unmade same room disk may = record {
+leaves-of before after unmade same room disk base may = record {
   history = same;
   spare = room;
   disk = disk;
-  spared = λ some. may_of before.history unmade (may some);
+  base = base;
+  spared = λ some. may_of before.base before.history unmade (may some);
 }

@@ -14,10 +14,9 @@ use Rattle.own_model.specs.declared.request.Request.TheVariants.{Run}
 use Rattle.own_model.specs.declared.schema.Schema.{Schema}
 use Rattle.own_model.specs.declared.statement.Statement.{Statement}
 use Rattle.own_model.specs.declared.statement.Statement.TheVariants.{Delete, Insert, Select, Update}
-use Rattle.own_model.specs.Db.{Db, empty}
+use Rattle.own_model.specs.Db.{Db}
 use Rattle.query_model.specs.BoundStatement.{bound_statement}
 use Rattle.query_model.specs.Footprints.{footprint_of}
-use Rattle.state_model.proofs.WellFormedLemmas.{sound-empty}
 use Rattle.run_model.specs.Items.{TakesRows, items_of, items_of_all}
 use Rattle.run_model.proofs.StatementFootprints.{items_bound}
 use Rattle.history_model.specs.HasWritten.{has_written, is_bound_write, is_write}
@@ -114,7 +113,7 @@ module _ (history : History) (entry : Entry) (before after : State) (event : IsE
     (version : after.version ≡ before.version) (weighs : after.weighs ≡ before.weighs) (opened : is_open (state_by before.txns.states entry.session.0) ≡ true)
     (asked : Statement) (asks : entry.request ≡ Run asked) (takes : TakesRows asked) where
   abbrev now : World
-  now = world empty history
+  now = world before.opened history
 
   abbrev session : ℕ
   session = entry.session.0
@@ -139,12 +138,12 @@ module _ (history : History) (entry : Entry) (before after : State) (event : IsE
 
   told_within : told ≡ reply_within now session block asked
   told_within =
-      answer-in history entry event.entries event.is_entry event.took before event.stands
+      answer-in history entry event.entries event.is_entry event.took before event.begun event.stands
       ∙ ((λ i. reply_in now session Took (is.stands i) (asks i)) ∙ within_told now session is.begun block asked takes)
 
   own_within : own_after now entry told ≡ with_stated now.place is.begun block asked (is_conflict told)
   own_within =
-      own-in history entry event.entries event.is_entry event.took before event.stands
+      own-in history entry event.entries event.is_entry event.took before event.begun event.stands
       ∙ ((λ i. after_request now.place (is.stands i) (asks i) (is_conflict told)) ∙ within_after now.place is.begun block asked (is_conflict told) takes)
 
   -- it leaves the flat database
@@ -171,7 +170,7 @@ module _ (history : History) (entry : Entry) (before after : State) (event : IsE
 
   -- another session stands in its way
   held_back : (bound : Bound) (holding : Holding) → bound_statement now.flat.schema asked ≡ Ok bound → holder now session (footprint_of now.flat.schema bound) ≡ Some holding
-      → AreSame before.txns after.txns → Serves {E = ℕ} after history entry (Ok (Refused (conflict_of now.flat.schema holding)))
+      → AreSame before.txns after.txns → Serves {E = ℕ} before.opened after history entry (Ok (Refused (conflict_of now.flat.schema holding)))
   held_back bound holding meant found same =
       let within = held-within now session block asked bound holding meant found in
       let replies : told ≡ Refused (conflict_of now.flat.schema holding) = told_within ∙ within.0 in
@@ -182,13 +181,13 @@ module _ (history : History) (entry : Entry) (before after : State) (event : IsE
       )
 
   -- binding refuses it
-  serves_unbound : (why : Refusal) → bound_statement now.flat.schema asked ≡ Err why → AreSame before.txns after.txns → Serves {E = ℕ} after history entry (Ok (Refused why))
+  serves_unbound : (why : Refusal) → bound_statement now.flat.schema asked ≡ Err why → AreSame before.txns after.txns → Serves {E = ℕ} before.opened after history entry (Ok (Refused why))
   serves_unbound why refused same =
       let within = refused-within now session block asked why refused in
       let replies : told ≡ Refused why = told_within ∙ within.0 in
       let free : is_conflict told ≡ false = ap is_conflict told_within ∙ within.1 in
-      let opens : IsOpenBlock empty history now.flat session block =
-      open-block empty history now (serial-world empty history sound-empty event.entries) session is.begun block is.stands in
+      let opens : IsOpenBlock before.opened history now.flat session block =
+      open-block before.opened history now (serial-world before.opened history event.begun event.entries) session is.begun block is.stands in
       let stands : RepresentsBlock now.flat longer is.txn.space =
       represents_unbound (length history) now.flat block is.txn.space opens.stated is.kept_as.0 last takes why refused in
       let keeps : state_by after.txns.states session ≡ kept.Open is.txn = same.states session ∙ is.is_kept in
@@ -223,7 +222,7 @@ module _ (history : History) (entry : Entry) (before after : State) (event : IsE
     unfolding flat standing
     both =
         let within = not_conflict-granted now session block asked bound meant none in
-        let stands = represents_more empty history sound-empty event.entries session is.begun block is.stands is.txn.space is.kept_as.0 last bound reply txn.space takes meant ran in
+        let stands = represents_more before.opened history event.begun event.entries session is.begun block is.stands is.txn.space is.kept_as.0 last bound reply txn.space takes meant ran in
         (told_within ∙ (within.0 ∙ stands.0), stands.1)
 
     free : is_conflict told ≡ false
@@ -240,7 +239,7 @@ module _ (history : History) (entry : Entry) (before after : State) (event : IsE
         items-push now.flat.schema block last ∙ ap (λ more. items_of_all now.flat.schema (statements_of block) ++ more) (items_bound now.flat.schema asked bound meant) in
         subst (λ some. RepresentsItems (held_by after.txns.held session) some) (sym items) (stated.holds (items_of_all now.flat.schema (statements_of block)) held_open)
 
-    serves_ran : Serves {E = ℕ} after history entry (Ok reply)
+    serves_ran : Serves {E = ℕ} before.opened after history entry (Ok reply)
     serves_ran = (
       both.0,
       stands-calm history entry before after event (Open is.begun longer) version weighs stated.others calm (λ other. undoomed now entry told other nobody) (more free)
@@ -251,16 +250,16 @@ module _ (history : History) (entry : Entry) (before after : State) (event : IsE
   -- a statement that was bound, by who stands in its way
   by_holder : (bound : Bound) → bound_statement now.flat.schema asked ≡ Ok bound → (reply : Reply) (found : Option Holding) → holder now session (footprint_of now.flat.schema bound) ≡ found
       → Stated found now.flat bound session before.txns after.txns reply
-      → Serves {E = ℕ} after history entry (Ok reply)
+      → Serves {E = ℕ} before.opened after history entry (Ok reply)
   by_holder bound meant reply None found stated = serves_ran bound meant found reply stated
   by_holder bound meant reply (Some holding) found stated =
       let back = held_back bound holding meant found stated.1 in
-      subst (λ reply. Serves {E = ℕ} after history entry (Ok reply)) (sym stated.0) back
+      subst (λ reply. Serves {E = ℕ} before.opened after history entry (Ok reply)) (sym stated.0) back
 
   -- the same, as it is told over the state
   pub serves-stated : (bound : Bound) (reply : Reply) → bound_statement before.version.schema asked ≡ Ok bound
       → Stated (holder_among (held_by before.txns.held) entry.session.0 (footprint_of before.version.schema bound)) before.version bound entry.session.0 before.txns after.txns reply
-      → Serves {E = ℕ} after history entry (Ok reply)
+      → Serves {E = ℕ} before.opened after history entry (Ok reply)
   serves-stated bound reply meant stated =
       let same = event.stands.flat in
       let alike : holder_among (held_by before.txns.held) session (footprint_of now.flat.schema bound) ≡ holder now session (footprint_of now.flat.schema bound) =
@@ -268,5 +267,5 @@ module _ (history : History) (entry : Entry) (before after : State) (event : IsE
       by_holder bound (subst (λ (db : Db). bound_statement db.schema asked ≡ Ok bound) same meant) reply _ (sym alike)
       (subst (λ (db : Db). Stated (holder_among (held_by before.txns.held) session (footprint_of db.schema bound)) db bound session before.txns after.txns reply) same stated)
 
-  pub serves-unbound : (why : Refusal) → bound_statement before.version.schema asked ≡ Err why → AreSame before.txns after.txns → Serves {E = ℕ} after history entry (Ok (Refused why))
+  pub serves-unbound : (why : Refusal) → bound_statement before.version.schema asked ≡ Err why → AreSame before.txns after.txns → Serves {E = ℕ} before.opened after history entry (Ok (Refused why))
   serves-unbound why refused same = serves_unbound why (subst (λ (db : Db). bound_statement db.schema asked ≡ Err why) event.stands.flat refused) same

@@ -9,7 +9,7 @@ use Rattle.own_model.specs.declared.request.Request.TheVariants.{Run}
 use Rattle.own_model.specs.declared.schema.Schema.{Schema}
 use Rattle.own_model.specs.declared.statement.Statement.{Statement}
 use Rattle.own_model.specs.declared.statement.Statement.TheVariants as of
-use Rattle.own_model.specs.Db.{empty}
+use Rattle.own_model.specs.Db.{Db}
 use Rattle.run_model.specs.Items.{TakesRows}
 use Rattle.history_model.specs.History.{History, world}
 use Rattle.history_model.specs.MayBeUnmade.{MayBeUnmadeFrom, MayBeUnmadeInside}
@@ -47,7 +47,7 @@ within_may schema block _ takes = absurd takes
 
 module _ (history : History) (entry : Entry) (before : State) (event : IsEvent before history entry) where
   abbrev now : World
-  now = world empty history
+  now = world before.opened history
 
   abbrev session : ℕ
   session = entry.session.0
@@ -60,7 +60,7 @@ module _ (history : History) (entry : Entry) (before : State) (event : IsEvent b
 
   -- outside a transaction a statement that runs by itself
   pub unmade-outside : state_by before.txns.states entry.session.0 ≡ kept.Nothing → (asked : Statement) → entry.request ≡ Run asked → RunsByItself asked
-      → MayBeUnmadeFrom (world empty history).flat.schema ((world empty history).standing entry.session.0) entry.request
+      → MayBeUnmadeFrom (world before.opened history).flat.schema ((world before.opened history).standing entry.session.0) entry.request
   unmade-outside nothing asked asks itself =
       may_from Outside (Run asked) (stood-outside now.flat (state_by before.txns.states session) (now.standing session) (event.stands.states session) nothing) asks
       (outside_may now.flat.schema asked itself)
@@ -71,12 +71,12 @@ module _ (history : History) (entry : Entry) (before : State) (event : IsEvent b
 
     -- in one a statement that takes rows
     pub unmade-within : (asked : Statement) → entry.request ≡ Run asked → TakesRows asked
-        → MayBeUnmadeFrom (world empty history).flat.schema ((world empty history).standing entry.session.0) entry.request
+        → MayBeUnmadeFrom (world before.opened history).flat.schema ((world before.opened history).standing entry.session.0) entry.request
     unmade-within asked asks takes = may_from (Open is.begun is.block) (Run asked) is.stands asks (within_may now.flat.schema is.block asked takes)
 
     -- and a COMMIT where it has run a write
     pub unmade-commit : entry.request ≡ Run of.Commit → wrote_of (state_by before.txns.states entry.session.0) ≡ true
-        → MayBeUnmadeFrom (world empty history).flat.schema ((world empty history).standing entry.session.0) entry.request
+        → MayBeUnmadeFrom (world before.opened history).flat.schema ((world before.opened history).standing entry.session.0) entry.request
     unmade-commit asks wrote =
         may_from (Open is.begun is.block) (Run of.Commit) is.stands asks (is.kept_as.2 (sym (ap wrote_of is.is_kept) ∙ wrote))
 
@@ -86,7 +86,7 @@ wrote-left true made next none stays some = refl
 wrote-left false made next none stays some = absurd (some (stays (none refl)))
 
 -- where memory is refused and the state is as it was, the entry was served so
-pub serves-refused : {E : Type 0} (after : State) (history : History) (entry : Entry) (told : Result Reply E) → IsErr told → RepresentsWorld after (world empty history)
-    → MayBeUnmadeFrom (world empty history).flat.schema ((world empty history).standing entry.session.0) entry.request → Serves after history entry told
-serves-refused after history entry (Ok reply) refused stands may = absurd (cc)
-serves-refused after history entry (Err why) refused stands may = (stands, may)
+pub serves-refused : {E : Type 0} (base : Db) (after : State) (history : History) (entry : Entry) (told : Result Reply E) → IsErr told → RepresentsWorld after (world base history)
+    → MayBeUnmadeFrom (world base history).flat.schema ((world base history).standing entry.session.0) entry.request → Serves base after history entry told
+serves-refused base after history entry (Ok reply) refused stands may = absurd (cc)
+serves-refused base after history entry (Err why) refused stands may = (stands, may)

@@ -3,7 +3,8 @@ use Rattle.std.specs.Prelude.{◌≡◌, ℕ, None, Result, Ok, Err}
 use Rattle.own_model.specs.declared.history.Entry.{Entry}
 use Rattle.own_model.specs.declared.history.Verdict.TheVariants.{Took}
 use Rattle.own_model.specs.declared.reply.Reply.{Reply}
-use Rattle.own_model.specs.Db.{empty}
+use Rattle.own_model.specs.Db.{Db}
+use Rattle.state_model.specs.Sound.{Sound}
 use Rattle.state_model.specs.Weight.{weight}
 use Rattle.history_model.specs.Held.{held}
 use Rattle.history_model.specs.History.{History, happens, world}
@@ -25,18 +26,19 @@ pub record RepresentsWorld (state : State) (world : World) : Type 0 where
   pub states : (session : ℕ) → RepresentsSession world.flat (state_by state.txns.states session) (world.standing session)
   pub held : AreHeld state.txns.held (held world)
 
--- An entry may come behind a history for which the state stands: of one of the sessions, of a request that can be read and is
--- built, and the disk took it.
+-- An entry may come behind a history for which the state stands, over the database that it was opened with: of one of the
+-- sessions, of a request that can be read and is built, and the disk took it.
 pub record IsEvent (state : State) (history : History) (entry : Entry) : Type 0 where
   pub entries : IsHistory history
-  pub stands : RepresentsWorld state (world empty history)
+  pub begun : Sound state.opened
+  pub stands : RepresentsWorld state (world state.opened history)
   pub is_entry : IsEntry entry
   pub took : entry.verdict ≡ Took
   pub built : IsBuiltRequest entry.request
 
--- What became of an entry: it was answered as in the world of the history, and the state represents the world with it; or
+-- What became of an entry, over this database: it was answered as in the world of the history, and the state represents the world with it; or
 -- memory was refused, as it may be of such an entry, and the state represents the world as it was.
-abbrev pub Serves : {E : Type 0} → State → History → Entry → Result Reply E → Type 0
-Serves after history entry (Ok reply) = (answer (world empty history) entry ≡ reply) × RepresentsWorld after (happens (world empty history) entry)
-Serves after history entry (Err refused) =
-    RepresentsWorld after (world empty history) × MayBeUnmadeFrom (world empty history).flat.schema ((world empty history).standing entry.session.0) entry.request
+abbrev pub Serves : {E : Type 0} → Db → State → History → Entry → Result Reply E → Type 0
+Serves base after history entry (Ok reply) = (answer (world base history) entry ≡ reply) × RepresentsWorld after (happens (world base history) entry)
+Serves base after history entry (Err refused) =
+    RepresentsWorld after (world base history) × MayBeUnmadeFrom (world base history).flat.schema ((world base history).standing entry.session.0) entry.request

@@ -5,17 +5,21 @@ use Rattle.own_model.specs.declared.history.Entry.{Entry}
 use Rattle.own_model.specs.declared.history.Verdict.TheVariants.{Took}
 use Rattle.own_model.specs.declared.reply.Reply.{Reply}
 use Rattle.own_model.specs.declared.request.Request.{Request}
-use Rattle.own_model.specs.Db.{empty}
+use Rattle.own_model.specs.Db.{Db}
 use Rattle.history_model.specs.History.{History, flat, reply, standing}
 use Rattle.history_model.specs.MayBeUnmade.{MayBeUnmadeFrom}
 use Rattle.engine_core.specs.declared.step.Step.{Step}
 use Rattle.engine_core.specs.declared.step.Step.TheVariants.{Answered, Look, NoMemory}
 
--- the entries of the calls made, for how many entries more there is room, and the disk
+-- the database that it was opened with, the entries of the calls made, for how many entries more there is room, and the disk
 pub record Seen (D : Type 0) : Type 0 where
+  pub base : Db
   pub history : History
   pub spare : ℕ
   pub disk : D
+
+abbrev pub base_of : {D : Type 0} → Seen D → Db
+base_of seen = seen.base
 
 abbrev pub history_of : {D : Type 0} → Seen D → History
 history_of seen = seen.history
@@ -35,7 +39,8 @@ entry session call request = record { session = session; call = call; request = 
 pub record Makes {D : Type 0} (before after : Seen D) (made : Entry) (place : ℕ) (told : Reply) : Type 0 where
   pub history : after.history ≡ before.history ++ made ∷ []
   pub stands : place ≡ length before.history
-  pub answered : reply empty after.history place ≡ Some told
+  pub answered : reply before.base after.history place ≡ Some told
+  pub base : after.base ≡ before.base
   pub spare : before.spare ≤ after.spare + 1
   pub disk : after.disk ≡ before.disk
 
@@ -45,7 +50,8 @@ pub record LeavesUnmade {D : Type 0} (before after : Seen D) (unmade : Entry) : 
   pub history : after.history ≡ before.history
   pub spare : before.spare ≤ after.spare
   pub disk : after.disk ≡ before.disk
-  pub spared : 0 < before.spare → MayBeUnmadeFrom (flat empty before.history).schema (standing empty before.history unmade.session.0) unmade.request
+  pub base : after.base ≡ before.base
+  pub spared : 0 < before.spare → MayBeUnmadeFrom (flat before.base before.history).schema (standing before.base before.history unmade.session.0) unmade.request
 
 -- What a call came to: it was made, or memory kept it from being made. It never comes to a look.
 abbrev pub Steps : {D S : Type 0} → Seen D → Seen D → Entry → Step S → Type 0

@@ -26,7 +26,7 @@ use store_version::Version;
 use txn_core::Txns;
 
 /// An opened store: its state and the transactions of its sessions, the history that made them, and its disk. Contracts see the
-/// history, for how many entries more there is room, and the disk.
+/// database that it was opened with, the history, for how many entries more there is room, and the disk.
 pub struct Engine<D> {
     alloc: Global,
     state: State,
@@ -39,25 +39,27 @@ impl<D> Model for Engine<D> {
     ghost use Rattle.std.specs.Vec.{vec_capacity};
     ghost use Rattle.engine_core.specs.Seen.{Seen};
     ghost use Rattle.own_model.specs.contracts.condition.Cond as cond;
+    ghost use Rattle.own_model.specs.contracts.bound.BoundCond as bound;
     ghost use Rattle.std.specs.Coded.{codes};
 
     ghost Value = { Seen D };
 
-    ghost coded = { Prim.hlevel (codes, cond.the_row.coded, D.code) };
+    ghost coded = { Prim.hlevel (codes, cond.the_row.coded, bound.the_row.coded, D.code) };
 
-    ghost view = { λ engine. record { history = engine.history.items; spare = vec_capacity engine.history - vec_len engine.history; disk = engine.disk } };
+    ghost view = { λ engine. record { base = engine.state.opened; history = engine.history.items; spare = vec_capacity engine.history - vec_len engine.history; disk = engine.disk } };
 
-    ghost use Rattle.own_model.specs.Db.{empty};
+    ghost use Rattle.state_model.specs.Sound.{Sound};
     ghost use Rattle.history_model.specs.History.{world};
     ghost use Rattle.history_model.specs.Serial.{IsHistory};
     ghost use Rattle.engine_core.specs.RepresentsWorld.{RepresentsWorld};
 
-    ghost invariant = { λ engine. IsHistory engine.history.items × RepresentsWorld engine.state (world empty engine.history.items) };
+    ghost invariant = { λ engine. IsHistory engine.history.items × RepresentsWorld engine.state (world engine.state.opened engine.history.items) × Sound engine.state.opened };
 }
 
 impl<D> Engine<D> {
     /// Opens a store that has nothing on its disk, with room for so many entries. The disk isn't touched.
     pub fn open_with_room(alloc: Global, disk: D, calls: u32) -> Result<Engine<D>, (OpenFault, D)>
+        ensures base { IfOk result (λ engine. engine.base ≡ empty) }
         ensures history { IfOk result (λ engine. engine.history ≡ []) }
         ensures disk { IfOk result (λ engine. engine.disk ≡ disk) }
         ensures room { IfOk result (λ engine. calls ≤ engine.spare) }
@@ -82,7 +84,7 @@ impl<D> Engine<D> {
         requires readable { IsReadable request }
         requires built { built request ≡ request }
         ensures steps { Steps self.old self.new (entry session call request) result }
-        ensures serial { Serial empty self.new.history }
+        ensures serial { Serial self.new.base self.new.history }
     {
         let entry = Entry {
             session,
@@ -99,7 +101,7 @@ impl<D> Engine<D> {
     /// Lends the history. Takes no memory.
     pub fn history(&self) -> &[Entry]
         ensures history { result.now ≡ self.now.history }
-        ensures serial { Serial empty result.now }
+        ensures serial { Serial self.now.base result.now }
     {
         &self.history
     }
@@ -117,7 +119,7 @@ impl<D> Engine<D> {
     pub fn close(self) -> Closed<D>
         ensures history { result.history ≡ self.history }
         ensures disk { result.disk ≡ self.disk }
-        ensures serial { Serial empty result.history }
+        ensures serial { Serial self.base result.history }
     {
         let Engine {
             alloc: _,
@@ -142,10 +144,11 @@ fn make(
     entry: Entry,
 ) -> Result<(Place, Reply), AllocError>
     requires event { IsEvent state.old history.old.items entry }
-    ensures made { IfOk result (λ made. IsMade history.old.items history.new.items state.new entry made.0.0 made.1) }
-    ensures unmade { OnErr result ((history.new.items ≡ history.old.items) × RepresentsWorld state.new (world empty history.old.items)) }
+    ensures made { IfOk result (λ made. IsMade state.old.opened history.old.items history.new.items state.new entry made.0.0 made.1) }
+    ensures unmade { OnErr result ((history.new.items ≡ history.old.items) × RepresentsWorld state.new (world state.old.opened history.old.items)) }
     ensures spared { OnErr result (0 < vec_capacity history.old - vec_len history.old
-        → MayBeUnmadeFrom (world empty history.old.items).flat.schema ((world empty history.old.items).standing entry.session.0) entry.request) }
+        → MayBeUnmadeFrom (world state.old.opened history.old.items).flat.schema ((world state.old.opened history.old.items).standing entry.session.0) entry.request) }
+    ensures opened { state.new.opened ≡ state.old.opened }
     ensures room { vec_capacity history.old - vec_len history.old ≤ vec_capacity history.new - vec_len history.new + 1 }
     ensures room_left { OnErr result (vec_capacity history.old - vec_len history.old ≤ vec_capacity history.new - vec_len history.new) }
 {
@@ -168,14 +171,17 @@ fn make(
 
 /// No table, no transaction and no history, with room for so many entries.
 fn opened(alloc: Global, calls: u32) -> Result<(State, Vec<Entry>), AllocError>
-    ensures stands { IfOk result (λ pair. RepresentsWorld pair.0 (world empty [])) }
+    ensures base { IfOk result (λ pair. pair.0.opened ≡ empty) }
+    ensures stands { IfOk result (λ pair. RepresentsWorld pair.0 (world pair.0.opened [])) }
     ensures history { IfOk result (λ pair. pair.1.items ≡ []) }
     ensures room { IfOk result (λ pair. calls ≤ vec_capacity pair.1) }
 {
     let history = Vec::with_capacity(alloc, calls as usize)?;
+    let opened = Version::new(alloc)?;
     let version = Version::new(alloc)?;
     let txns = Txns::new(alloc)?;
     let state = State {
+        opened,
         version,
         weighs: 0,
         txns,

@@ -56,7 +56,8 @@ fn serve_stated(
     requires open { is_open (state_by state.old.txns.states entry.now.session.0) ≡ true }
     requires asks { entry.now.request ≡ Run statement.now }
     requires takes { TakesRows statement.now }
-    ensures { Serves state.new history.now entry.now result }
+    ensures served { Serves state.old.opened state.new history.now entry.now result }
+    ensures opened { state.new.opened ≡ state.old.opened }
 {
     let _ = history;
     match bind(alloc, state.version.catalog().schema(), statement) {
@@ -85,7 +86,8 @@ fn serve_commit(
     requires event { IsEvent state.old history.now entry.now }
     requires open { is_open (state_by state.old.txns.states entry.now.session.0) ≡ true }
     requires asks { entry.now.request ≡ Run Commit }
-    ensures { Serves state.new history.now entry.now result }
+    ensures served { Serves state.old.opened state.new history.now entry.now result }
+    ensures opened { state.new.opened ≡ state.old.opened }
 {
     let shown = Shown {
         version: &state.version,
@@ -116,7 +118,8 @@ pub(crate) fn serve_inside(
     requires event { IsEvent state.old history.now entry.now }
     requires open { is_open (state_by state.old.txns.states entry.now.session.0) ≡ true }
     requires asks { entry.now.request ≡ Run statement.now }
-    ensures { Serves state.new history.now entry.now result }
+    ensures served { Serves state.old.opened state.new history.now entry.now result }
+    ensures opened { state.new.opened ≡ state.old.opened }
 {
     if !has_place_inside(statement) {
         return Ok(Reply::Refused(Refusal::Inside));

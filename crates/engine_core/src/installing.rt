@@ -69,6 +69,7 @@ pub(crate) fn install(
     ensures told { IfOk result (λ reply. reply ≡ answer.reply) }
     ensures version { OnOk result (state.new.version ≡ left state.old.version answer.next) }
     ensures weighs { OnOk result (weight state.new.version ≡ state.new.weighs) }
+    ensures opened { OnOk result (state.new.opened ≡ state.old.opened) }
     ensures doomed { OnOk result (HasDoomed answer.erased place state.old.txns state.new.txns) }
     ensures unchanged { OnErr result (state.new ≡ state.old) }
     ensures spared { OnErr result (answer.next ≢ None) }

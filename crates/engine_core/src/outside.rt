@@ -2,7 +2,6 @@ ghost use Rattle.std.specs.Prelude.{◌≡◌, true, IfOk};
 ghost use Rattle.own_model.specs.declared.history.Verdict.TheVariants.{Took};
 ghost use Rattle.own_model.specs.declared.limit.TheConstants.{STATEMENT_BYTES};
 ghost use Rattle.own_model.specs.declared.request.Request.TheVariants.{Run};
-ghost use Rattle.own_model.specs.Db.{empty};
 ghost use Rattle.grammar_model.specs.Readable.{IsWritten};
 ghost use Rattle.state_model.specs.Sound.{IsWellFormed, Sound};
 ghost use Rattle.run_model.specs.Run.{run, run_bound};
@@ -34,10 +33,10 @@ use store_version::Shown;
 #[tactic(auto, unfolding(run_model::specs::Run::run_bound))]
 fn answer_meant(alloc: Global, asker: &Asker<'_>, bound: &Bound) -> Result<Answer, AllocError>
     requires sound { Sound asker.now.state.now.version }
-    requires stands { RepresentsWorld asker.now.state.now (world empty asker.now.history.now) }
+    requires stands { RepresentsWorld asker.now.state.now (world asker.now.state.now.opened asker.now.history.now) }
     requires meant { IsMeant asker.now.state.now.version.schema bound.now }
     requires well_formed { IsWellFormed (run_bound asker.now.state.now.version bound.now).db }
-    ensures tells { IfOk result (Tells asker.now.state.now.version (bound_reply (world empty asker.now.history.now) asker.now.state.now.version asker.now.session.0 bound.now) (run_bound asker.now.state.now.version bound.now).db) }
+    ensures tells { IfOk result (Tells asker.now.state.now.version (bound_reply (world asker.now.state.now.opened asker.now.history.now) asker.now.state.now.version asker.now.session.0 bound.now) (run_bound asker.now.state.now.version bound.now).db) }
     ensures erases { IfOk result (ErasesBound asker.now.state.now.version bound.now) }
 {
     match bound {
@@ -67,10 +66,10 @@ fn answer_by_meaning(
     statement: &Statement,
 ) -> Result<Answer, AllocError>
     requires sound { Sound asker.now.state.now.version }
-    requires stands { RepresentsWorld asker.now.state.now (world empty asker.now.history.now) }
+    requires stands { RepresentsWorld asker.now.state.now (world asker.now.state.now.opened asker.now.history.now) }
     requires written { IsWritten STATEMENT_BYTES statement.now }
     requires bound { IsBound statement.now }
-    ensures tells { IfOk result (Tells asker.now.state.now.version (reply_outside (world empty asker.now.history.now) asker.now.session.0 Took statement.now) (run asker.now.state.now.version statement.now).db) }
+    ensures tells { IfOk result (Tells asker.now.state.now.version (reply_outside (world asker.now.state.now.opened asker.now.history.now) asker.now.session.0 Took statement.now) (run asker.now.state.now.version statement.now).db) }
     ensures erases { IfOk result (Erases asker.now.state.now.version (Run statement.now)) }
 {
     match bind(alloc, asker.state.version.catalog().schema(), statement) {
@@ -90,10 +89,10 @@ fn answer_to_create(
     statement: &Statement,
 ) -> Result<Answer, AllocError>
     requires sound { Sound asker.now.state.now.version }
-    requires stands { RepresentsWorld asker.now.state.now (world empty asker.now.history.now) }
+    requires stands { RepresentsWorld asker.now.state.now (world asker.now.state.now.opened asker.now.history.now) }
     requires written { IsWritten STATEMENT_BYTES statement.now }
     requires create { IsCreate statement.now }
-    ensures tells { IfOk result (Tells asker.now.state.now.version (reply_outside (world empty asker.now.history.now) asker.now.session.0 Took statement.now) (run asker.now.state.now.version statement.now).db) }
+    ensures tells { IfOk result (Tells asker.now.state.now.version (reply_outside (world asker.now.state.now.opened asker.now.history.now) asker.now.session.0 Took statement.now) (run asker.now.state.now.version statement.now).db) }
     ensures erases { IfOk result (Erases asker.now.state.now.version (Run statement.now)) }
 {
     let state = asker.state;
@@ -106,10 +105,10 @@ fn answer_to_create(
 /// The answer to a statement outside a transaction that runs by itself.
 fn answer(alloc: Global, asker: &Asker<'_>, statement: &Statement) -> Result<Answer, AllocError>
     requires sound { Sound asker.now.state.now.version }
-    requires stands { RepresentsWorld asker.now.state.now (world empty asker.now.history.now) }
+    requires stands { RepresentsWorld asker.now.state.now (world asker.now.state.now.opened asker.now.history.now) }
     requires written { IsWritten STATEMENT_BYTES statement.now }
     requires itself { RunsByItself statement.now }
-    ensures tells { IfOk result (Tells asker.now.state.now.version (reply_outside (world empty asker.now.history.now) asker.now.session.0 Took statement.now) (run asker.now.state.now.version statement.now).db) }
+    ensures tells { IfOk result (Tells asker.now.state.now.version (reply_outside (world asker.now.state.now.opened asker.now.history.now) asker.now.session.0 Took statement.now) (run asker.now.state.now.version statement.now).db) }
     ensures erases { IfOk result (Erases asker.now.state.now.version (Run statement.now)) }
 {
     match statement {
@@ -136,7 +135,8 @@ pub(crate) fn serve_outside(
     requires outside { state_by state.old.txns.states entry.now.session.0 ≡ Nothing }
     requires asks { entry.now.request ≡ Run statement.now }
     requires built { is_built statement.now ≡ true }
-    ensures { Serves state.new history.now entry.now result }
+    ensures served { Serves state.old.opened state.new history.now entry.now result }
+    ensures opened { state.new.opened ≡ state.old.opened }
 {
     match statement {
         Statement::Begin => {

@@ -20,7 +20,8 @@ fn serve_statement(
     requires event { IsEvent state.old history.now entry.now }
     requires undoomed { doom_of (state_by state.old.txns.states entry.now.session.0) ≡ None }
     requires asks { entry.now.request ≡ Run statement.now }
-    ensures { Serves state.new history.now entry.now result }
+    ensures served { Serves state.old.opened state.new history.now entry.now result }
+    ensures opened { state.new.opened ≡ state.old.opened }
 {
     if state.txns.is_open(entry.session) {
         serve_inside(alloc, state, history, entry, statement)
@@ -38,7 +39,8 @@ fn serve_undoomed(
 ) -> Result<Reply, AllocError>
     requires event { IsEvent state.old history.now entry.now }
     requires undoomed { doom_of (state_by state.old.txns.states entry.now.session.0) ≡ None }
-    ensures { Serves state.new history.now entry.now result }
+    ensures served { Serves state.old.opened state.new history.now entry.now result }
+    ensures opened { state.new.opened ≡ state.old.opened }
 {
     match &entry.request {
         Request::Syntax(byte) => Ok(Reply::Refused(Refusal::Syntax(*byte))),
@@ -59,7 +61,8 @@ pub(crate) fn serve(
     entry: &Entry,
 ) -> Result<Reply, AllocError>
     requires event { IsEvent state.old history.now entry.now }
-    ensures { Serves state.new history.now entry.now result }
+    ensures served { Serves state.old.opened state.new history.now entry.now result }
+    ensures opened { state.new.opened ≡ state.old.opened }
 {
     match state.txns.tell_doom(entry.session) {
         Some(place) => Ok(Reply::Refused(Refusal::Doomed(place))),

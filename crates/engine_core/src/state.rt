@@ -1,9 +1,12 @@
 use store_version::Version;
 use txn_core::Txns;
 
-/// What an engine keeps beside its history: the store's state and what that weighs, and the transactions of the sessions.
+/// What an engine keeps beside its history: the state that it was opened with; the store's state and what that weighs; and the
+/// transactions of the sessions.
 #[derive(Drop)]
 pub(crate) struct State {
+    /// The state that the opening left.
+    pub(crate) opened: Version,
     pub(crate) version: Version,
     pub(crate) weighs: u64,
     pub(crate) txns: Txns,

@@ -2,7 +2,6 @@ ghost use Rattle.std.specs.Prelude.{◌≡◌, ◌≢◌, [], None, IfErr, IfOk}
 ghost use Rattle.own_model.specs.declared.history.Verdict.TheVariants.{Took};
 ghost use Rattle.own_model.specs.declared.refusal.Refusal.TheVariants.{Memory};
 ghost use Rattle.own_model.specs.declared.reply.Reply.TheVariants.{Refused};
-ghost use Rattle.own_model.specs.Db.{empty};
 ghost use Rattle.query_model.specs.Footprints.{footprint_of};
 ghost use Rattle.state_model.specs.Net.{net};
 ghost use Rattle.state_model.specs.Put.{put};
@@ -33,12 +32,12 @@ fn written(
 ) -> Result<(Reply, List<Change>), Refusal>
     requires write { IsWrite asker.now.state.now.version.schema bound.now }
     requires sound { Sound asker.now.state.now.version }
-    requires stands { RepresentsWorld asker.now.state.now (world empty asker.now.history.now) }
-    ensures free { IfOk result (λ pair. holder (world empty asker.now.history.now) asker.now.session.0 (footprint_of asker.now.state.now.version.schema bound.now) ≡ None) }
+    requires stands { RepresentsWorld asker.now.state.now (world asker.now.state.now.opened asker.now.history.now) }
+    ensures free { IfOk result (λ pair. holder (world asker.now.state.now.opened asker.now.history.now) asker.now.session.0 (footprint_of asker.now.state.now.version.schema bound.now) ≡ None) }
     ensures reply { IfOk result (λ pair. (run_bound asker.now.state.now.version bound.now).reply ≡ pair.0) }
     ensures net { IfOk result (λ pair. pair.1 ≡ net asker.now.state.now.version (put asker.now.state.now.version pair.1)) }
     ensures left { IfOk result (λ pair. (run_bound asker.now.state.now.version bound.now).db ≡ put asker.now.state.now.version pair.1) }
-    ensures refused { IfErr result (λ why. why ≢ Memory → unless_held (world empty asker.now.history.now) (holder (world empty asker.now.history.now) asker.now.session.0 (footprint_of asker.now.state.now.version.schema bound.now))
+    ensures refused { IfErr result (λ why. why ≢ Memory → unless_held (world asker.now.state.now.opened asker.now.history.now) (holder (world asker.now.state.now.opened asker.now.history.now) asker.now.session.0 (footprint_of asker.now.state.now.version.schema bound.now))
         (write_reply Took asker.now.state.now.version (run_bound asker.now.state.now.version bound.now)) ≡ Refused why) }
 {
     let shown = Shown {
@@ -51,9 +50,9 @@ fn written(
 pub(crate) fn write(alloc: Global, asker: &Asker<'_>, bound: &Bound) -> Result<Answer, AllocError>
     requires write { IsWrite asker.now.state.now.version.schema bound.now }
     requires sound { Sound asker.now.state.now.version }
-    requires stands { RepresentsWorld asker.now.state.now (world empty asker.now.history.now) }
+    requires stands { RepresentsWorld asker.now.state.now (world asker.now.state.now.opened asker.now.history.now) }
     requires well_formed { IsWellFormed (run_bound asker.now.state.now.version bound.now).db }
-    ensures tells { IfOk result (Tells asker.now.state.now.version (unless_held (world empty asker.now.history.now) (holder (world empty asker.now.history.now) asker.now.session.0 (footprint_of asker.now.state.now.version.schema bound.now))
+    ensures tells { IfOk result (Tells asker.now.state.now.version (unless_held (world asker.now.state.now.opened asker.now.history.now) (holder (world asker.now.state.now.opened asker.now.history.now) asker.now.session.0 (footprint_of asker.now.state.now.version.schema bound.now))
         (write_reply Took asker.now.state.now.version (run_bound asker.now.state.now.version bound.now))) (run_bound asker.now.state.now.version bound.now).db) }
     ensures nothing { IfOk result (λ answer. answer.erased ≡ []) }
 {

@@ -6,6 +6,8 @@ use own_base::Area;
 use std::alloc::{AllocError, Global};
 use std::fs;
 use std::fs::{File, Files};
+use std::io::ErrorKind;
+use std::mem::drop;
 use std::process::Abort;
 use std::test::Fail;
 
@@ -132,15 +134,29 @@ fn find_files<R: Files<File = File> + AllocGlobal + Abort>(rt: &R) -> Result<(),
     Ok(())
 }
 
+/// While a disk has the files, no other is opened over them.
+fn open_twice<R: Files<File = File> + AllocGlobal + Abort>(rt: &R) -> Result<(), Fail> {
+    let disk = FileDisk::open(rt, FOLDER)?;
+    let kind = match FileDisk::open(rt, FOLDER) {
+        Ok(_) => None,
+        Err(error) => Some(error.kind()),
+    };
+    assert_eq!(rt; kind, Some(ErrorKind::WouldBlock));
+    drop(disk);
+    Ok(())
+}
+
 #[test]
 fn a_disk_of_files_moves_the_right_bytes(rt: HostRuntime) -> Result<(), Fail> {
     let _ = fs::remove_dir_all(&rt, FOLDER);
+    let inside = format!(in rt.alloc(); "{FOLDER}/inside")?;
     assert!(rt;
-        FileDisk::open(&rt, FOLDER).is_err(),
-        "a folder that is missing"
+        FileDisk::open(&rt, &inside).is_err(),
+        "a folder in one that is missing"
     );
-    fs::create_dir(&rt, FOLDER)?;
     use_files(&rt)?;
+    find_files(&rt)?;
+    open_twice(&rt)?;
     find_files(&rt)?;
     fs::remove_dir_all(&rt, FOLDER)?;
     Ok(())

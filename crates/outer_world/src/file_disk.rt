@@ -4,11 +4,12 @@ use crate::disk::Disk;
 use crate::failed::Failed;
 use crate::interruption::{INTERRUPTIONS, is_tried_again};
 use own_base::Area;
-use std::fs::{File, Files, OpenOptions};
+use std::fs::{File, Files, OpenOptions, create_dir};
 use std::io;
+use std::io::ErrorKind;
 use std::os::unix::fs::FileExt;
 
-/// Two files of a folder, `a` and `b`. It tells nothing of their bytes.
+/// Two files of a folder, `a` and `b`, which are locked as long as it is there. It tells nothing of their bytes.
 ///
 /// Each error of the system makes the call answer `Failed`, and the count of faults rises by one. A write goes on until
 /// the system took all of the bytes; one that takes none is an error. An interrupted call is tried again: a read or a
@@ -22,12 +23,15 @@ pub struct FileDisk {
 }
 
 impl FileDisk {
-    /// Opens the two files of the folder, and makes those that are missing. The empty text means the current folder.
-    /// The folder is made durable, so that a power cut can't lose the files themselves.
+    /// Opens the two files of the folder, and makes those that are missing, and the folder where it is. The empty text means
+    /// the current folder. What is made is made durable, so that a power cut can't lose the files themselves. The files are
+    /// locked as long as they are open: where another open disk has them, it is an error (`WouldBlock`), and nothing else
+    /// was done than to make what was missing.
     pub fn open<R: Files<File = File> + AllocGlobal>(rt: &R, folder: &str) -> io::Result<FileDisk>
         ensures { IfOk result (λ disk. ⟦<FileDisk as Disk>⟧.faults disk ≡ 0) }
     {
         let folder = if folder.is_empty() { "." } else { folder };
+        make_folder(rt, folder)?;
         let a = open_file(rt, folder, "a")?;
         let b = open_file(rt, folder, "b")?;
         File::open(rt, folder)?.sync_all()?;
@@ -51,18 +55,32 @@ impl FileDisk {
     }
 }
 
-/// Opens a file of a folder, and makes it where it is missing.
+/// Makes a folder where it is missing, and makes that durable.
+fn make_folder<R: Files<File = File> + AllocGlobal>(rt: &R, folder: &str) -> io::Result<()> {
+    match create_dir(rt, folder) {
+        Ok(()) => {
+            let above = format!(in rt.alloc(); "{folder}/..")?;
+            File::open(rt, above)?.sync_all()
+        }
+        Err(error) if error.kind() == ErrorKind::AlreadyExists => Ok(()),
+        Err(error) => Err(error),
+    }
+}
+
+/// Opens a file of a folder, and makes it where it is missing. It is locked until it is closed.
 fn open_file<R: Files<File = File> + AllocGlobal>(
     rt: &R,
     folder: &str,
     name: &str,
 ) -> io::Result<File> {
     let path = format!(in rt.alloc(); "{folder}/{name}")?;
-    OpenOptions::new()
+    let file = OpenOptions::new()
         .read(true)
         .write(true)
         .create(true)
-        .open(rt, path)
+        .open(rt, path)?;
+    file.try_lock()?;
+    Ok(file)
 }
 
 impl Disk for FileDisk {

@@ -88,6 +88,7 @@ fn serve_engine<W: Sink, D>(
     calls: Vec<ScriptCall>,
     sink: &mut W,
 ) -> Ended<D>
+    requires base { engine.base ≡ empty }
     requires fresh { engine.history ≡ [] }
     requires room { vec_len calls ≤ engine.spare }
     requires numbered { AreNumbered [] calls.items }

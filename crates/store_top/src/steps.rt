@@ -1,6 +1,7 @@
 ghost use Rattle.std.specs.Prelude.{◌≡◌, ◌≢◌, ◌+◌, ◌<◌, ◌≤◌, [], vec_len, OnOk, Err};
 ghost use Rattle.outer_world.specs.FaultCount.{CountRose};
 ghost use Rattle.outer_world.specs.LastCall.{EndsInFault};
+ghost use Rattle.own_model.specs.Db.{empty};
 ghost use Rattle.grammar_model.specs.Readable.{IsReadable};
 ghost use Rattle.script_model.specs.Numbered.{AreNumbered};
 ghost use Rattle.script_model.specs.Split.{IsOfASession};
@@ -31,10 +32,12 @@ fn lines_of_call<D>(
     alloc: Global,
     call: ScriptCall,
 ) -> Result<Text, AllocError>
+    requires base { engine.old.base ≡ empty }
     requires room { 0 < engine.old.spare }
     requires readable { IsReadable call.request }
     requires session { IsOfASession call }
     ensures makes { MakesCall (λ text. text) call engine.old.history engine.new.history result }
+    ensures base { engine.new.base ≡ engine.old.base }
     ensures room { engine.old.spare ≤ engine.new.spare + 1 }
     ensures disk { engine.new.disk ≡ engine.old.disk }
 {
@@ -66,10 +69,12 @@ fn serve_call<W: Sink, D>(
     call: ScriptCall,
     sink: &mut W,
 ) -> Result<(), RunFault>
+    requires base { engine.old.base ≡ empty }
     requires room { 0 < engine.old.spare }
     requires readable { IsReadable call.request }
     requires session { IsOfASession call }
     ensures makes { MakesCallTo call engine.old.history engine.new.history (W.written sink.old) (W.written sink.new) result }
+    ensures base { engine.new.base ≡ engine.old.base }
     ensures room { engine.old.spare ≤ engine.new.spare + 1 }
     ensures disk { engine.new.disk ≡ engine.old.disk }
     ensures fault { result ≡ Err RunFault.Write → CountRose (W.faults sink.old) (W.faults sink.new) }
@@ -89,6 +94,7 @@ pub(crate) fn serve_calls<W: Sink, D>(
     calls: Vec<ScriptCall>,
     sink: &mut W,
 ) -> Result<(), RunFault>
+    requires base { engine.old.base ≡ empty }
     requires fresh { engine.old.history ≡ [] }
     requires room { vec_len calls ≤ engine.old.spare }
     requires numbered { AreNumbered [] calls.items }
@@ -100,6 +106,7 @@ pub(crate) fn serve_calls<W: Sink, D>(
     ensures refused { result ≡ Err RunFault.Memory → StopsAtCall calls.items engine.new.history (ToldBefore (W.written sink.old) (W.written sink.new)) }
     ensures fault { result ≡ Err RunFault.Write → LastFault W.faults W.fails sink.old sink.new }
     ensures steady { result ≢ Err RunFault.Write → W.faults sink.new ≡ W.faults sink.old }
+    ensures base { engine.new.base ≡ engine.old.base }
     ensures disk { engine.new.disk ≡ engine.old.disk }
 {
     for call in calls {

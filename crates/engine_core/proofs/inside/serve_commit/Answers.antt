@@ -29,16 +29,16 @@ commit-answer-requires-clause-well_formed c =
     (kept-committed c.args.history.now c.args.entry.now c.args.state.now c.requires.event c.requires.open c.requires.asks c.in_ok-changes.changes c.in_ok-changes.ensures.net)
 
 -- memory is refused only where something was written
-pub returns-in_err-reply : goal.returns-in_err-reply
-returns-in_err-reply c =
-    serves-refused c.install.new.state c.args.history.now c.args.entry.now c.from_residual-in_err-reply.result c.from_residual-in_err-reply.ensures.0
-    (subst (λ (state : State). RepresentsWorld state (world empty c.args.history.now)) (sym c.in_err-reply.ensures.unchanged) c.requires.event.stands)
+pub returns-in_err-reply-clause-served : goal.returns-in_err-reply-clause-served
+returns-in_err-reply-clause-served c =
+    serves-refused c.args.state.now.opened c.install.new.state c.args.history.now c.args.entry.now c.from_residual-in_err-reply.result c.from_residual-in_err-reply.ensures.0
+    (subst (λ (state : State). RepresentsWorld state (world c.args.state.now.opened c.args.history.now)) (sym c.in_err-reply.ensures.unchanged) c.requires.event.stands)
     (unmade-commit c.args.history.now c.args.entry.now c.args.state.now c.requires.event c.requires.open c.requires.asks
     (wrote-left _ c.in_ok-changes.changes c.in_ok-answer.answer.next c.in_ok-changes.ensures.spared
     (λ none. c.in_ok-answer.ensures.stays (c.items.ensures ∙ none)) c.in_err-reply.ensures.spared))
 
-pub returns : goal.returns
-returns c =
+pub returns-clause-served : goal.returns-clause-served
+returns-clause-served c =
     rw c.in_ok-reply.ensures.told
     (serves-commit c.args.history.now c.args.entry.now c.args.state.now c.requires.event c.requires.open c.requires.asks c.in_ok-changes.changes c.in_ok-changes.ensures.net c.in_ok-answer.answer
     (rw (← c.items.ensures) c.in_ok-answer.ensures.tells) _ refl c.install.new.state _ c.in_ok-reply.ensures.version c.in_ok-reply.ensures.weighs c.in_ok-answer.ensures.nothing

@@ -33,14 +33,14 @@ pub invariant_of-shown : goal.invariant_of-shown
 invariant_of-shown c = record { ordered = (sound-event c.args.history.now c.args.entry.now c.args.state.now c.requires.event).well_formed.ordered }
 
 -- it ran, or met a conflict
-pub returns-in-Ok-replied : goal.returns-in-Ok-replied
-returns-in-Ok-replied c =
+pub returns-in-Ok-replied-clause-served : goal.returns-in-Ok-replied-clause-served
+returns-in-Ok-replied-clause-served c =
     serves-stated c.args.history.now c.args.entry.now c.args.state.now _ c.requires.event refl refl c.requires.open c.args.statement.now c.requires.asks c.requires.takes c.in-Ok.bound c.in-Ok-replied.reply
     (rw (c.schema.ensures.same, c.catalog.ensures.schema) at c.in-Ok.ensures.ok) c.in-Ok-replied.ensures.ok
 
-pub returns-in-Err-replied : goal.returns-in-Err-replied
-returns-in-Err-replied c =
-    serves-either c.args.history.now c.args.entry.now _ c.in-Err-replied.why c.refused.result c.refused.ensures.told c.refused.ensures.memory
+pub returns-in-Err-replied-clause-served : goal.returns-in-Err-replied-clause-served
+returns-in-Err-replied-clause-served c =
+    serves-either c.args.state.now.opened c.args.history.now c.args.entry.now _ c.in-Err-replied.why c.refused.result c.refused.ensures.told c.refused.ensures.memory
     (λ other. serves-stated c.args.history.now c.args.entry.now c.args.state.now _ c.requires.event refl refl c.requires.open c.args.statement.now c.requires.asks c.requires.takes c.in-Ok.bound _
     (rw (c.schema.ensures.same, c.catalog.ensures.schema) at c.in-Ok.ensures.ok) (c.in-Err-replied.ensures.err other))
     (λ memory e. (
@@ -49,9 +49,9 @@ returns-in-Err-replied c =
     ))
 
 -- binding refuses it
-pub returns-in-Err : goal.returns-in-Err
-returns-in-Err c =
-    serves-either c.args.history.now c.args.entry.now c.args.state.now c.in-Err.why c.refused-in-Err.result c.refused-in-Err.ensures.told c.refused-in-Err.ensures.memory
+pub returns-in-Err-clause-served : goal.returns-in-Err-clause-served
+returns-in-Err-clause-served c =
+    serves-either c.args.state.now.opened c.args.history.now c.args.entry.now c.args.state.now c.in-Err.why c.refused-in-Err.result c.refused-in-Err.ensures.told c.refused-in-Err.ensures.memory
     (λ other. serves-unbound c.args.history.now c.args.entry.now c.args.state.now c.args.state.now c.requires.event refl refl c.requires.open c.args.statement.now c.requires.asks c.requires.takes c.in-Err.why
     (rw (c.schema.ensures.same, c.catalog.ensures.schema) at (c.in-Err.ensures.err other)) (none_moved c.args.state.now.txns))
     (λ memory e. (

@@ -36,7 +36,7 @@ returns-in-Ok-clause-tells c =
     let asked = c.args.statement.now in
     let is = rw (c.schema.ensures.same, c.catalog.ensures.schema) at c.in-Ok.ensures.ok in
     rw (
-      reply-meant_in state (world empty c.args.asker.now.history.now) c.requires.stands c.args.asker.now.session.0 asked c.in-Ok.bound c.requires.bound is,
+      reply-meant_in state (world c.args.asker.now.state.now.opened c.args.asker.now.history.now) c.requires.stands c.args.asker.now.session.0 asked c.in-Ok.bound c.requires.bound is,
       run-bound state.version asked c.in-Ok.bound c.requires.bound is,
     ) c.answer_meant-answer.ensures.tells
 
@@ -54,7 +54,7 @@ returns-in-Err-clause-tells c =
     let asked = c.args.statement.now in
     IfOk-weaker c.refused.result _ _ (λ answer told.
     let is = rw (c.schema.ensures.same, c.catalog.ensures.schema) at (c.in-Err.ensures.err told.3) in
-    rw (reply-refused_in state (world empty c.args.asker.now.history.now) c.requires.stands c.args.asker.now.session.0 asked c.in-Err.why c.requires.bound is)
+    rw (reply-refused_in state (world c.args.asker.now.state.now.opened c.args.asker.now.history.now) c.requires.stands c.args.asker.now.session.0 asked c.in-Err.why c.requires.bound is)
     (tells-refused state.version _ c.in-Err.why answer told.0 told.1))
     c.refused.ensures
 

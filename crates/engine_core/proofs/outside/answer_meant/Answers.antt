@@ -15,4 +15,4 @@ select_reply-requires-clause-views c = views_there-created c.args.asker.now.stat
 pub returns-in_ok-reply-in-Get-clause-tells : goal.returns-in_ok-reply-in-Get-clause-tells
 returns-in_ok-reply-in-Get-clause-tells c =
     let db = c.args.asker.now.state.now.version in
-    rw c.in-Get.is (tells-shown (world empty c.args.asker.now.history.now) db c.args.asker.now.session.0 c.in-Get.subject c.told-in-Get.result (rw c.told-in-Get.ensures.reply c.in_ok-reply-in-Get.ensures) c.told-in-Get.ensures.stays)
+    rw c.in-Get.is (tells-shown (world c.args.asker.now.state.now.opened c.args.asker.now.history.now) db c.args.asker.now.session.0 c.in-Get.subject c.told-in-Get.result (rw c.told-in-Get.ensures.reply c.in_ok-reply-in-Get.ensures) c.told-in-Get.ensures.stays)

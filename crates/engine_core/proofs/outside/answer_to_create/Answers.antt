@@ -11,7 +11,7 @@ use Rattle.engine_core.proofs.outside.answer_to_create.Goals as goal
 pub returns-in-Some-clause-tells : goal.returns-in-Some-clause-tells
 returns-in-Some-clause-tells c =
     let state = c.args.asker.now.state.now in
-    rw (reply-busy state (world empty c.args.asker.now.history.now) c.requires.stands c.args.asker.now.session.0 c.args.statement.now c.requires.create c.in-Some.other c.lowest_other.result c.in-Some.is c.lowest_other.ensures)
+    rw (reply-busy state (world c.args.asker.now.state.now.opened c.args.asker.now.history.now) c.requires.stands c.args.asker.now.session.0 c.args.statement.now c.requires.create c.in-Some.other c.lowest_other.result c.in-Some.is c.lowest_other.ensures)
     (tells-refused state.version _ (Busy c.in-Some.other) c.told.result c.told.ensures.reply c.told.ensures.stays)
 
 pub returns-in-Some-clause-erases : goal.returns-in-Some-clause-erases
@@ -21,7 +21,7 @@ returns-in-Some-clause-erases c =
 -- none is
 pub returns-in-None-clause-tells : goal.returns-in-None-clause-tells
 returns-in-None-clause-tells c =
-    rw (reply-create c.args.asker.now.state.now (world empty c.args.asker.now.history.now) c.requires.stands c.args.asker.now.session.0 c.args.statement.now c.requires.create c.lowest_other.result c.in-None.is c.lowest_other.ensures)
+    rw (reply-create c.args.asker.now.state.now (world c.args.asker.now.state.now.opened c.args.asker.now.history.now) c.requires.stands c.args.asker.now.session.0 c.args.statement.now c.requires.create c.lowest_other.result c.in-None.is c.lowest_other.ensures)
     c.create.ensures.tells
 
 pub returns-in-None-clause-erases : goal.returns-in-None-clause-erases

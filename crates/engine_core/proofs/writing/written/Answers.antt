@@ -11,7 +11,7 @@ single-requires-clause-tables c = stored_tables c.args.asker.now.state.now.versi
 pub returns-clause-free : goal.returns-clause-free
 returns-clause-free c =
     IfOk-weaker c.single.result _ _
-    (λ pair is. free-kept c.args.asker.now.state.now (world empty c.args.asker.now.history.now) c.requires.stands c.args.asker.now.session.0 c.args.bound.now is.0) c.single.ensures.ok
+    (λ pair is. free-kept c.args.asker.now.state.now (world c.args.asker.now.state.now.opened c.args.asker.now.history.now) c.requires.stands c.args.asker.now.session.0 c.args.bound.now is.0) c.single.ensures.ok
 
 pub returns-clause-reply : goal.returns-clause-reply
 returns-clause-reply c = IfOk-weaker c.single.result _ _ (λ pair is. is.1.told) c.single.ensures.ok
@@ -27,4 +27,4 @@ returns-clause-left c =
 pub returns-clause-refused : goal.returns-clause-refused
 returns-clause-refused c =
     IfErr-weaker c.single.result _ _
-    (λ why is other. refused-kept c.args.asker.now.state.now (world empty c.args.asker.now.history.now) c.requires.stands c.args.asker.now.session.0 c.args.bound.now why (is other)) c.single.ensures.err
+    (λ why is other. refused-kept c.args.asker.now.state.now (world c.args.asker.now.state.now.opened c.args.asker.now.history.now) c.requires.stands c.args.asker.now.session.0 c.args.bound.now why (is other)) c.single.ensures.err

@@ -10,8 +10,8 @@ step-requires-clause-built g c = rw c.built.ensures (comes c.args.call.request c
 
 pub returns-in-Answered-clause-makes : goal.returns-in-Answered-clause-makes
 returns-in-Answered-clause-makes g c =
-    makes-call _ c.args.call c.args.engine.now _ c.in-Answered.place.0 c.in-Answered.reply _ (rw c.built.ensures at c.in-Answered.ensures.steps) c.print_reply-text.ensures
+    makes-call _ c.args.call c.args.engine.now _ c.in-Answered.place.0 c.in-Answered.reply _ c.requires.base (rw c.built.ensures at c.in-Answered.ensures.steps) c.print_reply-text.ensures
 
 pub returns-in-NoMemory-clause-makes : goal.returns-in-NoMemory-clause-makes
 returns-in-NoMemory-clause-makes g c =
-    leaves-call _ c.args.call c.args.engine.now _ _ c.requires.room (rw c.built.ensures at c.in-NoMemory.ensures.steps) c.print_reply-text-in-NoMemory.ensures
+    leaves-call _ c.args.call c.args.engine.now _ _ c.requires.base c.requires.room (rw c.built.ensures at c.in-NoMemory.ensures.steps) c.print_reply-text-in-NoMemory.ensures

@@ -7,6 +7,7 @@ use Rattle.store_top.proofs.steps.serve_calls.Goals as goal
 pub loop-call-init : goal.loop-call-init
 loop-call-init g c = record {
   room = rw c.into_iter-call-iterator.ensures.into_iter_gives.0 (omega (arith, c.requires.room));
+  base = refl;
   disk = refl;
   steady = refl;
   serving = rw (c.into_iter-call-iterator.ensures.into_iter_gives.0, c.requires.fresh) (serving-none c.args.calls.items (g.W.Sink.written c.args.sink.now) c.requires.numbered c.requires.readable c.requires.input.sessions);
@@ -19,6 +20,7 @@ loop-call-preserved g c =
     let left = rw c.in-Some.ensures.steps.0 at c.loop-call.invariant.room in
     record {
       room = omega arith;
+      base = c.in_ok-serve_call.ensures.base ∙ c.loop-call.invariant.base;
       disk = c.in_ok-serve_call.ensures.disk ∙ c.loop-call.invariant.disk;
       steady = c.in_ok-serve_call.ensures.steady (λ failed. cc) ∙ c.loop-call.invariant.steady;
       serving = serving-more c.args.calls.items c.loop-call.yielded c.in-Some.call _ c.loop-call.engine.history c.serve_call.new.engine.history

@@ -1,0 +1,2 @@
+pub mod NetFollows
+pub mod Texts

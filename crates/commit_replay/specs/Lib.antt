@@ -1,0 +1,11 @@
+pub mod Begins
+pub mod Created
+pub mod Creates
+pub mod Fitting
+pub mod Followed
+pub mod GoneOn
+pub mod Leads
+pub mod Made
+pub mod RowChanges
+pub mod Rows
+pub mod Taken

@@ -1,0 +1,2 @@
+pub mod SinceLemmas
+pub mod StoreLemmas

@@ -1,0 +1,2 @@
+pub mod StoreIn
+pub mod LeavesSince
