@@ -106,6 +106,20 @@ impl<D: Disk> Journal<D> {
         }
     }
 
+    /// The epoch of the area that is opened. Takes no memory.
+    pub fn epoch(&self) -> u64
+        ensures { result ≡ self.now.epoch }
+    {
+        self.epoch
+    }
+
+    /// Where its records end, which is the place of the closed gate behind them. Takes no memory.
+    pub fn end(&self) -> u64
+        ensures { result ≡ self.now.end }
+    {
+        self.end
+    }
+
     /// Whether an epoch more, and so many bytes more, are within the room of a journal. Takes no memory.
     pub fn fits(&self, bytes: u64) -> bool
         ensures { IsTrue result ↔ HasRoom self.now bytes }

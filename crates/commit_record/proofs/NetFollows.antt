@@ -1,5 +1,5 @@
 -- A net between two sound databases is a lawful commit, and short enough to be kept.
-use Rattle.std.proofs.Common.{◌≡◌, ◌∙◌, ℕ, zero, suc, ◌+◌, ◌≤◌, ◌<◌, List, [], ◌∷◌, ◌++◌, length, map, fold, refl, ap, sym, subst, arith}
+use Rattle.std.proofs.Common.{◌≡◌, ◌∙◌, ℕ, zero, suc, ◌+◌, ◌≤◌, List, [], ◌∷◌, ◌++◌, length, map, fold, refl, ap, sym, subst, arith}
 use Rattle.std.specs.Prelude.{◌≢◌, Contains, Result, Ok, Err, Option, None, Some, filter_map, find, slice_get, slice_index_or, sum_by}
 use Rattle.std.specs.declared.cmp.Ordering.{Ordering}
 use Rattle.std.specs.declared.cmp.Ordering.TheVariants.{Less, Equal, Greater}
@@ -20,6 +20,7 @@ use Rattle.schema_model.proofs.Places.{all-at}
 use Rattle.subject_model.specs.NameOrder.{name_cmp}
 use Rattle.subject_model.proofs.Members.{all_from_contained}
 use Rattle.state_model.specs.Net.{change_at, keys_in, net, net_from, net_in}
+use Rattle.state_model.specs.Payload.{payload_bytes}
 use Rattle.state_model.specs.Put.{put}
 use Rattle.state_model.specs.Rows.{AreRowsOf, IsRowOf}
 use Rattle.state_model.proofs.Faultless.{few_rows}
@@ -36,9 +37,8 @@ use Rattle.disk_model.specs.Value.{as_value}
 use Rattle.check_image.proofs.SoundImages.{sound_rows}
 use Rattle.commit_replay.proofs.FitLemmas.{row-under}
 use Rattle.commit_replay.proofs.PutsLemmas.{with-puts}
-use Rattle.own_model.specs.declared.limit.TheConstants.{PAYLOAD_BYTES}
 use Rattle.disk_model.specs.declared.commit.Commit.TheVariants.{Changes}
-use Rattle.disk_model.proofs.PayloadLength.{payload-length}
+use Rattle.disk_model.proofs.PayloadLength.{changes_length, payload-length}
 use Rattle.rec_codec.specs.Framed.{Encodes, IsFramed, payload_length}
 use Rattle.rec_codec.specs.declared.fault.EncodeFault.{EncodeFault}
 use Rattle.rec_codec.specs.declared.fault.EncodeFault.TheVariants.{Memory, TooBig}
@@ -47,14 +47,14 @@ use Rattle.commit_record.specs.Recorded.{IsNetOf, RecordsChanges}
 -- ---- the rows of a table
 
 -- those of a table may stand in it
-rows-may : (tables : List TableDef) (rows : List (List Row)) (number : ℕ) (table : TableDef) → AreRowsOf tables rows → slice_get tables number ≡ Some table → Each (IsRowOf table) (rows_at rows number)
+pub rows-may : (tables : List TableDef) (rows : List (List Row)) (number : ℕ) (table : TableDef) → AreRowsOf tables rows → slice_get tables number ≡ Some table → Each (IsRowOf table) (rows_at rows number)
 rows-may [] rows number table are is = let never : ◌≡◌ {A = Option TableDef} None (Some table) = is in cc
 rows-may (first ∷ tables) [] number table are is = absurd are
 rows-may (first ∷ tables) (one ∷ rows) zero table are is = let same : first ≡ table = cc in subst (λ table. Each (IsRowOf table) one) same are.0
 rows-may (first ∷ tables) (one ∷ rows) (suc number) table are is = rows-may tables rows number table are.1 is
 
 -- and are short
-rows-short : (rows : List (List Row)) (number : ℕ) → Each AreShortRows rows → Each IsShortRow (rows_at rows number)
+pub rows-short : (rows : List (List Row)) (number : ℕ) → Each AreShortRows rows → Each IsShortRow (rows_at rows number)
 rows-short [] number short = tt
 rows-short (one ∷ rows) zero short = short.0.1
 rows-short (one ∷ rows) (suc number) short = rows-short rows number short.1
@@ -77,7 +77,7 @@ value-short (value ∷ row) zero short = short.0
 value-short (value ∷ row) (suc place) short = value-short row place short.1
 
 -- and so is its key
-key-short : (table : TableDef) (rows : List Row) (key : Key) (row : Row) → Each (IsRowOf table) rows → Each IsShortRow rows → find (has_key table key) rows ≡ Some row → IsShortValue (as_value key)
+pub key-short : (table : TableDef) (rows : List Row) (key : Key) (row : Row) → Each (IsRowOf table) rows → Each IsShortRow rows → find (has_key table key) rows ≡ Some row → IsShortValue (as_value key)
 key-short table rows key row may short is =
     let under = found-under table rows key row may is in
     let own = found-short table rows key row short is in
@@ -224,6 +224,13 @@ module _ (before after : Db) (changes : List Change) (net_is : IsNetOf before af
       let puts = length-map changes put_of in
       omega arith
 
+-- the spelling of its payload is as long as is counted
+spelled-length : (before after : Db) (changes : List Change) → IsNetOf before after changes → payload_length (Changes (puts_of changes)) ≡ payload_bytes changes
+unfolding payload_bytes
+spelled-length before after changes net_is =
+    let each = changes_length changes (net-short before after changes net_is) in
+    omega arith
+
 -- what is encoded of it is its record
 pub records-net : (before after : Db) (changes : List Change) (puts : List Put) (result : Result (List ℕ) EncodeFault) → puts ≡ puts_of changes → Encodes (Changes puts) result → IsNetOf before after changes
     → RecordsChanges before after changes result
@@ -231,6 +238,6 @@ records-net before after changes puts (Ok framed) same is net_is =
     let framed_is : IsFramed (Changes (puts_of changes)) framed = subst (λ puts. IsFramed (Changes puts) framed) same is in
     let long = payload-length changes framed_is.payload framed_is.is_payload in
     let few = framed_is.few in
-    (record { commit = Changes (puts_of changes); is_framed = framed_is; follows = net-follows before after changes net_is }, omega arith)
-records-net before after changes puts (Err (TooBig count)) same is net_is = subst (λ puts. (count ≡ payload_length (Changes puts)) × (PAYLOAD_BYTES < count)) same is
+    (record { commit = Changes (puts_of changes); is_framed = framed_is; follows = net-follows before after changes net_is }, omega arith, framed_is)
+records-net before after changes puts (Err (TooBig count)) same is net_is = (is.0 ∙ (ap (λ (puts : List Put). payload_length (Changes puts)) same ∙ spelled-length before after changes net_is), is.1)
 records-net before after changes puts (Err Memory) same is net_is = tt

@@ -35,10 +35,12 @@ pub record IsSomeNet (changes : List Change) : Type 0 where
   pub after : Db
   pub is : IsNetOf before after changes
 
--- what comes of recording changes: a record, whose payload is as long as is counted; or the payload is longer than one may be
+-- what comes of recording changes: a record, which is the changes framed, and whose payload is as long as is counted; or that
+-- count, which is more than one may have
 abbrev pub RecordsChanges : Db → Db → List Change → Result (List ℕ) EncodeFault → Type 0
-RecordsChanges before after changes (Ok framed) = IsRecordOf before after framed × (payload_bytes changes ≤ PAYLOAD_BYTES)
-RecordsChanges before after changes (Err (TooBig count)) = (count ≡ payload_length (Changes (puts_of changes))) × (PAYLOAD_BYTES < count)
+RecordsChanges before after changes (Ok framed) =
+    IsRecordOf before after framed × (payload_bytes changes ≤ PAYLOAD_BYTES) × IsFramed (Changes (puts_of changes)) framed
+RecordsChanges before after changes (Err (TooBig count)) = (count ≡ payload_bytes changes) × (PAYLOAD_BYTES < count)
 RecordsChanges before after changes (Err Memory) = Unit {0}
 
 -- a CREATE by its text

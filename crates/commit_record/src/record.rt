@@ -1,8 +1,9 @@
-ghost use Rattle.std.specs.Prelude.{◌≡◌, IfOk};
+ghost use Rattle.std.specs.Prelude.{◌≡◌, ℕ, Err, IfOk};
 ghost use Rattle.own_model.specs.Db.{Db};
 ghost use Rattle.disk_model.specs.Bounds.{IsShortName};
 ghost use Rattle.disk_model.specs.declared.commit.Commit.TheVariants.{Forget};
 ghost use Rattle.disk_model.specs.PutOf.{puts_of};
+ghost use Rattle.rec_codec.specs.declared.fault.EncodeFault.TheVariants.{TooBig};
 ghost use Rattle.commit_record.specs.Recorded.{Frames, IsNetOf, IsSomeNet, RecordsChanges, create_commit};
 
 use disk_model::{Commit, Put};
@@ -46,10 +47,11 @@ pub fn record_of_create(alloc: Global, view: bool, text: &Text) -> Result<List<u
     encode(alloc, &commit)
 }
 
-/// The record of a FORGET, by the row of its data subject.
+/// The record of a FORGET, by the row of its data subject. It is never too long.
 pub fn record_of_forget(alloc: Global, name: &RowName) -> Result<List<u8>, EncodeFault>
     requires { IsShortName name.now }
-    ensures { Frames (Forget name.now) result }
+    ensures framed { Frames (Forget name.now) result }
+    ensures never { (count : ℕ) → result ≡ Err (TooBig count) → ⊥ }
 {
     let name = name.copy(alloc)?;
     encode(alloc, &Commit::Forget(name))

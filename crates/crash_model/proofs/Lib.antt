@@ -1,2 +1,5 @@
+pub mod FlatLemmas
+pub mod LeftLemmas
+pub mod RoomLemmas
 pub mod SinceLemmas
 pub mod StoreLemmas

@@ -1,2 +1,4 @@
-pub mod StoreIn
 pub mod LeavesSince
+pub mod LeftBy
+pub mod Room
+pub mod StoreIn

@@ -48,7 +48,7 @@ change_length change short =
     let both = length-append (name_spelling change.name) (state_spelling change.after) in
     omega arith
 
-changes_length : (changes : List Change) → AllByRecursion IsShortPut (puts_of changes) → length (flat_map put_spelling (puts_of changes)) ≡ sum_by change_bytes changes
+pub changes_length : (changes : List Change) → AllByRecursion IsShortPut (puts_of changes) → length (flat_map put_spelling (puts_of changes)) ≡ sum_by change_bytes changes
 changes_length [] all = refl
 changes_length (change ∷ changes) all =
     let own = change_length change all.0 in

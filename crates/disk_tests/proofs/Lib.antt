@@ -1,2 +1,3 @@
 mod FreshDisks
 mod RestingJournals
+mod RowWrites

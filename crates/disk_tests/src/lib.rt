@@ -16,4 +16,8 @@ mod payloads;
 #[cfg(test)]
 mod recovering;
 #[cfg(test)]
+mod storing;
+#[cfg(test)]
 mod words;
+#[cfg(test)]
+mod writing;

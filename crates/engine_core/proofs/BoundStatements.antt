@@ -3,7 +3,7 @@ use Rattle.std.proofs.Common.{◌≡◌, ℕ, List, [], cond, true, false, not, 
 use Rattle.std.specs.Prelude.{None, Ok, Err}
 use Rattle.std.proofs.Math.Bool.{and-false}
 use Rattle.own_model.specs.declared.bound.Bound.{Bound}
-use Rattle.own_model.specs.declared.history.Verdict.TheVariants.{Took}
+use Rattle.own_model.specs.declared.history.Verdict.{Verdict}
 use Rattle.own_model.specs.declared.refusal.Refusal.{Refusal}
 use Rattle.own_model.specs.declared.footprint.FootItem.{FootItem}
 use Rattle.own_model.specs.declared.reply.Reply.{Reply}
@@ -26,7 +26,8 @@ use Rattle.run_model.specs.Items.{TakesRows}
 use Rattle.run_model.proofs.Outcomes.{bound-ok}
 use Rattle.txn_core.specs.Runs.{IsRowStatement}
 use Rattle.write_eval.proofs.BoundWrites.{bound_write}
-use Rattle.engine_core.specs.Answered.{Erases, ErasesBound, Tells, bound_reply, erases, erases_bound}
+use Rattle.crash_model.specs.Room.{commit_by}
+use Rattle.engine_core.specs.Answered.{Erases, ErasesBound, bound_commit, bound_reply, erases, erases_bound}
 use Rattle.engine_core.specs.Asked.{IsBound, IsMeant}
 use Rattle.engine_core.specs.declared.answer.Answer.{Answer}
 
@@ -88,11 +89,11 @@ run-refused db (statement.GdprGet name key) why bound is = rw is refl
 run-refused db (statement.GdprForget name key) why bound is = rw is refl
 run-refused db _ why bound is = absurd bound
 
--- Outside a transaction it is answered as what it means.
-module _ (world : World) (session : ℕ) where
+-- Outside a transaction it is answered as what it means, whatever the disk says.
+module _ (world : World) (session : ℕ) (verdict : Verdict) where
   reply-meant : (found : Statement) → IsBound found → bound_statement world.flat.schema found ≡ Ok (meaning world.flat.schema found)
       → run world.flat found ≡ run_bound world.flat (meaning world.flat.schema found)
-      → reply_outside world session Took found ≡ bound_reply world world.flat session (meaning world.flat.schema found)
+      → reply_outside world session verdict found ≡ bound_reply world world.flat session (meaning world.flat.schema found) verdict
   unfolding meaning
   reply-meant (statement.Select select) bound is runs = ap (λ outcome. outcome.reply) runs
   reply-meant (statement.Insert name names tuples) bound is runs = rw (is, runs) refl
@@ -103,29 +104,25 @@ module _ (world : World) (session : ℕ) where
   reply-meant _ bound is runs = absurd bound
 
   pub reply-bound : (found : Statement) (got : Bound) → IsBound found → bound_statement world.flat.schema found ≡ Ok got
-      → reply_outside world session Took found ≡ bound_reply world world.flat session got
+      → reply_outside world session verdict found ≡ bound_reply world world.flat session got verdict
   reply-bound found got bound is =
       let by = bound-ok world.flat.schema found got is in
       let meant = is ∙ ap (λ meant. Ok meant) (sym by.1) in
-      reply-meant found bound meant (run-bound world.flat found (meaning world.flat.schema found) bound meant) ∙ ap (bound_reply world world.flat session) by.1
+      reply-meant found bound meant (run-bound world.flat found (meaning world.flat.schema found) bound meant) ∙ ap (λ meant. bound_reply world world.flat session meant verdict) by.1
 
   reply-step : (found : Statement) (why : Refusal) → IsBound found → bound_statement world.flat.schema found ≡ Err why → run world.flat found ≡ answered world.flat (Refused why)
-      → reply_outside world session Took found ≡ Refused why
+      → reply_outside world session verdict found ≡ Refused why
   reply-step (statement.Select select) why bound is runs = ap (λ outcome. outcome.reply) runs
   reply-step (statement.Insert name names tuples) why bound is runs = rw is refl
   reply-step (statement.Update name sets cond) why bound is runs = rw is refl
   reply-step (statement.Delete name cond) why bound is runs = rw is refl
   reply-step (statement.GdprGet name key) why bound is runs = ap (λ outcome. outcome.reply) runs
-  reply-step (statement.GdprForget name key) why bound is runs = ap (λ (outcome : Outcome). forget_reply Took outcome) runs
+  reply-step (statement.GdprForget name key) why bound is runs = ap (λ (outcome : Outcome). forget_reply verdict outcome) runs
   reply-step _ why bound is runs = absurd bound
 
   -- one that binding refuses is told why
-  pub reply-refused : (found : Statement) (why : Refusal) → IsBound found → bound_statement world.flat.schema found ≡ Err why → reply_outside world session Took found ≡ Refused why
+  pub reply-refused : (found : Statement) (why : Refusal) → IsBound found → bound_statement world.flat.schema found ≡ Err why → reply_outside world session verdict found ≡ Refused why
   reply-refused found why bound is = reply-step found why bound is (run-refused world.flat found why bound is)
-
--- which leaves the database
-pub tells-refused : (db behind : Db) (why : Refusal) (answer : Answer) → answer.reply ≡ Refused why → answer.next ≡ None → Tells db (Refused why) behind answer
-tells-refused db behind why answer told stays = record { told = told; leaves = rw stays refl; may = rw stays tt }
 
 -- What it erases is what its meaning does.
 erases-meant : (db : Db) (found : Statement) (reply : Reply) (items : List FootItem) → IsBound found
@@ -144,6 +141,21 @@ pub erases-as_bound : (db : Db) (found : Statement) (got : Bound) (answer : Answ
 erases-as_bound db found got answer bound is erased =
     let by = bound-ok db.schema found got is in
     λ items. erased items ∙ sym (erases-meant db found answer.reply items bound ∙ ap (λ meant. erases_bound db meant answer.reply items) by.1)
+
+-- and what it commits is what its meaning does
+commit-meant : (db behind : Db) (found : Statement) → IsBound found → bound_commit db (meaning db.schema found) behind ≡ commit_by db (Run found) behind
+unfolding meaning
+commit-meant db behind (statement.Select select) bound = refl
+commit-meant db behind (statement.Insert name names tuples) bound = refl
+commit-meant db behind (statement.Update name sets cond) bound = refl
+commit-meant db behind (statement.Delete name cond) bound = refl
+commit-meant db behind (statement.GdprGet name key) bound = refl
+commit-meant db behind (statement.GdprForget name key) bound = refl
+commit-meant db behind _ bound = absurd bound
+
+pub commit-as_bound : (db behind : Db) (found : Statement) (got : Bound) → IsBound found → bound_statement db.schema found ≡ Ok got → bound_commit db got behind ≡ commit_by db (Run found) behind
+commit-as_bound db behind found got bound is =
+    ap (λ meant. bound_commit db meant behind) (sym (bound-ok db.schema found got is).1) ∙ commit-meant db behind found bound
 
 -- a refusal erases nothing
 refused_step : (db : Db) (request : Request) (reply : Reply) (items : List FootItem) → is_refusal reply ≡ true → erases db request reply items ≡ false

@@ -1,15 +1,16 @@
 -- Entries that leave the flat database and doom nobody.
-use Rattle.std.proofs.Common.{◌≡◌, ◌∙◌, ◌==◌, ℕ, length, Bool, true, false, ap, refl, subst, sym}
+use Rattle.std.proofs.Common.{◌≡◌, ◌∙◌, ◌==◌, ℕ, length, Bool, true, false, None, ap, refl, subst, sym}
 use Rattle.std.proofs.lemmas.Bool.{eqb-false, eqb-true}
 use Rattle.own_model.specs.declared.history.Entry.{Entry}
 use Rattle.own_model.specs.declared.refusal.Refusal.{Refusal}
 use Rattle.own_model.specs.declared.reply.Reply.{Reply}
-use Rattle.own_model.specs.declared.reply.Reply.TheVariants.{Refused}
+use Rattle.std.specs.Prelude.{if◌then◌else◌}
+use Rattle.own_model.specs.declared.reply.Reply.TheVariants.{Counted, Done, Ended, Forgot, Got, Graph, Refused, Rows}
 use Rattle.own_model.specs.Db.{Db}
 use Rattle.state_model.specs.Sound.{Sound}
 use Rattle.state_model.specs.Weight.{weight}
 use Rattle.history_model.specs.Held.{held, items_held}
-use Rattle.history_model.specs.History.{History, dooms, flat_after, happens, own_after, world}
+use Rattle.history_model.specs.History.{History, dooms, flat_after, happens, is_failure, other_after, own_after, world}
 use Rattle.history_model.specs.Reply.{answer, is_refusal}
 use Rattle.history_model.specs.World.{SessionStanding, World}
 use Rattle.history_model.proofs.DoomLemmas.{refused-dooms}
@@ -47,7 +48,6 @@ pub stands-kept : (before after : State) (world : World) → after.version ≡ b
 stands-kept before after world version weighs same stands = record {
   flat = version ∙ stands.flat;
   weighs = ap weight version ∙ (stands.weighs ∙ sym weighs);
-  up = stands.up;
   states = λ session. subst (λ one. RepresentsSession world.flat one (world.standing session)) (sym (same.states session)) (stands.states session);
   held = λ session. subst (λ items. RepresentsItems items (held world session)) (sym (same.held session)) (stands.held session);
 }
@@ -59,9 +59,8 @@ event-kept history entry before after opened version weighs same event = record 
   entries = event.entries;
   begun = subst Sound (sym opened) event.begun;
   stands = subst (λ base. RepresentsWorld after (world base history)) (sym opened) (stands-kept before after (world before.opened history) version weighs same event.stands);
+  up = subst (λ base. (world base history).down ≡ None) (sym opened) event.up;
   is_entry = event.is_entry;
-  took = event.took;
-  built = event.built;
 }
 
 module _ (history : History) (entry : Entry) (before after : State) (event : IsEvent before history entry) where
@@ -80,7 +79,7 @@ module _ (history : History) (entry : Entry) (before after : State) (event : IsE
       → RepresentsWorld after (happens (world before.opened history) entry)
   stands-calm stood version weighs others calm undoomed stands kept holds =
       let is = event.stands in
-      stands-next history entry event.entries event.is_entry event.took before event.begun is after (record { 0 = length history }) refl
+      stands-next history entry event.entries event.is_entry before event.begun is event.up after (record { 0 = length history }) refl
       (version ∙ (is.flat ∙ sym calm)) (ap weight version ∙ (is.weighs ∙ sym weighs))
       (subst (λ db. RepresentsSession db (state_by after.txns.states entry.session.0) (own_after now entry told)) (sym calm)
       (subst (λ stood. RepresentsSession now.flat (state_by after.txns.states entry.session.0) stood) (sym stands) kept))
@@ -115,3 +114,46 @@ module _ (history : History) (entry : Entry) (before after : State) (event : IsE
         let now_after = stands-kept before after now version weighs same event.stands in
         stands-refused (now.standing entry.session.0) version weighs (others-same entry.session.0 before.txns after.txns same) stays
         (now_after.states entry.session.0) (now_after.held entry.session.0)
+
+-- An answer for want of the disk leaves the world, so that the state represents it still.
+refused_by : (reply : Reply) → is_failure reply ≡ true → is_refusal reply ≡ true
+refused_by Done fails = absurd (cc)
+refused_by (Counted count) fails = absurd (cc)
+refused_by (Rows rows) fails = absurd (cc)
+refused_by (Got rows) fails = absurd (cc)
+refused_by (Forgot removed changed) fails = absurd (cc)
+refused_by (Graph lines) fails = absurd (cc)
+refused_by Ended fails = absurd (cc)
+refused_by (Refused why) fails = refl
+
+module _ (base : Db) (history : History) (entry : Entry) (state : State) (stands : RepresentsWorld state (world base history)) (fails : is_failure (answer (world base history) entry) ≡ true) where
+  abbrev was : World
+  was = world base history
+
+  abbrev next : World
+  next = happens was entry
+
+  flat_stays : next.flat ≡ was.flat
+  flat_stays = rw (refused_by (answer was entry) fails) refl
+
+  own_stays : own_after was entry (answer was entry) ≡ was.standing entry.session.0
+  own_stays = rw fails refl
+
+  stands_by : (session : ℕ) (b : Bool) → (session == entry.session.0) ≡ b
+      → (if b then own_after was entry (answer was entry) else other_after was entry (answer was entry) session) ≡ was.standing session
+  stands_by session true same = own_stays ∙ ap was.standing (sym (eqb-true session entry.session.0 same))
+  stands_by session false apart = rw (refused-dooms was entry (answer was entry) session (refused_by (answer was entry) fails)) refl
+
+  standing_stays : (session : ℕ) → next.standing session ≡ was.standing session
+  standing_stays session = stands_by session (session == entry.session.0) refl
+
+  pub represents-failure : RepresentsWorld state (happens (world base history) entry)
+  unfolding held
+  represents-failure = record {
+    flat = stands.flat ∙ sym flat_stays;
+    weighs = stands.weighs;
+    states = λ session. subst (λ stood. RepresentsSession next.flat (state_by state.txns.states session) stood) (sym (standing_stays session))
+        (subst (λ db. RepresentsSession db (state_by state.txns.states session) (was.standing session)) (sym flat_stays) (stands.states session));
+    held = λ session. subst (λ stood. RepresentsItems (held_by state.txns.held session) (items_held next.flat.schema stood)) (sym (standing_stays session))
+        (subst (λ (db : Db). RepresentsItems (held_by state.txns.held session) (items_held db.schema (was.standing session))) (sym flat_stays) (stands.held session));
+  }

@@ -1,50 +1,146 @@
--- What a commit is answered, and what it leaves.
-use Rattle.std.proofs.Common.{◌≡◌, List, [], ◌∷◌, Bool, true, ap, arith, length, refl, subst}
-use Rattle.std.specs.Prelude.{Option, None, slice_index_or}
-use Rattle.std.proofs.lemmas.Bool.{and_parts}
+-- What a call that may commit is answered, and what it leaves.
+use Rattle.std.proofs.Common.{◌≡◌, ◌∙◌, ◌<◌, ◌≤◌, ℕ, List, Bool, true, false, ap, refl, subst, sym}
+use Rattle.std.specs.Prelude.{◌||◌, not, None, Some, Result, Ok, Err, if◌then◌else◌}
+use Rattle.std.proofs.Math.Bool.{and-false}
+use Rattle.std.proofs.lemmas.Bool.{le-ltb, lt-ltb}
 use Rattle.own_base.specs.declared.change.Change.{Change}
+use Rattle.own_model.specs.declared.history.Verdict.{Verdict}
 use Rattle.own_model.specs.declared.history.Verdict.TheVariants.{Took}
+use Rattle.own_model.specs.declared.limit.TheConstants.{PAYLOAD_BYTES}
 use Rattle.own_model.specs.declared.refusal.Refusal.{Refusal}
+use Rattle.own_model.specs.declared.refusal.Refusal.TheVariants as refusal
 use Rattle.own_model.specs.declared.reply.Reply.{Reply}
-use Rattle.own_model.specs.declared.schema.Schema.{Schema}
+use Rattle.own_model.specs.declared.reply.Reply.TheVariants.{Refused}
 use Rattle.own_model.specs.Db.{Db}
-use Rattle.schema_model.specs.Lone.{are_lone, is_lone}
-use Rattle.payload_size.specs.SoundNet.{IsSoundNet}
+use Rattle.state_model.specs.CommitRefusal.{commit_refusal}
 use Rattle.state_model.specs.Fault.{fault}
 use Rattle.state_model.specs.Net.{net}
-use Rattle.state_model.specs.Rows.{AreRowsOf}
-use Rattle.state_model.specs.Sound.{IsWellFormed, Sound}
-use Rattle.state_model.proofs.CreatedSchema.{within-created}
-use Rattle.history_model.specs.Reply.{committing, is_refusal}
-use Rattle.engine_core.specs.Answered.{Tells}
+use Rattle.state_model.specs.Payload.{payload_bytes}
+use Rattle.state_model.specs.Weight.{weight}
+use Rattle.disk_model.specs.declared.commit.Commit.{Commit}
+use Rattle.disk_model.specs.declared.commit.Commit.TheVariants as commit_of
+use Rattle.disk_model.specs.PutOf.{puts_of}
+use Rattle.disk_model.specs.Follows.{Follows}
+use Rattle.rec_codec.specs.Framed.{IsFramed}
+use Rattle.rec_codec.specs.declared.fault.EncodeFault.{EncodeFault}
+use Rattle.rec_codec.specs.declared.fault.EncodeFault.TheVariants.{Memory, TooBig}
+use Rattle.commit_record.specs.Recorded.{Frames, IsNetOf, IsRecordOf, RecordsChanges}
+use Rattle.history_model.specs.Reply.{by_verdict, changes, committing, is_refusal}
+use Rattle.engine_core.specs.Answered.{IsRecorded, Tells}
 use Rattle.engine_core.specs.declared.answer.Answer.{Answer}
+use Rattle.engine_core.proofs.Judged.{commit_refusal-fault, commit_refusal-length}
+use Rattle.engine_core.proofs.Nets.{changes-same, changes-some}
 
--- the net of two databases of a store
-pub sound-net : (before after : Db) (changes : List Change) → Sound before → IsWellFormed after → fault after ≡ None → before.schema ≡ after.schema → changes ≡ net before after
-    → IsSoundNet changes
-sound-net before after changes sound kept none same is = record {
-  before = before;
-  after = after;
-  one_schema = same;
-  limits = within-created after kept.created;
-  rows_before = subst (λ schema. AreRowsOf schema.tables before.rows) same sound.well_formed.rows;
-  rows_after = kept.rows;
-  faultless_before = sound.faultless;
-  faultless_after = none;
-  is = is;
-}
+-- ---- any call
 
--- a refusal stays one, whatever a commit would ask
-pub tells-refusal : (db behind : Db) (needed : Bool) (cause : Option Refusal) (reply : Reply) (answer : Answer) → is_refusal reply ≡ true → answer.reply ≡ reply → answer.next ≡ None
-    → Tells db (committing Took needed cause reply) behind answer
-tells-refusal db behind needed cause reply answer refused told stays = rw refused (record { told = told; leaves = rw (stays, refused) refl; may = rw stays tt })
+-- a refusal, whatever the disk says, leaves the database
+pub tells-refusal : {commit : Commit} (db behind : Db) (creates : Bool) (given : Verdict → Reply) (reply : Reply) (answer : Answer) → is_refusal reply ≡ true → ((verdict : Verdict) → given verdict ≡ reply)
+    → answer.reply ≡ reply → answer.next ≡ None → Tells db creates commit given behind answer
+tells-refusal db behind creates given reply answer refused are told stays =
+    let took : given Took ≡ reply = are Took in
+    record {
+      told = told ∙ sym took;
+      leaves = rw (stays, took, refused) refl;
+      may = rw stays tt;
+      framed = rw stays tt;
+      decided = rw stays (λ verdict. are verdict ∙ sym took);
+      counted = rw (stays, took, refused) refl;
+    }
 
--- a list of one is the change that stands first
-pub one-alone : (list : List Change) (first : Change) → length list ≡ 1 → first ≡ slice_index_or list 0 first → first ∷ [] ≡ list
-one-alone [] first one is = absurd (omega (arith, one))
-one-alone (change ∷ []) first one is = ap (λ (head : Change). head ∷ []) is
-one-alone (change ∷ next ∷ rest) first one is = absurd (omega (arith, one))
+pub tells-refused : {commit : Commit} (db behind : Db) (creates : Bool) (given : Verdict → Reply) (why : Refusal) (answer : Answer) → ((verdict : Verdict) → given verdict ≡ Refused why) → answer.reply ≡ Refused why
+    → answer.next ≡ None → Tells db creates commit given behind answer
+tells-refused db behind creates given why answer are told stays = tells-refusal db behind creates given (Refused why) answer refl are told stays
 
--- the table of a change that stands alone is lone where all are
-pub lone-alone : (schema : Schema) (change : Change) → are_lone schema (change ∷ []) ≡ true → is_lone schema change.name.table.0 ≡ true
-lone-alone schema change lone = (and_parts (is_lone schema change.name.table.0) true lone).0
+-- so does a reply that no other database stands behind
+either : (refused : Bool) (db behind : Db) → behind ≡ db → db ≡ (if refused then db else behind)
+either true db behind same = refl
+either false db behind same = sym same
+
+pub tells-left : {commit : Commit} (db behind : Db) (given : Verdict → Reply) (reply : Reply) (answer : Answer) → behind ≡ db → ((verdict : Verdict) → given verdict ≡ reply) → answer.reply ≡ reply → answer.next ≡ None
+    → Tells db false commit given behind answer
+tells-left db behind given reply answer same are told stays =
+    let took : given Took ≡ reply = are Took in
+    let unchanged : changes db behind ≡ false = ap (changes db) same ∙ changes-same db in
+    record {
+      told = told ∙ sym took;
+      leaves = rw stays (either (is_refusal (given Took)) db behind same);
+      may = rw stays tt;
+      framed = rw stays tt;
+      decided = rw stays (λ verdict. are verdict ∙ sym took);
+      counted = rw (stays, unchanged) (sym (and-false (not (is_refusal (given Took)))));
+    }
+
+-- what the disk is to take is left with its record
+pub tells-kept : (db behind : Db) (creates : Bool) (commit : Commit) (given : Verdict → Reply) (reply : Reply) (weighs : ℕ) (framed : List ℕ) (answer : Answer) → is_refusal reply ≡ false
+    → ((verdict : Verdict) → given verdict ≡ by_verdict verdict reply) → (creates || changes db behind) ≡ true → weight behind ≡ weighs → IsRecordOf db behind framed → IsFramed commit framed → answer.reply ≡ reply
+    → answer.next ≡ Some (record { next = behind; weighs = weighs; «record» = framed }) → Tells db creates commit given behind answer
+tells-kept db behind creates commit given reply weighs framed answer accepted are counts weight_is is framed_is told next =
+    let took : given Took ≡ reply = are Took in
+    record {
+      told = told ∙ sym took;
+      leaves = rw (next, took, accepted) refl;
+      may = rw next (record { weighs = weight_is; recorded = is });
+      framed = rw next framed_is;
+      decided = rw next (λ verdict. are verdict ∙ ap (by_verdict verdict) (sym took));
+      counted = rw (next, took, accepted, counts) refl;
+    }
+
+-- what is told of one reply is told of another that is the same
+pub tells-alike : {commit : Commit} (db : Db) (creates : Bool) (given other : Verdict → Reply) (behind : Db) (answer : Answer) → ((verdict : Verdict) → given verdict ≡ other verdict)
+    → Tells db creates commit other behind answer → Tells db creates commit given behind answer
+tells-alike {commit} db creates given other behind answer same tells =
+    let is : other ≡ given = λ i verdict. sym (same verdict) i in
+    subst (λ given. Tells db creates commit given behind answer) is tells
+
+-- and of one commit
+pub tells-committing : {commit other : Commit} {given : Verdict → Reply} {behind : Db} (db : Db) (creates : Bool) (answer : Answer) → commit ≡ other → Tells db creates commit given behind answer
+    → Tells db creates other given behind answer
+tells-committing {given = given} {behind = behind} db creates answer same tells = subst (λ commit. Tells db creates commit given behind answer) same tells
+
+-- ---- by what comes of its record
+
+-- a commit whose record is never too long
+pub tells-framed : (db behind : Db) (creates : Bool) (given : Verdict → Reply) (reply : Reply) (weighs : ℕ) (commit : Commit) (framed : Result (List ℕ) EncodeFault) (answer : Answer) → is_refusal reply ≡ false
+    → ((verdict : Verdict) → given verdict ≡ by_verdict verdict reply) → (creates || changes db behind) ≡ true → weight behind ≡ weighs
+    → ((bytes : List ℕ) → IsFramed commit bytes → Follows db commit behind) → ((count : ℕ) → framed ≡ Err (TooBig count) → ⊥) → Frames commit framed → IsRecorded behind weighs reply framed answer
+    → Tells db creates commit given behind answer
+tells-framed db behind creates given reply weighs commit (Ok bytes) answer accepted are counts weight_is follows never frames is =
+    tells-kept db behind creates commit given reply weighs bytes answer accepted are counts weight_is (record { commit = commit; is_framed = frames; follows = follows bytes frames }) frames is.0 is.1
+tells-framed db behind creates given reply weighs commit (Err (TooBig count)) answer accepted are counts weight_is follows never frames is = absurd (never count refl)
+tells-framed db behind creates given reply weighs commit (Err Memory) answer accepted are counts weight_is follows never frames is = absurd is
+
+-- a net
+module _ (db after : Db) (reply : Reply) (accepted : is_refusal reply ≡ false) where
+  abbrev given : Verdict → Reply
+  given verdict = committing verdict (changes db after) (commit_refusal db after) reply
+
+  -- what it leads to has a fault
+  pub tells-faulty : {commit : Commit} (why : Refusal) (answer : Answer) → fault after ≡ Some why → answer.reply ≡ Refused why → answer.next ≡ None
+      → Tells db false commit (λ verdict. committing verdict (changes db after) (commit_refusal db after) reply) after answer
+  tells-faulty why answer is told stays =
+      let cause = commit_refusal-fault db after why is in
+      tells-refused db after false given why answer (λ verdict. rw (accepted, cause) refl) told stays
+
+  module _ (list : List Change) (net_is : IsNetOf db after list) where
+    fits : payload_bytes list ≤ PAYLOAD_BYTES → commit_refusal db after ≡ None
+    fits few =
+        let none = le-ltb PAYLOAD_BYTES (payload_bytes list) few in
+        commit_refusal-length db after list net_is.sound_after.faultless net_is.is ∙ (rw none refl)
+
+    long : (count : ℕ) → count ≡ payload_bytes list → PAYLOAD_BYTES < count → commit_refusal db after ≡ Some (refusal.TooBig count)
+    long count counted many =
+        let some = lt-ltb PAYLOAD_BYTES count many in
+        commit_refusal-length db after list net_is.sound_after.faultless net_is.is ∙ (rw (← counted, some) refl)
+
+    -- or none
+    pub tells-changed : (weighs : ℕ) (framed : Result (List ℕ) EncodeFault) (answer : Answer) → weight after ≡ weighs → RecordsChanges db after list framed → IsRecorded after weighs reply framed answer
+        → Tells db false (commit_of.Changes (puts_of (net db after))) (λ verdict. committing verdict (changes db after) (commit_refusal db after) reply) after answer
+    tells-changed weighs (Ok bytes) answer weight_is records is =
+        let some = changes-some db after list net_is.is net_is.some in
+        let none = fits records.1 in
+        tells-kept db after false _ given reply weighs bytes answer accepted (λ verdict. rw (accepted, none, some) refl) some weight_is records.0
+        (subst (λ (list : List Change). IsFramed (commit_of.Changes (puts_of list)) bytes) net_is.is records.2) is.0 is.1
+    tells-changed weighs (Err (TooBig count)) answer weight_is records is =
+        let cause = long count records.0 records.1 in
+        tells-refused db after false given (refusal.TooBig count) answer (λ verdict. rw (accepted, cause) refl) is.0 is.1
+    tells-changed weighs (Err Memory) answer weight_is records is = absurd is

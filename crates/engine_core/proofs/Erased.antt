@@ -1,6 +1,6 @@
 -- The rows that a GDPR FORGET names as erased are those that it removes or changes.
 use Rattle.std.proofs.Common.{◌≡◌, ◌∙◌, ◌||◌, List, [], ◌∷◌, ◌++◌, Bool, true, false, not, ap, filter, map, refl, subst, sym}
-use Rattle.std.specs.Prelude.{◌&&◌, cond}
+use Rattle.std.specs.Prelude.{◌&&◌, cond, is_some}
 use Rattle.std.specs.List.{list_any}
 use Rattle.std.proofs.lemmas.List.Folds.{list_any-append}
 use Rattle.std.proofs.Math.Bool.{or_assoc}
@@ -9,6 +9,7 @@ use Rattle.own_base.specs.declared.row_name.RowName.{RowName}
 use Rattle.own_base.specs.declared.row_name.Subject.{Subject}
 use Rattle.own_model.specs.declared.bound.Bound.TheVariants.{Forget}
 use Rattle.own_model.specs.declared.footprint.FootItem.{FootItem}
+use Rattle.own_model.specs.declared.history.Verdict.{Verdict}
 use Rattle.own_model.specs.declared.history.Verdict.TheVariants.{Took}
 use Rattle.own_model.specs.declared.refusal.Refusal.{Refusal}
 use Rattle.own_model.specs.declared.reply.Reply.{Reply}
@@ -22,7 +23,8 @@ use Rattle.subject_erase.specs.Plan.{IsPlan, leaves_row, plan_of}
 use Rattle.history_model.specs.History.{lie_on}
 use Rattle.history_model.specs.Reply.{forget_reply, is_refusal}
 use Rattle.engine_core.specs.declared.answer.Answer.{Answer}
-use Rattle.engine_core.specs.Answered.{ErasesBound, MayBeLeft, Tells, left}
+use Rattle.disk_model.specs.declared.commit.Commit.{Commit}
+use Rattle.engine_core.specs.Answered.{ErasesBound, IsDecided, IsFramedAs, MayBeLeft, Tells, left}
 
 -- one of some is among those of one kind or those of the other
 abbrev names : List Change → List RowName
@@ -74,14 +76,22 @@ erases-absent db subject why answer told none = λ items.
     ap (λ some. lie_on some items) none ∙ sym (absent_step db subject answer.reply items (ap is_refusal told))
 
 -- an answer that names more rows as erased tells the same
-pub tells-erasing : (db : Db) (given : Reply) (behind : Db) (answer other : Answer) → other.reply ≡ answer.reply → other.next ≡ answer.next → Tells db given behind answer → Tells db given behind other
-tells-erasing db given behind answer other reply next tells = record { told = reply ∙ tells.told; leaves = ap (left db) next ∙ tells.leaves; may = subst (MayBeLeft db) (sym next) tells.may }
+pub tells-erasing : {commit : Commit} (db : Db) (creates : Bool) (given : Verdict → Reply) (behind : Db) (answer other : Answer) → other.reply ≡ answer.reply → other.next ≡ answer.next
+    → Tells db creates commit given behind answer → Tells db creates commit given behind other
+tells-erasing {commit} db creates given behind answer other reply next tells = record {
+  told = reply ∙ tells.told;
+  leaves = ap (left db) next ∙ tells.leaves;
+  may = subst (MayBeLeft db) (sym next) tells.may;
+  framed = subst (IsFramedAs commit) (sym next) tells.framed;
+  decided = subst (IsDecided given) (sym next) tells.decided;
+  counted = ap is_some next ∙ tells.counted;
+}
 
 -- a FORGET of a subject who is there is accepted
 forgot_step : (db : Db) (subject : RowName) → is_there db subject ≡ true → is_refusal (forget_reply Took (forget_subject db subject)) ≡ false
 unfolding forget_subject
 forgot_step db subject there = rw there refl
 
-pub forgot-accepted : (db behind : Db) (subject : RowName) (answer : Answer) → is_there db subject ≡ true → Tells db (forget_reply Took (forget_subject db subject)) behind answer
-    → is_refusal answer.reply ≡ false
+pub forgot-accepted : {commit : Commit} (db behind : Db) (subject : RowName) (answer : Answer) → is_there db subject ≡ true
+    → Tells db false commit (λ verdict. forget_reply verdict (forget_subject db subject)) behind answer → is_refusal answer.reply ≡ false
 forgot-accepted db behind subject answer there tells = ap is_refusal tells.told ∙ forgot_step db subject there

@@ -1,40 +1,52 @@
 -- What a GDPR FORGET is answered.
 use Rattle.std.proofs.Common.{Bor, ◌≡◌, ◌∙◌, ℕ, zero, suc, ◌+◌, ◌<◌, ◌≤◌, ◌^◌, List, [], ◌∷◌, Bool, true, false, not, ap, arith, filter, length, map, refl, subst, sym}
-use Rattle.std.specs.Prelude.{Option, None, Some, ◌&&◌, IsTrue, count_by, is_some, slice_get, sum_by, if◌then◌else◌}
+use Rattle.std.specs.Prelude.{Option, None, Some, Result, Err, ◌&&◌, IsTrue, count_by, is_some, slice_get, sum_by, if◌then◌else◌}
 use Rattle.std.specs.Option.{option_copied, option_map_or}
 use Rattle.std.proofs.lemmas.List.{length-append, length-map}
 use Rattle.std.proofs.lemmas.List.Filters.{length-filter_both}
 use Rattle.std.proofs.lemmas.List.Sums.{count_by-le-length, length-filter, sum_by-cons}
 use Rattle.own_base.specs.declared.change.Change.{Change}
 use Rattle.own_base.specs.declared.row_name.RowName.{RowName}
+use Rattle.own_model.specs.declared.bound.BoundSelect.{BoundSelect}
 use Rattle.own_model.specs.declared.refusal.Refusal.{Refusal}
 use Rattle.own_model.specs.declared.reply.Reply.{Reply}
 use Rattle.own_model.specs.declared.reply.Reply.TheVariants.{Forgot, Got, Refused}
-use Rattle.own_model.specs.declared.history.Verdict.TheVariants.{Took}
 use Rattle.own_model.specs.declared.schema.Schema.{Schema}
 use Rattle.own_model.specs.declared.schema.TableDef.{TableDef}
 use Rattle.schema_model.specs.Tables.{is_subject}
 use Rattle.own_model.specs.Db.{Db, Row}
+use Rattle.own_model.specs.Stored.{row_named}
+use Rattle.query_model.specs.Query.{query_rows, reply_of}
+use Rattle.schema_model.specs.OwnerSchema.{IsOwnerSchema}
 use Rattle.state_model.specs.Fault.{fault}
-use Rattle.state_model.specs.CommitRefusal.{first_refusal}
+use Rattle.state_model.specs.Weight.{weight}
 use Rattle.state_model.specs.Put.{put}
 use Rattle.state_model.specs.Sound.{Sound}
+use Rattle.state_model.proofs.CreatedSchema.{owner_schema-created}
 use Rattle.state_model.proofs.Faultless.{few_rows}
 use Rattle.state_model.proofs.ForgetSound.{sound-forget}
 use Rattle.subject_model.specs.Forget.{changed, forget, is_changed, removed}
 use Rattle.subject_model.specs.Named.{NamedRow, is_there, name_of, named_rows, rows_from, rows_in}
 use Rattle.subject_model.specs.Stays.{stays}
+use Rattle.subject_model.proofs.ForgetRows.{is_there-forget, schema-forget}
+use Rattle.subject_model.proofs.NamedLemmas.{name_is}
 use Rattle.subject_erase.specs.Plan.{IsPlan, leaves_row, plan_of}
 use Rattle.own_base.specs.declared.row_name.Subject.{Subject}
 use Rattle.owner_model.specs.Joins.{row_of}
-use Rattle.own_model.specs.declared.bound.Bound.TheVariants.{Get}
+use Rattle.own_model.specs.declared.bound.Bound.TheVariants.{Get, Select}
 use Rattle.subject_model.specs.Get.{get}
-use Rattle.run_model.specs.Run.{answered, forget_subject, run_bound, show_subject}
-use Rattle.history_model.specs.Reply.{committing, forget_reply, is_refusal}
+use Rattle.disk_model.specs.declared.commit.Commit.TheVariants as commit
+use Rattle.rec_codec.specs.declared.fault.EncodeFault.{EncodeFault}
+use Rattle.rec_codec.specs.declared.fault.EncodeFault.TheVariants.{TooBig}
+use Rattle.commit_record.specs.Recorded.{Frames}
+use Rattle.run_model.specs.Run.{Outcome, answered, forget_subject, run_bound, show_subject}
+use Rattle.history_model.specs.Reply.{changes, forget_reply}
 use Rattle.history_model.specs.World.{World}
 use Rattle.engine_core.specs.declared.answer.Answer.{Answer}
-use Rattle.engine_core.specs.Answered.{Tells, bound_reply}
-use Rattle.engine_core.proofs.BoundStatements.{tells-refused}
+use Rattle.disk_model.specs.declared.commit.Commit.{Commit}
+use Rattle.engine_core.specs.Answered.{IsRecorded, Tells, bound_reply}
+use Rattle.engine_core.proofs.Commits.{tells-framed, tells-left, tells-refused}
+use Rattle.engine_core.proofs.Nets.{rows-unchanged}
 
 -- no more rows have a name than there are
 named-few : (number : ℕ) (tables : List TableDef) (rows : List (List Row)) → length (rows_from number tables rows) ≤ sum_by length rows
@@ -76,9 +88,9 @@ few-erased db subject changes none plan =
     omega arith
 
 -- there is no such subject
-pub forget-absent : (db : Db) (subject : RowName) (why : Refusal) (answer : Answer) → is_there db subject ≡ false → (forget_subject db subject).reply ≡ Refused why
-    → answer.reply ≡ Refused why → answer.next ≡ None → Tells db (forget_reply Took (forget_subject db subject)) (forget_subject db subject).db answer
-forget-absent db subject why answer absent is told stays = rw is (tells-refused db (forget_subject db subject).db why answer told stays)
+pub forget-absent : {commit : Commit} (db : Db) (subject : RowName) (why : Refusal) (answer : Answer) → is_there db subject ≡ false → (forget_subject db subject).reply ≡ Refused why
+    → answer.reply ≡ Refused why → answer.next ≡ None → Tells db false commit (λ verdict. forget_reply verdict (forget_subject db subject)) (forget_subject db subject).db answer
+forget-absent db subject why answer absent is told stays = tells-refused db (forget_subject db subject).db false _ why answer (λ verdict. rw is refl) told stays
 
 -- the table of a subject is there
 there_step : (tables : List TableDef) (number : ℕ) → IsTrue (option_map_or (λ (definition : TableDef). definition.subject) (slice_get tables number) false) → number < length tables
@@ -108,33 +120,68 @@ shown-left : (db : Db) (subject : RowName) → (show_subject db subject).db ≡ 
 unfolding show_subject
 shown-left db subject = shown_step (is_there db subject) db (Got (get db subject)) _
 
-either : (b : Bool) (db other : Db) → other ≡ db → db ≡ (if b then db else other)
-either true db other same = refl
-either false db other same = sym same
-
-pub tells-shown : (world : World) (db : Db) (session : ℕ) (subject : Subject) (answer : Answer) → answer.reply ≡ (show_subject db subject.0).reply → answer.next ≡ None
-    → Tells db (bound_reply world db session (Get subject)) (run_bound db (Get subject)).db answer
+pub tells-shown : {commit : Commit} (world : World) (db : Db) (session : ℕ) (subject : Subject) (answer : Answer) → answer.reply ≡ (show_subject db subject.0).reply → answer.next ≡ None
+    → Tells db false commit (bound_reply world db session (Get subject)) (run_bound db (Get subject)).db answer
 unfolding run_bound
 tells-shown world db session subject answer told stays =
-    record { told = told; leaves = rw stays (either (is_refusal (show_subject db subject.0).reply) db (show_subject db subject.0).db (shown-left db subject.0)); may = rw stays tt }
+    tells-left db (show_subject db subject.0).db _ (show_subject db subject.0).reply answer (shown-left db subject.0) (λ verdict. refl) told stays
+
+-- and so does a SELECT
+pub tells-selected : {commit : Commit} (world : World) (db : Db) (session : ℕ) (query : BoundSelect) (answer : Answer) → answer.reply ≡ reply_of (query_rows db.schema db.rows query) → answer.next ≡ None
+    → Tells db false commit (bound_reply world db session (Select query)) (run_bound db (Select query)).db answer
+unfolding run_bound
+tells-selected world db session query answer told stays = tells-left db db _ (reply_of (query_rows db.schema db.rows query)) answer refl (λ verdict. refl) told stays
 
 -- with what an erasure leaves nothing is wrong
 pub erased-sound : (db next : Db) (subject : RowName) → IsTrue (is_subject db.schema subject.table.0) → Sound db → next ≡ forget db subject → Sound next
 erased-sound db next subject of sound is = subst Sound (sym is) (sound-forget db subject of sound)
 
+-- the row of the subject goes
+stays_own : (db : Db) (subject : RowName) → stays db subject subject ≡ false
+unfolding stays
+stays_own db subject = rw (name_is subject subject refl) refl
+
+gone : (db : Db) (subject : RowName) → IsOwnerSchema db.schema → is_there db subject ≡ true → is_there (forget db subject) subject ≡ false
+gone db subject owner there = is_there-forget db subject subject owner ∙ (rw (there, stays_own db subject) refl)
+
+-- so rows change
+changes_step : (db : Db) (subject : RowName) (b : Bool) → changes db (forget db subject) ≡ b → Sound db → Sound (forget db subject) → is_there db subject ≡ true → changes db (forget db subject) ≡ true
+changes_step db subject true is sound sound_next there = is
+changes_step db subject false is sound sound_next there =
+    let schema = schema-forget db subject in
+    let rows = rows-unchanged db (forget db subject) sound.well_formed.ordered sound_next.well_formed.ordered schema is in
+    let here : is_there (forget db subject) subject ≡ is_there db subject = λ i. is_some (row_named (schema i) (rows i) subject) in
+    let away = gone db subject (owner_schema-created db sound.well_formed.created) there in
+    absurd (cc)
+
+pub changes-forgotten : (db next : Db) (subject : RowName) → Sound db → Sound next → next ≡ forget db subject → is_there db subject ≡ true → changes db next ≡ true
+changes-forgotten db next subject sound sound_next is there =
+    ap (changes db) is ∙ changes_step db subject (changes db (forget db subject)) refl sound (subst Sound is sound_next) there
+
 -- it is told with its counts, and nothing refuses it
-pub tells-forgotten : (db next : Db) (subject : RowName) (changes : List Change) (reply : Reply) (answer : Answer) → is_there db subject ≡ true → next ≡ forget db subject
-    → fault next ≡ None → IsPlan db subject (plan_of changes)
-    → reply ≡ Forgot (count_by (λ change. not (leaves_row change)) changes) (count_by leaves_row changes)
-    → Tells db (committing Took true (first_refusal (fault next) None) reply) next answer
-    → Tells db (forget_reply Took (forget_subject db subject)) (forget_subject db subject).db answer
+forgotten-made : (db : Db) (subject : RowName) → is_there db subject ≡ true
+    → forget_subject db subject ≡ record { db = forget db subject; reply = Forgot (length (removed db subject)) (length (changed db subject)) }
 unfolding forget_subject
-tells-forgotten db next subject changes reply answer there is none plan counted told =
-    let counts : reply ≡ Forgot (length (removed db subject)) (length (changed db subject)) =
-    counted ∙ (counts-planned changes ∙ (λ i. Forgot (length (plan.removed i)) ((sym (length-map (plan_of changes).changed (λ (change : Change). change.name)) ∙ ap length plan.changed) i))) in
+forgotten-made db subject there = rw there refl
+
+counted-as : (db : Db) (subject : RowName) (changes : List Change) (reply : Reply) → IsPlan db subject (plan_of changes)
+    → reply ≡ Forgot (count_by (λ change. not (leaves_row change)) changes) (count_by leaves_row changes) → reply ≡ Forgot (length (removed db subject)) (length (changed db subject))
+counted-as db subject changes reply plan counted =
+    counted
+    ∙ (counts-planned changes ∙ (λ i. Forgot (length (plan.removed i)) ((sym (length-map (plan_of changes).changed (λ (change : Change). change.name)) ∙ ap length plan.changed) i)))
+
+pub tells-forgotten : (db next : Db) (subject : RowName) (changes : List Change) (reply : Reply) (weighs : ℕ) (framed : Result (List ℕ) EncodeFault) (answer : Answer)
+    → IsTrue (is_subject db.schema subject.table.0) → Sound db → Sound next → is_there db subject ≡ true → next ≡ forget db subject → weighs ≡ weight next → IsPlan db subject (plan_of changes)
+    → reply ≡ Forgot (count_by (λ change. not (leaves_row change)) changes) (count_by leaves_row changes) → Frames (commit.Forget subject) framed → ((count : ℕ) → framed ≡ Err (TooBig count) → ⊥)
+    → IsRecorded next weighs reply framed answer
+    → Tells db false (commit.Forget subject) (λ verdict. forget_reply verdict (forget_subject db subject)) (forget_subject db subject).db answer
+tells-forgotten db next subject changes reply weighs framed answer of sound sound_next there is weight_is plan counted frames never recorded =
     let forgot = Forgot (length (removed db subject)) (length (changed db subject)) in
-    let as-counted = subst (λ (reply : Reply). Tells db (committing Took true (first_refusal (fault next) None) reply) next answer) counts told in
-    rw there (rw (← is) (subst (λ (cause : Option Refusal). Tells db (committing Took true cause forgot) next answer) (ap (λ (first : Option Refusal). first_refusal first None) none) as-counted))
+    let made : forget_subject db subject ≡ record { db = next; reply = forgot } = forgotten-made db subject there ∙ ap (λ (db : Db). record { db = db; reply = forgot }) (sym is) in
+    let own = subst (λ reply. IsRecorded next weighs reply framed answer) (counted-as db subject changes reply plan counted) recorded in
+    subst (λ (outcome : Outcome). Tells db false (commit.Forget subject) (λ verdict. forget_reply verdict outcome) outcome.db answer) (sym made)
+    (tells-framed db next false _ forgot weighs (commit.Forget subject) framed answer refl (λ verdict. refl) (changes-forgotten db next subject sound sound_next is there) (sym weight_is)
+    (λ bytes framed_is. record { lawful = record { subject = of; row = there }; after_is = is }) never frames own)
 
 -- a row that is lent is there
 pub lent-there : (db : Db) (name : RowName) (row : Option (Bor Row)) → option_copied row ≡ row_of db name → is_some row ≡ true → is_there db name ≡ true

@@ -1,9 +1,12 @@
 pub mod BoundStatements
 mod CalmEvents
+mod Carried
+mod CheckpointEvents
 mod CommitEvents
 pub mod Commits
 pub mod CreatedTables
 mod Erased
+mod Decided
 pub mod FewColumns
 pub mod Forgotten
 pub mod Judged
@@ -14,10 +17,15 @@ mod NextWorlds
 mod OpenStates
 mod OutsideReplies
 mod PromptEvents
+mod Puts
+mod RecordedCreates
 mod InstalledEvents
 mod RepresentsLemmas
+mod Sizes
 mod StatedEvents
 mod Stood
 mod TableSources
 mod UnmadeEvents
 pub mod Writes
+pub mod EngineStands
+mod MadeCalls

@@ -1,10 +1,9 @@
 -- After an entry the state represents the next world.
-use Rattle.std.proofs.Common.{◌≡◌, ◌∙◌, ◌==◌, ℕ, [], length, Bool, true, false, ap, refl, subst, sym}
+use Rattle.std.proofs.Common.{◌≡◌, ◌∙◌, ◌==◌, ℕ, [], length, Bool, true, false, None, ap, refl, subst, sym}
 use Rattle.std.specs.Prelude.{if◌then◌else◌}
 use Rattle.std.proofs.lemmas.Bool.{eqb-false, eqb-true, ne_eqb}
 use Rattle.own_base.specs.declared.number.Place.{Place}
 use Rattle.own_model.specs.declared.history.Entry.{Entry}
-use Rattle.own_model.specs.declared.history.Verdict.TheVariants.{Took}
 use Rattle.own_model.specs.declared.reply.Reply.{Reply}
 use Rattle.own_model.specs.declared.schema.Schema.{Schema}
 use Rattle.own_model.specs.Db.{Db}
@@ -13,14 +12,13 @@ use Rattle.state_model.specs.Weight.{weight}
 use Rattle.run_model.specs.Agree.{Agree}
 use Rattle.history_model.specs.HasWritten.{has_written}
 use Rattle.history_model.specs.Held.{held, is_open, items_held}
-use Rattle.history_model.specs.History.{History, after_request, doomed_at, dooms, flat, flat_after, happens, is_conflict, other_after, own_after, standing, world}
+use Rattle.history_model.specs.History.{History, after_request, doomed_at, dooms, flat, flat_after, happens, is_conflict, is_failure, other_after, own_after, standing, world}
 use Rattle.history_model.specs.Reply.{answer, reply_in}
 use Rattle.history_model.specs.Serial.{IsEntry, IsHistory}
 use Rattle.history_model.specs.World.{SessionStanding, Outside, Open, Doomed, World}
 use Rattle.history_model.proofs.EveryHistory.{serial-world}
 use Rattle.history_model.proofs.HistoryLemmas.{place-world, reply-last}
 use Rattle.history_model.proofs.SerialLemmas.{held-kept, serial-step}
-use Rattle.history_model.proofs.Working.{answer-works, up-after}
 use Rattle.history_model.proofs.Worlds.{IsSerialWorld}
 use Rattle.row_locks.specs.SessionItems.{items_by as held_by}
 use Rattle.row_locks.specs.RepresentsItems.{RepresentsItems}
@@ -33,8 +31,8 @@ use Rattle.txn_core.proofs.OpenBlocks.{represents_elsewhere}
 use Rattle.engine_core.specs.RepresentsWorld.{RepresentsWorld}
 use Rattle.engine_core.specs.declared.state.State.{State}
 
-module _ (history : History) (entry : Entry) (entered : IsHistory history) (is_entry : IsEntry entry) (took : entry.verdict ≡ Took)
-    (before : State) (based : Sound before.opened) (stands : RepresentsWorld before (world before.opened history)) where
+module _ (history : History) (entry : Entry) (entered : IsHistory history) (is_entry : IsEntry entry)
+    (before : State) (based : Sound before.opened) (stands : RepresentsWorld before (world before.opened history)) (up : (world before.opened history).down ≡ None) where
   abbrev now : World
   now = world before.opened history
 
@@ -58,14 +56,14 @@ module _ (history : History) (entry : Entry) (entered : IsHistory history) (is_e
   sound-next = (serial-step before.opened history now is_serial entry is_entry told (reply-last before.opened history entry) refl).sound
 
   -- what it is answered, by how its session stands
-  pub answer-in : answer (world before.opened history) entry ≡ reply_in (world before.opened history) entry.session.0 Took ((world before.opened history).standing entry.session.0) entry.request
+  pub answer-in : answer (world before.opened history) entry ≡ reply_in (world before.opened history) entry.session.0 entry.verdict ((world before.opened history).standing entry.session.0) entry.request
   unfolding answer
-  answer-in = rw (stands.up, took) refl
+  answer-in = rw up refl
 
-  -- and how its session stands then
-  pub own-in : own_after (world before.opened history) entry (answer (world before.opened history) entry)
+  -- and how its session stands then, unless it was answered for want of the disk
+  pub own-in : is_failure (answer (world before.opened history) entry) ≡ false → own_after (world before.opened history) entry (answer (world before.opened history) entry)
       ≡ after_request (world before.opened history).place ((world before.opened history).standing entry.session.0) entry.request (is_conflict (answer (world before.opened history) entry))
-  own-in = rw (answer-works now entry took stands.up) refl
+  own-in works = rw works refl
 
   module _ (other : ℕ) (differs : other ≡ entry.session.0 → ⊥) where
     apart : (other == session) ≡ false
@@ -162,7 +160,6 @@ module _ (history : History) (entry : Entry) (entered : IsHistory history) (is_e
     stands-next = record {
       flat = version;
       weighs = weighs;
-      up = up-after now entry took stands.up;
       states = λ one. kept_at one (one == session) refl;
       held = λ one. held_at one (one == session) refl;
     }

@@ -23,7 +23,7 @@ use Rattle.txn_core.specs.Runs.{IsStore}
 use Rattle.txn_core.specs.Transactions.{IsQuietState, space_of}
 use Rattle.txn_core.proofs.OpenBlocks.{rows_shown}
 use Rattle.txn_core.proofs.SoundBases.{base-sound, store-sound}
-use Rattle.engine_core.specs.RepresentsWorld.{IsEvent, Serves}
+use Rattle.engine_core.specs.RepresentsWorld.{IsEvent, ServesAlone}
 use Rattle.engine_core.specs.declared.state.State.{State}
 use Rattle.engine_core.proofs.KeptViews.{views_there-created}
 use Rattle.engine_core.proofs.NextWorlds.{sound-now}
@@ -36,9 +36,9 @@ written-event history entry before asked event asks = subst IsReadable asks even
 -- a refusal is reported, unless it is for want of memory
 pub serves-either : {E : Type 0} (base : Db) (history : History) (entry : Entry) (after : State) (why : Refusal) (result : Result Reply E)
     → IfOk result (λ reply. (reply ≡ Refused why) × (why ≢ Memory)) → OnErr result (why ≡ Memory)
-    → (why ≢ Memory → Serves {E = ℕ} base after history entry (Ok (Refused why))) → (why ≡ Memory → (e : E) → Serves {E = E} base after history entry (Err e)) → Serves base after history entry result
+    → (why ≢ Memory → ServesAlone {E = ℕ} base after history entry (Ok (Refused why))) → (why ≡ Memory → (e : E) → ServesAlone {E = E} base after history entry (Err e)) → ServesAlone base after history entry result
 serves-either base history entry after why (Ok reply) told memory refused unmade =
-    subst (λ reply. Serves {E = ℕ} base after history entry (Ok reply)) (sym told.0) (refused told.1)
+    subst (λ reply. ServesAlone {E = ℕ} base after history entry (Ok reply)) (sym told.0) (refused told.1)
 serves-either base history entry after why (Err e) told memory refused unmade = unmade memory e
 
 module _ (history : History) (entry : Entry) (before : State) (event : IsEvent before history entry) where
@@ -47,7 +47,7 @@ module _ (history : History) (entry : Entry) (before : State) (event : IsEvent b
 
   -- nothing is wrong with the state
   pub sound-event : Sound before.version
-  sound-event = subst Sound (sym event.stands.flat) (sound-now history entry event.entries event.is_entry event.took before event.begun event.stands)
+  sound-event = subst Sound (sym event.stands.flat) (sound-now history entry event.entries event.is_entry before event.begun event.stands event.up)
 
   pub base-event : IsBase before.version.schema.tables before.version.rows
   base-event = base-sound before.version sound-event

@@ -1,12 +1,13 @@
 -- A SELECT, an INSERT, an UPDATE or a DELETE in an open transaction.
-use Rattle.std.proofs.Common.{◌≡◌, ◌∙◌, ◌||◌, ℕ, List, [], ◌∷◌, ◌++◌, length, Bool, true, false, None, Some, ap, append-nil, refl, subst, sym}
+use Rattle.std.proofs.Common.{◌≡◌, ◌∙◌, ◌||◌, ℕ, List, [], ◌∷◌, ◌++◌, length, Bool, true, false, None, Some, ap, append-nil, inr, refl, subst, sym}
 use Rattle.std.specs.Prelude.{Option, Ok, Err, not, if◌then◌else◌}
 use Rattle.std.proofs.lemmas.List.Folds.{list_any-append}
 use Rattle.std.proofs.Math.Bool.{or-true}
 use Rattle.own_model.specs.declared.bound.Bound.{Bound}
 use Rattle.own_model.specs.declared.bound.Bound.TheVariants as bound_as
 use Rattle.own_model.specs.declared.history.Entry.{Entry}
-use Rattle.own_model.specs.declared.history.Verdict.TheVariants.{Took}
+use Rattle.own_model.specs.declared.history.Verdict.{Verdict}
+use Rattle.own_model.specs.declared.history.Verdict.TheVariants.{DiskFault, Took}
 use Rattle.own_model.specs.declared.refusal.Refusal.{Refusal}
 use Rattle.own_model.specs.declared.reply.Reply.{Reply}
 use Rattle.own_model.specs.declared.reply.Reply.TheVariants.{Refused}
@@ -19,13 +20,16 @@ use Rattle.query_model.specs.BoundStatement.{bound_statement}
 use Rattle.query_model.specs.Footprints.{footprint_of}
 use Rattle.run_model.specs.Items.{TakesRows, items_of, items_of_all}
 use Rattle.run_model.proofs.StatementFootprints.{items_bound}
+use Rattle.history_model.specs.AsksDisk.{asks_disk, under}
+use Rattle.history_model.specs.Commits.{is_commit, is_create}
 use Rattle.history_model.specs.HasWritten.{has_written, is_bound_write, is_write}
 use Rattle.history_model.specs.Held.{Holding, held, holder, items_held}
-use Rattle.history_model.specs.History.{History, after_request, flat, flat_after, forgotten, is_conflict, left_by, own_after, standing, with_stated, world}
+use Rattle.history_model.specs.History.{History, after_request, flat, flat_after, forgotten, happens, is_conflict, is_disk, is_failure, left_by, own_after, standing, with_stated, world}
 use Rattle.history_model.specs.Reply.{answer, is_refusal, reply_in, reply_within}
 use Rattle.history_model.specs.World.{Block, Open, Stated as StatedAt, World, statements_of}
 use Rattle.history_model.proofs.BlockLemmas.{items-push}
 use Rattle.history_model.proofs.EveryHistory.{serial-world}
+use Rattle.history_model.proofs.Working.{standing-works}
 use Rattle.history_model.proofs.Within.{held-within, not_conflict-granted, refused-within}
 use Rattle.history_model.proofs.Worlds.{IsOpenBlock, open-block}
 use Rattle.row_locks.specs.SessionItems.{items_by as held_by}
@@ -41,22 +45,23 @@ use Rattle.txn_core.specs.RepresentsBlock.{RepresentsBlock}
 use Rattle.txn_core.specs.Transactions.{AreSame, HasStated, Stated, conflict_of, space_of, wrote_of}
 use Rattle.txn_core.proofs.OpenBlocks.{represents_more}
 use Rattle.txn_core.proofs.RepresentsLemmas.{represents_unbound}
-use Rattle.engine_core.specs.RepresentsWorld.{IsEvent, Serves}
+use Rattle.engine_core.specs.RepresentsWorld.{IsEvent, ServesAlone}
 use Rattle.engine_core.specs.declared.state.State.{State}
 use Rattle.engine_core.proofs.BoundStatements.{row-bound}
+use Rattle.engine_core.proofs.Decided.{asks-is, commit-none, event-under, took-works}
 use Rattle.engine_core.proofs.CalmEvents.{others-same, stands-calm, stands-unmoved}
 use Rattle.history_model.proofs.DoomLemmas.{undoomed}
 use Rattle.engine_core.proofs.NextWorlds.{answer-in, own-in}
 use Rattle.engine_core.proofs.Stood.{IsOpenTxn, stood-open}
 
 -- what its statement does in a transaction, of those that take rows
-within_told : (world : World) (session begun : ℕ) (block : Block) (asked : Statement) → TakesRows asked
-    → reply_in world session Took (Open begun block) (Run asked) ≡ reply_within world session block asked
-within_told world session begun block (Select select) takes = refl
-within_told world session begun block (Insert table columns rows) takes = refl
-within_told world session begun block (Update table sets cond) takes = refl
-within_told world session begun block (Delete table cond) takes = refl
-within_told world session begun block _ takes = absurd takes
+within_told : (world : World) (session : ℕ) (verdict : Verdict) (begun : ℕ) (block : Block) (asked : Statement) → TakesRows asked
+    → reply_in world session verdict (Open begun block) (Run asked) ≡ reply_within world session block asked
+within_told world session verdict begun block (Select select) takes = refl
+within_told world session verdict begun block (Insert table columns rows) takes = refl
+within_told world session verdict begun block (Update table sets cond) takes = refl
+within_told world session verdict begun block (Delete table cond) takes = refl
+within_told world session verdict begun block _ takes = absurd takes
 
 within_after : (place begun : ℕ) (block : Block) (asked : Statement) (conflicts : Bool) → TakesRows asked
     → after_request place (Open begun block) (Run asked) conflicts ≡ with_stated place begun block asked conflicts
@@ -124,7 +129,7 @@ module _ (history : History) (entry : Entry) (before after : State) (event : IsE
   abbrev own : SessionState
   own = state_by before.txns.states session
 
-  is : IsOpenTxn now.flat own (now.standing session)
+  abbrev is : IsOpenTxn now.flat own (now.standing session)
   is = stood-open now.flat own (now.standing session) (event.stands.states session) opened
 
   abbrev block : Block
@@ -138,12 +143,17 @@ module _ (history : History) (entry : Entry) (before after : State) (event : IsE
 
   told_within : told ≡ reply_within now session block asked
   told_within =
-      answer-in history entry event.entries event.is_entry event.took before event.begun event.stands
-      ∙ ((λ i. reply_in now session Took (is.stands i) (asks i)) ∙ within_told now session is.begun block asked takes)
+      answer-in history entry event.entries event.is_entry before event.begun event.stands event.up
+      ∙ ((λ i. reply_in now session entry.verdict (is.stands i) (asks i)) ∙ within_told now session entry.verdict is.begun block asked takes)
+
+  works_within : is_failure told ≡ false
+  works_within =
+      ap is_failure told_within
+      ∙ (sym (ap is_failure (within_told now session Took is.begun block asked takes)) ∙ standing-works now session (Open is.begun block) (Run asked))
 
   own_within : own_after now entry told ≡ with_stated now.place is.begun block asked (is_conflict told)
   own_within =
-      own-in history entry event.entries event.is_entry event.took before event.begun event.stands
+      own-in history entry event.entries event.is_entry before event.begun event.stands event.up works_within
       ∙ ((λ i. after_request now.place (is.stands i) (asks i) (is_conflict told)) ∙ within_after now.place is.begun block asked (is_conflict told) takes)
 
   -- it leaves the flat database
@@ -170,7 +180,7 @@ module _ (history : History) (entry : Entry) (before after : State) (event : IsE
 
   -- another session stands in its way
   held_back : (bound : Bound) (holding : Holding) → bound_statement now.flat.schema asked ≡ Ok bound → holder now session (footprint_of now.flat.schema bound) ≡ Some holding
-      → AreSame before.txns after.txns → Serves {E = ℕ} before.opened after history entry (Ok (Refused (conflict_of now.flat.schema holding)))
+      → AreSame before.txns after.txns → ServesAlone {E = ℕ} before.opened after history entry (Ok (Refused (conflict_of now.flat.schema holding)))
   held_back bound holding meant found same =
       let within = held-within now session block asked bound holding meant found in
       let replies : told ≡ Refused (conflict_of now.flat.schema holding) = told_within ∙ within.0 in
@@ -181,7 +191,7 @@ module _ (history : History) (entry : Entry) (before after : State) (event : IsE
       )
 
   -- binding refuses it
-  serves_unbound : (why : Refusal) → bound_statement now.flat.schema asked ≡ Err why → AreSame before.txns after.txns → Serves {E = ℕ} before.opened after history entry (Ok (Refused why))
+  serves_unbound : (why : Refusal) → bound_statement now.flat.schema asked ≡ Err why → AreSame before.txns after.txns → ServesAlone {E = ℕ} before.opened after history entry (Ok (Refused why))
   serves_unbound why refused same =
       let within = refused-within now session block asked why refused in
       let replies : told ≡ Refused why = told_within ∙ within.0 in
@@ -239,7 +249,7 @@ module _ (history : History) (entry : Entry) (before after : State) (event : IsE
         items-push now.flat.schema block last ∙ ap (λ more. items_of_all now.flat.schema (statements_of block) ++ more) (items_bound now.flat.schema asked bound meant) in
         subst (λ some. RepresentsItems (held_by after.txns.held session) some) (sym items) (stated.holds (items_of_all now.flat.schema (statements_of block)) held_open)
 
-    serves_ran : Serves {E = ℕ} before.opened after history entry (Ok reply)
+    serves_ran : ServesAlone {E = ℕ} before.opened after history entry (Ok reply)
     serves_ran = (
       both.0,
       stands-calm history entry before after event (Open is.begun longer) version weighs stated.others calm (λ other. undoomed now entry told other nobody) (more free)
@@ -250,16 +260,16 @@ module _ (history : History) (entry : Entry) (before after : State) (event : IsE
   -- a statement that was bound, by who stands in its way
   by_holder : (bound : Bound) → bound_statement now.flat.schema asked ≡ Ok bound → (reply : Reply) (found : Option Holding) → holder now session (footprint_of now.flat.schema bound) ≡ found
       → Stated found now.flat bound session before.txns after.txns reply
-      → Serves {E = ℕ} before.opened after history entry (Ok reply)
+      → ServesAlone {E = ℕ} before.opened after history entry (Ok reply)
   by_holder bound meant reply None found stated = serves_ran bound meant found reply stated
   by_holder bound meant reply (Some holding) found stated =
       let back = held_back bound holding meant found stated.1 in
-      subst (λ reply. Serves {E = ℕ} before.opened after history entry (Ok reply)) (sym stated.0) back
+      subst (λ reply. ServesAlone {E = ℕ} before.opened after history entry (Ok reply)) (sym stated.0) back
 
   -- the same, as it is told over the state
   pub serves-stated : (bound : Bound) (reply : Reply) → bound_statement before.version.schema asked ≡ Ok bound
       → Stated (holder_among (held_by before.txns.held) entry.session.0 (footprint_of before.version.schema bound)) before.version bound entry.session.0 before.txns after.txns reply
-      → Serves {E = ℕ} before.opened after history entry (Ok reply)
+      → ServesAlone {E = ℕ} before.opened after history entry (Ok reply)
   serves-stated bound reply meant stated =
       let same = event.stands.flat in
       let alike : holder_among (held_by before.txns.held) session (footprint_of now.flat.schema bound) ≡ holder now session (footprint_of now.flat.schema bound) =
@@ -267,5 +277,30 @@ module _ (history : History) (entry : Entry) (before after : State) (event : IsE
       by_holder bound (subst (λ (db : Db). bound_statement db.schema asked ≡ Ok bound) same meant) reply _ (sym alike)
       (subst (λ (db : Db). Stated (holder_among (held_by before.txns.held) session (footprint_of db.schema bound)) db bound session before.txns after.txns reply) same stated)
 
-  pub serves-unbound : (why : Refusal) → bound_statement before.version.schema asked ≡ Err why → AreSame before.txns after.txns → Serves {E = ℕ} before.opened after history entry (Ok (Refused why))
+  pub serves-unbound : (why : Refusal) → bound_statement before.version.schema asked ≡ Err why → AreSame before.txns after.txns → ServesAlone {E = ℕ} before.opened after history entry (Ok (Refused why))
   serves-unbound why refused same = serves_unbound why (subst (λ (db : Db). bound_statement db.schema asked ≡ Err why) event.stands.flat refused) same
+
+-- Such a statement doesn't ask the disk, and leaves the database.
+module _ (history : History) (entry : Entry) (before : State) (event : IsEvent before history entry) (opened : is_open (state_by before.txns.states entry.session.0) ≡ true)
+    (asked : Statement) (asks : entry.request ≡ Run asked) (takes : TakesRows asked) where
+  abbrev was : World
+  was = world before.opened history
+
+  told_any : (verdict : Verdict) → answer was (under verdict entry) ≡ reply_within was entry.session.0 (is history entry before before event refl refl opened asked asks takes).block asked
+  told_any verdict = told_within history (under verdict entry) before before (event-under history entry before verdict event) refl refl opened asked asks takes
+
+  pub unasked-stated : asks_disk (world before.opened history) entry ≡ false
+  unasked-stated = asks-is was entry _ (told_any DiskFault) ∙ (sym (ap is_disk (told_any Took)) ∙ took-works was (under Took entry) refl event.up)
+
+  pub calm-stated : (happens (world before.opened history) entry).flat ≡ (world before.opened history).flat
+  calm-stated = calm history entry before before event refl refl opened asked asks takes
+
+  create_not : (asked : Statement) → TakesRows asked → is_create (Run asked) ≡ false
+  create_not (Select select) takes = refl
+  create_not (Insert table columns rows) takes = refl
+  create_not (Update table sets cond) takes = refl
+  create_not (Delete table cond) takes = refl
+  create_not _ takes = absurd takes
+
+  pub uncommitted-stated : is_commit (world before.opened history) entry (answer (world before.opened history) entry) ≡ false
+  uncommitted-stated = commit-none was entry (answer was entry) calm-stated (inr (ap is_create asks ∙ create_not asked takes))

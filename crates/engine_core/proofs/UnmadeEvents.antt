@@ -1,8 +1,9 @@
 -- Entries that memory may keep from being made.
 use Rattle.std.proofs.Common.{◌≡◌, ℕ, ◌∙◌, List, [], Bool, true, false, ap, refl, sym, subst}
-use Rattle.std.specs.Prelude.{Err, IsErr, None, Ok, Option, Result}
+use Rattle.std.specs.Prelude.{Err, IsErr, Ok, Result}
 use Rattle.own_base.specs.declared.change.Change.{Change}
 use Rattle.own_model.specs.declared.history.Entry.{Entry}
+use Rattle.own_model.specs.declared.history.Verdict.{Verdict}
 use Rattle.own_model.specs.declared.reply.Reply.{Reply}
 use Rattle.own_model.specs.declared.request.Request.{Request}
 use Rattle.own_model.specs.declared.request.Request.TheVariants.{Run}
@@ -19,7 +20,6 @@ use Rattle.txn_core.specs.SessionStates.{is_open, state_by}
 use Rattle.txn_core.specs.Transactions.{wrote_of}
 use Rattle.engine_core.specs.Asked.{RunsByItself}
 use Rattle.engine_core.specs.RepresentsWorld.{IsEvent, RepresentsWorld, Serves}
-use Rattle.engine_core.specs.declared.prepared.Prepared.{Prepared}
 use Rattle.engine_core.specs.declared.state.State.{State}
 use Rattle.engine_core.proofs.Stood.{IsOpenTxn, stood-open, stood-outside}
 
@@ -65,6 +65,12 @@ module _ (history : History) (entry : Entry) (before : State) (event : IsEvent b
       may_from Outside (Run asked) (stood-outside now.flat (state_by before.txns.states session) (now.standing session) (event.stands.states session) nothing) asks
       (outside_may now.flat.schema asked itself)
 
+  -- a CHECKPOINT there
+  pub unmade-checkpoint : state_by before.txns.states entry.session.0 ≡ kept.Nothing → entry.request ≡ Run of.Checkpoint
+      → MayBeUnmadeFrom (world before.opened history).flat.schema ((world before.opened history).standing entry.session.0) entry.request
+  unmade-checkpoint nothing asks =
+      may_from Outside (Run of.Checkpoint) (stood-outside now.flat (state_by before.txns.states session) (now.standing session) (event.stands.states session) nothing) asks tt
+
   module _ (opened : is_open (state_by before.txns.states entry.session.0) ≡ true) where
     is : IsOpenTxn now.flat (state_by before.txns.states session) (now.standing session)
     is = stood-open now.flat (state_by before.txns.states session) (now.standing session) (event.stands.states session) opened
@@ -80,13 +86,13 @@ module _ (history : History) (entry : Entry) (before : State) (event : IsEvent b
     unmade-commit asks wrote =
         may_from (Open is.begun is.block) (Run of.Commit) is.stands asks (is.kept_as.2 (sym (ap wrote_of is.is_kept) ∙ wrote))
 
--- it has where its changes lead somewhere
-pub wrote-left : (wrote : Bool) (made : List Change) (next : Option Prepared) → (wrote ≡ false → made ≡ []) → (made ≡ [] → next ≡ None) → (next ≡ None → ⊥) → wrote ≡ true
-wrote-left true made next none stays some = refl
-wrote-left false made next none stays some = absurd (some (stays (none refl)))
+-- it has where it changes something
+pub wrote-some : (wrote : Bool) (made : List Change) → (wrote ≡ false → made ≡ []) → (made ≡ [] → ⊥) → wrote ≡ true
+wrote-some true made none some = refl
+wrote-some false made none some = absurd (some (none refl))
 
 -- where memory is refused and the state is as it was, the entry was served so
-pub serves-refused : {E : Type 0} (base : Db) (after : State) (history : History) (entry : Entry) (told : Result Reply E) → IsErr told → RepresentsWorld after (world base history)
+pub serves-refused : {E : Type 0} (base : Db) (after : State) (history : History) (entry : Entry) (told : Result (Verdict × Reply) E) → IsErr told → RepresentsWorld after (world base history)
     → MayBeUnmadeFrom (world base history).flat.schema ((world base history).standing entry.session.0) entry.request → Serves base after history entry told
 serves-refused base after history entry (Ok reply) refused stands may = absurd (cc)
 serves-refused base after history entry (Err why) refused stands may = (stands, may)

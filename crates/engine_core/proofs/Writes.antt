@@ -4,7 +4,7 @@ use Rattle.std.specs.Prelude.{Option, None, Some}
 use Rattle.own_base.specs.declared.change.Change.{Change}
 use Rattle.own_model.specs.declared.bound.Bound.{Bound}
 use Rattle.own_model.specs.declared.footprint.FootItem.{FootItem}
-use Rattle.own_model.specs.declared.history.Verdict.TheVariants.{Took}
+use Rattle.own_model.specs.declared.history.Verdict.{Verdict}
 use Rattle.own_model.specs.declared.refusal.Refusal.{Refusal}
 use Rattle.own_model.specs.declared.reply.Reply.{Reply}
 use Rattle.own_model.specs.declared.reply.Reply.TheVariants.{Refused}
@@ -53,13 +53,13 @@ module _ (state : State) (world : World) (stands : RepresentsWorld state world) 
       → holder world session (footprint_of state.version.schema bound) ≡ None
   free-kept none = sym holder-kept ∙ none
 
-  refused-as : (why : Refusal) (found : Option Holding) → IsSingleRefusal found state.version bound why
-      → unless_held world found (write_reply Took state.version (run_bound state.version bound)) ≡ Refused why
-  refused-as why (Some holding) is =
+  refused-as : (verdict : Verdict) (why : Refusal) (found : Option Holding) → IsSingleRefusal found state.version bound why
+      → unless_held world found (write_reply verdict state.version (run_bound state.version bound)) ≡ Refused why
+  refused-as verdict why (Some holding) is =
       ap (λ (db : Db). Refused (conflict_of db.schema holding)) (sym stands.flat) ∙ ap (λ why. Refused why) (sym is)
-  refused-as why None is = rw is refl
+  refused-as verdict why None is = rw is refl
 
-  -- and so is why it is refused
-  pub refused-kept : (why : Refusal) → IsSingleRefusal (holder_among (held_by state.txns.held) session (footprint_of state.version.schema bound)) state.version bound why
-      → unless_held world (holder world session (footprint_of state.version.schema bound)) (write_reply Took state.version (run_bound state.version bound)) ≡ Refused why
-  refused-kept why is = refused-as why (holder world session items) (subst (λ found. IsSingleRefusal found state.version bound why) holder-kept is)
+  -- and so is why it is refused, whatever the disk says
+  pub refused-kept : (verdict : Verdict) (why : Refusal) → IsSingleRefusal (holder_among (held_by state.txns.held) session (footprint_of state.version.schema bound)) state.version bound why
+      → unless_held world (holder world session (footprint_of state.version.schema bound)) (write_reply verdict state.version (run_bound state.version bound)) ≡ Refused why
+  refused-kept verdict why is = refused-as verdict why (holder world session items) (subst (λ found. IsSingleRefusal found state.version bound why) holder-kept is)

@@ -1,15 +1,12 @@
 -- Requests as the engine runs them.
-use Rattle.std.specs.Prelude.{◌≡◌, Bool, true, false, IsTrue}
+use Rattle.std.specs.Prelude.{Bool, true, false, IsTrue}
 use Rattle.own_model.specs.declared.bound.Bound.{Bound}
 use Rattle.own_model.specs.declared.bound.Bound.TheVariants as bound
-use Rattle.own_model.specs.declared.request.Request.{Request}
-use Rattle.own_model.specs.declared.request.Request.TheVariants.{Run}
 use Rattle.own_model.specs.declared.schema.Schema.{Schema}
 use Rattle.own_model.specs.declared.statement.Statement.{Statement}
 use Rattle.own_model.specs.declared.statement.Statement.TheVariants.{Begin, Checkpoint, Commit, CreateTable, CreateView, Delete, GdprForget, GdprGet, Insert, Rollback, Select, Update}
 use Rattle.schema_model.specs.Tables.{is_subject}
 use Rattle.readable_model.specs.Sources.{IsThere}
-use Rattle.history_model.specs.Built.{is_built}
 use Rattle.write_eval.specs.Write.{IsWrite}
 
 -- a statement that is bound before it runs
@@ -55,8 +52,3 @@ IsMeant schema (bound.Delete table cond) = IsWrite schema (bound.Delete table co
 IsMeant schema (bound.Get subject) = IsTrue (is_subject schema subject.0.table.0)
 IsMeant schema (bound.Forget subject) = IsTrue (is_subject schema subject.0.table.0)
 IsMeant schema _ = ⊥
-
--- a request that runs nothing but what is built
-abbrev pub IsBuiltRequest : Request → Type 0
-IsBuiltRequest (Run statement) = is_built statement ≡ true
-IsBuiltRequest _ = Unit {0}

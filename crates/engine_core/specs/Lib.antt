@@ -4,3 +4,4 @@ pub mod Made
 pub mod Seen
 pub mod HasDoomed
 pub mod RepresentsWorld
+pub mod Stored

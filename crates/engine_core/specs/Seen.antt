@@ -1,60 +1,100 @@
 -- What contracts see of an engine, and what a call makes of it.
-use Rattle.std.specs.Prelude.{◌≡◌, ◌+◌, ◌<◌, ◌≤◌, ℕ, [], ◌∷◌, ◌++◌, Some, length}
+use Rattle.std.specs.Prelude.{◌≡◌, ◌≢◌, ◌+◌, ◌<◌, ◌≤◌, ◌⊎◌, ℕ, List, [], ◌∷◌, ◌++◌, Bool, true, false, Some, IsTrue, length}
+use Rattle.own_base.specs.declared.number.Area.{Area}
 use Rattle.own_base.specs.declared.number.SessionNo.{SessionNo}
 use Rattle.own_model.specs.declared.history.Entry.{Entry}
-use Rattle.own_model.specs.declared.history.Verdict.TheVariants.{Took}
+use Rattle.own_model.specs.declared.history.Verdict.{Verdict}
+use Rattle.own_model.specs.declared.history.Verdict.TheVariants.{Took, DiskFault, NoRoom}
 use Rattle.own_model.specs.declared.reply.Reply.{Reply}
 use Rattle.own_model.specs.declared.request.Request.{Request}
 use Rattle.own_model.specs.Db.{Db}
-use Rattle.history_model.specs.History.{History, flat, reply, standing}
+use Rattle.outer_world.specs.FaultCount.{CountRose}
+use Rattle.outer_world.specs.LeavesOnly.{LeavesOnly}
+use Rattle.history_model.specs.AsksDisk.{asks_disk, under}
+use Rattle.history_model.specs.Commits.{is_commit}
+use Rattle.history_model.specs.History.{History, flat, is_disk, reply, standing, world}
 use Rattle.history_model.specs.MayBeUnmade.{MayBeUnmadeFrom}
+use Rattle.history_model.specs.Reply.{answer}
+use Rattle.crash_model.specs.LeftBy.{IsLeftBy}
+use Rattle.crash_model.specs.Room.{JournalEnd, bytes_written}
+use Rattle.store_disk.specs.Kept.{HasRoomFor}
+use Rattle.store_disk.specs.declared.store_disk.StoreDisk.{StoreDisk}
+use Rattle.engine_core.specs.Stored.{IsLaidAnew, is_fault}
 use Rattle.engine_core.specs.declared.step.Step.{Step}
 use Rattle.engine_core.specs.declared.step.Step.TheVariants.{Answered, Look, NoMemory}
 
--- the database that it was opened with, the entries of the calls made, for how many entries more there is room, and the disk
+-- The database that it was opened with, how many commits had made it, and where the journal stood; the entries of the calls
+-- made; for how many entries more there is room; and the disk of the store.
 pub record Seen (D : Type 0) : Type 0 where
   pub base : Db
+  pub start : ℕ
+  pub journal : JournalEnd
   pub history : History
   pub spare : ℕ
-  pub disk : D
+  pub store : StoreDisk D
 
-abbrev pub base_of : {D : Type 0} → Seen D → Db
-base_of seen = seen.base
-
-abbrev pub history_of : {D : Type 0} → Seen D → History
-history_of seen = seen.history
-
-abbrev pub spare_of : {D : Type 0} → Seen D → ℕ
-spare_of seen = seen.spare
-
+-- the disk itself
 abbrev pub disk_of : {D : Type 0} → Seen D → D
-disk_of seen = seen.disk
+disk_of seen = seen.store.journal.disk
 
--- the entry of a call that the disk took, or that didn't need it
-abbrev pub entry : SessionNo → ℕ → Request → Entry
-entry session call request = record { session = session; call = call; request = request; verdict = Took }
+-- the entry of a call, of which the disk said this
+abbrev pub entry : SessionNo → ℕ → Request → Verdict → Entry
+entry session call request verdict = record { session = session; call = call; request = request; verdict = verdict }
 
 -- A call was made: its entry is the last of the history, and its reply is that of the history at its place. It needed room
--- for one entry at most, and left the disk.
+-- for one entry at most.
 pub record Makes {D : Type 0} (before after : Seen D) (made : Entry) (place : ℕ) (told : Reply) : Type 0 where
   pub history : after.history ≡ before.history ++ made ∷ []
   pub stands : place ≡ length before.history
   pub answered : reply before.base after.history place ≡ Some told
   pub base : after.base ≡ before.base
+  pub start : after.start ≡ before.start
+  pub journal : after.journal ≡ before.journal
   pub spare : before.spare ≤ after.spare + 1
-  pub disk : after.disk ≡ before.disk
+
+-- a crash leaves what the one history says, or the other
+abbrev pub IsLeftByEither : Db → ℕ → History → History → List ℕ → List ℕ → Type 0
+IsLeftByEither base start before after a b = IsLeftBy base start before a b ⊎ IsLeftBy base start after a b
+
+-- What it did to the disk, where this was its entry with the verdict that the disk took it.
+pub record Writes {D : Type 0} (holds : D → Area → List ℕ) (moment : D → ℕ) (might_have_left : D → ℕ → List ℕ → List ℕ → Type 0)
+    (honest : D → Bool) (faults : D → ℕ) (before after : Seen D) (call : Entry) (verdict : Verdict) (told : Reply) : Type 0 where
+  -- it tells a fault of the disk just where the verdict is one, and only where the disk's count of faults rose
+  pub fault : is_disk told ≡ is_fault verdict
+  pub rose : verdict ≡ DiskFault → CountRose (faults (disk_of before)) (faults (disk_of after))
+  pub steady : verdict ≢ DiskFault → faults (disk_of after) ≡ faults (disk_of before)
+  -- where its answer isn't the disk's to give the disk is left as it was, and so it is where there is no room for what it
+  -- writes; that there is none is told just where it is so
+  pub unasked : asks_disk (world before.base before.history) call ≡ false → (after.store ≡ before.store) × (verdict ≡ Took)
+  pub room : verdict ≡ NoRoom → (after.store ≡ before.store)
+      × (HasRoomFor before.store.journal before.store.commits (bytes_written (world before.base before.history) call before.store.commits) → ⊥)
+  pub roomy : asks_disk (world before.base before.history) call ≡ true → verdict ≢ NoRoom
+      → HasRoomFor before.store.journal before.store.commits (bytes_written (world before.base before.history) call before.store.commits)
+  -- what asks the disk and is no commit, as a CHECKPOINT, lays the store anew
+  pub anew : asks_disk (world before.base before.history) call ≡ true
+      → is_commit (world before.base before.history) call (answer (world before.base before.history) call) ≡ false
+      → verdict ≡ Took → IsLaidAnew holds honest (flat before.base before.history) before.store after.store
+  -- a crash at any moment of the call leaves what the history before it says, or the history with it
+  pub left : IsTrue (honest (disk_of before)) → LeavesOnly moment might_have_left (IsLeftByEither before.base before.start before.history after.history) (disk_of before) (disk_of after)
+  pub honesty : honest (disk_of after) ≡ honest (disk_of before)
+  pub time : moment (disk_of before) ≤ moment (disk_of after)
+  pub risen : faults (disk_of before) ≤ faults (disk_of after)
 
 -- A call wasn't made, for want of memory: nothing but the room changed, which didn't shrink. Where there was room for its
 -- entry, the call is one that takes memory, as its session stands.
 pub record LeavesUnmade {D : Type 0} (before after : Seen D) (unmade : Entry) : Type 0 where
   pub history : after.history ≡ before.history
   pub spare : before.spare ≤ after.spare
-  pub disk : after.disk ≡ before.disk
+  pub store : after.store ≡ before.store
   pub base : after.base ≡ before.base
+  pub start : after.start ≡ before.start
+  pub journal : after.journal ≡ before.journal
   pub spared : 0 < before.spare → MayBeUnmadeFrom (flat before.base before.history).schema (standing before.base before.history unmade.session.0) unmade.request
 
--- What a call came to: it was made, or memory kept it from being made. It never comes to a look.
-abbrev pub Steps : {D S : Type 0} → Seen D → Seen D → Entry → Step S → Type 0
-Steps before after made (Answered place told) = Makes before after made place.0 told
-Steps before after made (Look place shown bound) = ⊥
-Steps before after made NoMemory = LeavesUnmade before after made
+-- What a call came to, by its entry as one that the disk took: it was made, as the disk said, or memory kept it from being
+-- made. It never comes to a look.
+abbrev pub Steps : {D S : Type 0} → (D → Area → List ℕ) → (D → ℕ) → (D → ℕ → List ℕ → List ℕ → Type 0) → (D → Bool) → (D → ℕ) → Seen D → Seen D → Entry → Step S → Type 0
+Steps holds moment might_have_left honest faults before after call (Answered place told) =
+    (verdict : Verdict) × Makes before after (under verdict call) place.0 told × Writes holds moment might_have_left honest faults before after call verdict told
+Steps holds moment might_have_left honest faults before after call (Look place shown bound) = ⊥
+Steps holds moment might_have_left honest faults before after call NoMemory = LeavesUnmade before after call

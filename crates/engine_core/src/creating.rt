@@ -1,38 +1,29 @@
 ghost use Rattle.std.specs.Prelude.{◌≡◌, [], true, IfOk};
-ghost use Rattle.own_model.specs.declared.history.Verdict.TheVariants.{Took};
 ghost use Rattle.own_model.specs.declared.limit.TheConstants.{STATEMENT_BYTES};
+ghost use Rattle.own_model.specs.declared.request.Request.TheVariants.{Run};
 ghost use Rattle.own_model.specs.declared.statement.Statement.TheVariants as statement_of;
-ghost use Rattle.own_model.specs.declared.reply.Reply.TheVariants.{Done};
-ghost use Rattle.own_model.specs.Db.{Db};
 ghost use Rattle.grammar_model.specs.Readable.{IsWritten};
-ghost use Rattle.state_model.specs.Fault.{fault};
+ghost use Rattle.state_model.specs.Created.{OfTable, OfView, text_of};
 ghost use Rattle.state_model.specs.Sound.{Sound};
 ghost use Rattle.state_model.specs.Weight.{weight};
-ghost use Rattle.commit_check.specs.Judged.{IsJudged};
 ghost use Rattle.run_model.specs.Run as run;
-ghost use Rattle.history_model.specs.Reply.{committing, create_reply};
+ghost use Rattle.history_model.specs.Reply.{create_reply};
+ghost use Rattle.disk_model.specs.declared.commit.Commit.TheVariants as commit_of;
+ghost use Rattle.crash_model.specs.Room.{commit_by};
 ghost use Rattle.engine_core.specs.Answered.{Tells};
 ghost use Rattle.engine_core.specs.Asked.{IsCreate};
 
 use crate::answer::Answer;
-use crate::commit::decided;
-use crate::prepared::Ahead;
+use crate::commit::recorded;
 use commit_check::{Judged, judge_view};
+use commit_record::record_of_create;
 use own_model::{CreateTable, CreateView, Reply, Statement};
 use plan_bind::bind_view;
+use sql_print::laws::canonical_text_reads_back;
 use sql_print::print_statement;
 use std::alloc::{AllocError, Global};
 use std::mem::drop;
-use store_version::{Next, Shown, Version, prepare_table, prepare_view};
-
-/// The answer to a CREATE that leads to a next version, if that has no fault.
-fn checked(alloc: Global, next: Next, judged: Judged) -> Answer
-    requires { IsJudged next judged }
-    ensures tells { (db : Db) → Tells db (committing Took true (fault next) Done) next result }
-    ensures nothing { result.erased ≡ [] }
-{
-    decided(alloc, Ahead::Version(next), judged, None, Reply::Done)
-}
+use store_version::{Shown, Version, prepare_table, prepare_view};
 
 /// CREATE TABLE, which the statement is. The new table has no rows, so no row is looked at and the weight stays.
 fn create_table(
@@ -46,15 +37,17 @@ fn create_table(
     requires weighs { weight version.now ≡ weighs }
     requires of { statement.now ≡ statement_of.CreateTable create.now }
     requires written { IsWritten STATEMENT_BYTES statement.now }
-    ensures tells { IfOk result (Tells version.now (create_reply Took (run.create_table version.now create.now)) (run.create_table version.now create.now).db) }
+    ensures tells { IfOk result (Tells version.now true (commit_of.CreateTable (text_of (OfTable create.now)).text) (λ verdict. create_reply verdict (run.create_table version.now create.now)) (run.create_table version.now create.now).db) }
     ensures nothing { IfOk result (λ answer. answer.erased ≡ []) }
 {
     let shown = Shown { version };
     match version.catalog().admit(alloc, &shown, create) {
         Ok(admitted) => match print_statement(alloc, statement) {
             Ok(text) => {
+                canonical_text_reads_back();
+                let framed = record_of_create(alloc, false, &text);
                 let next = prepare_table(alloc, version, admitted, text)?;
-                Ok(checked(alloc, next, Judged::Weighs(weighs)))
+                recorded(alloc, next, weighs, framed, Reply::Done)
             }
             Err(refused) => {
                 drop(admitted);
@@ -77,17 +70,25 @@ fn create_view(
     requires weighs { weight version.now ≡ weighs }
     requires of { statement.now ≡ statement_of.CreateView create.now }
     requires written { IsWritten STATEMENT_BYTES statement.now }
-    ensures tells { IfOk result (Tells version.now (create_reply Took (run.add_view version.now create.now)) (run.add_view version.now create.now).db) }
+    ensures tells { IfOk result (Tells version.now true (commit_of.CreateView (text_of (OfView create.now)).text) (λ verdict. create_reply verdict (run.add_view version.now create.now)) (run.add_view version.now create.now).db) }
     ensures nothing { IfOk result (λ answer. answer.erased ≡ []) }
 {
     let shown = Shown { version };
     match bind_view(alloc, version.catalog().schema(), create) {
         Ok(definition) => match print_statement(alloc, statement) {
-            Ok(text) => {
-                let judged = judge_view(&shown, weighs, &definition);
-                let next = prepare_view(alloc, version, definition, text)?;
-                Ok(checked(alloc, next, judged))
-            }
+            Ok(text) => match judge_view(&shown, weighs, &definition) {
+                Judged::Weighs(sum) => {
+                    canonical_text_reads_back();
+                    let framed = record_of_create(alloc, true, &text);
+                    let next = prepare_view(alloc, version, definition, text)?;
+                    recorded(alloc, next, sum, framed, Reply::Done)
+                }
+                Judged::Fault(why) => {
+                    drop(text);
+                    drop(definition);
+                    Ok(Answer::told(alloc, Reply::Refused(why)))
+                }
+            },
             Err(refused) => {
                 drop(definition);
                 Err(refused)
@@ -109,7 +110,7 @@ pub(crate) fn create(
     requires weighs { weight version.now ≡ weighs }
     requires create { IsCreate statement.now }
     requires written { IsWritten STATEMENT_BYTES statement.now }
-    ensures tells { IfOk result (Tells version.now (create_reply Took (run.run version.now statement.now)) (run.run version.now statement.now).db) }
+    ensures tells { IfOk result (Tells version.now true (commit_by version.now (Run statement.now) (run.run version.now statement.now).db) (λ verdict. create_reply verdict (run.run version.now statement.now)) (run.run version.now statement.now).db) }
     ensures nothing { IfOk result (λ answer. answer.erased ≡ []) }
 {
     match statement {

@@ -1,40 +1,64 @@
-ghost use Rattle.std.specs.Prelude.{◌≡◌, ◌≤◌, ◌<◌, ◌^◌, [], ◌∷◌, ◌-◌, ◌+◌, vec_len, IfErr, IfOk, OnErr};
+ghost use Rattle.std.specs.Prelude.{◌≡◌, ◌≢◌, ◌≤◌, ◌<◌, ◌^◌, ℕ, List, [], ◌-◌, ◌+◌, IsTrue, None, length, option_map, vec_len, IfErr, IfOk, OnErr};
 ghost use Rattle.std.specs.Vec.{vec_capacity};
+ghost use Rattle.own_base.specs.declared.number.Area.{Area};
+ghost use Rattle.own_base.specs.declared.number.Area.TheVariants.{A, B};
+ghost use Rattle.own_model.specs.declared.history.Verdict.TheVariants.{Took};
 ghost use Rattle.own_model.specs.declared.limit.TheConstants.{SESSIONS};
-ghost use Rattle.own_model.specs.Db.{empty};
+ghost use Rattle.outer_world.specs.FaultCount.{CountRose};
+ghost use Rattle.outer_world.specs.LeavesOnly.{LeavesOnly};
+ghost use Rattle.outer_world.specs.Stays.{Stays};
+ghost use Rattle.state_model.specs.Sound.{Sound};
 ghost use Rattle.grammar_model.specs.Readable.{IsReadable};
-ghost use Rattle.history_model.specs.Built.{built};
+ghost use Rattle.own_base.specs.declared.number.Place.{Place};
+ghost use Rattle.history_model.specs.AsksDisk as spec;
+ghost use Rattle.history_model.specs.Commits.{commits};
 ghost use Rattle.history_model.specs.History.{world};
 ghost use Rattle.history_model.specs.MayBeUnmade.{MayBeUnmadeFrom};
-ghost use Rattle.history_model.specs.Serial.{Serial};
-ghost use Rattle.engine_core.specs.declared.open.OpenFault.TheVariants.{Memory};
-ghost use Rattle.engine_core.specs.Made.{IsMade};
-ghost use Rattle.engine_core.specs.Seen.{Steps, entry};
-ghost use Rattle.engine_core.specs.RepresentsWorld.{IsEvent, RepresentsWorld};
+ghost use Rattle.history_model.specs.Serial.{IsEntry, IsHistory, Serial};
+ghost use Rattle.disk_model.specs.Judged.{IsJudged};
+ghost use Rattle.disk_model.specs.JudgedArea as found;
+ghost use Rattle.crash_model.specs.LeftBy.{IsLeftBy};
+ghost use Rattle.crash_model.specs.Room.{IsNoRoomExact};
+ghost use Rattle.crash_model.specs.StoreIn.{IsStoreIn};
+ghost use Rattle.crash_recover.specs.Opening.{IsLeft};
+ghost use Rattle.crash_recover.specs.declared.open.OpenFault.TheVariants.{Damaged, DiskFault};
+ghost use Rattle.store_disk.specs.OpensAt.{OpensAt};
+ghost use Rattle.engine_core.specs.Made.{IsEndOf, IsMade};
+ghost use Rattle.engine_core.specs.RepresentsWorld.{RepresentsWorld};
+ghost use Rattle.engine_core.specs.Seen.{Steps, disk_of, entry};
+ghost use Rattle.engine_core.specs.Stored.{IsUp};
 
 use crate::closed::Closed;
-use crate::open::OpenFault;
 use crate::serving::serve;
 use crate::state::State;
 use crate::step::{NoLook, Step};
-use own_base::{List, Place, SessionNo};
-use own_model::{Entry, Reply, Request, Verdict};
+use crate::verdict::is_fault;
+use commit_replay::Replayed;
+use crash_recover::OpenFault;
+use outer_world::Disk;
+use own_base::{List, MakeCopy, Place, SessionNo};
+use own_model::{Entry, Refusal, Reply, Request, Verdict};
 use std::alloc::{AllocError, Global};
 use std::marker::Model;
 use std::mem::drop;
-use store_version::Version;
+use store_disk::{StoreDisk, open_disk};
 use txn_core::Txns;
 
 /// An opened store: its state and the transactions of its sessions, the history that made them, and its disk. Contracts see the
-/// database that it was opened with, the history, for how many entries more there is room, and the disk.
-pub struct Engine<D> {
+/// database that it was opened with, how many commits had made it and where the journal stood then, the history, for how many
+/// entries more there is room, and the disk of the store.
+pub struct Engine<D: Disk> {
     alloc: Global,
     state: State,
     history: Vec<Entry>,
-    disk: D,
+    store: StoreDisk<D>,
+    start: u64,
+    epoch: u64,
+    end: u64,
+    down: Option<Place>,
 }
 
-impl<D> Model for Engine<D> {
+impl<D: Disk> Model for Engine<D> {
     ghost use Rattle.std.specs.Prelude.{◌-◌, vec_len};
     ghost use Rattle.std.specs.Vec.{vec_capacity};
     ghost use Rattle.engine_core.specs.Seen.{Seen};
@@ -46,45 +70,81 @@ impl<D> Model for Engine<D> {
 
     ghost coded = { Prim.hlevel (codes, cond.the_row.coded, bound.the_row.coded, D.code) };
 
-    ghost view = { λ engine. record { base = engine.state.opened; history = engine.history.items; spare = vec_capacity engine.history - vec_len engine.history; disk = engine.disk } };
+    ghost view = { λ engine. record { base = engine.state.opened; start = engine.start; journal = record { epoch = engine.epoch; end = engine.end }; history = engine.history.items; spare = vec_capacity engine.history - vec_len engine.history; store = engine.store } };
 
-    ghost use Rattle.state_model.specs.Sound.{Sound};
-    ghost use Rattle.history_model.specs.History.{world};
-    ghost use Rattle.history_model.specs.Serial.{IsHistory};
-    ghost use Rattle.engine_core.specs.RepresentsWorld.{RepresentsWorld};
+    ghost use Rattle.engine_core.specs.Made.{Stands};
 
-    ghost invariant = { λ engine. IsHistory engine.history.items × RepresentsWorld engine.state (world engine.state.opened engine.history.items) × Sound engine.state.opened };
+    ghost invariant = { λ engine. Stands D.holds D.leaves D.honest engine.start (record { epoch = engine.epoch; end = engine.end }) engine.state engine.store engine.down engine.history.items };
 }
 
-impl<D> Engine<D> {
-    /// Opens a store that has nothing on its disk, with room for so many entries. The disk isn't touched.
+impl<D: Disk> Engine<D> {
+    /// Opens the store of a disk, or begins one where the disk has none, with room for so many entries.
     pub fn open_with_room(alloc: Global, disk: D, calls: u32) -> Result<Engine<D>, (OpenFault, D)>
-        ensures base { IfOk result (λ engine. engine.base ≡ empty) }
+        ensures base { IfOk result (λ engine. IsTrue (D.honest disk) → IsStoreIn (D.holds disk A) (D.holds disk B) engine.base engine.start) }
+        ensures sound { IfOk result (λ engine. Sound engine.base) }
         ensures history { IfOk result (λ engine. engine.history ≡ []) }
-        ensures disk { IfOk result (λ engine. engine.disk ≡ disk) }
+        ensures journal { IfOk result (λ engine. IsEndOf engine.store.journal engine.journal) }
+        ensures start { IfOk result (λ engine. IsTrue (D.honest disk)
+            → OpensAt (D.holds disk A) (D.holds disk B) engine.store.journal.area engine.journal.epoch engine.journal.end) }
         ensures room { IfOk result (λ engine. calls ≤ engine.spare) }
-        ensures fault { IfErr result (λ failed. (failed.0 ≡ Memory) × (failed.1 ≡ disk)) }
+
+        // What a crash leaves of the disk, at any moment of the call and after it.
+        ensures left { IfOk result (λ engine. IsTrue (D.honest disk)
+            → (a b : List ℕ) → D.leaves (disk_of engine) A a → D.leaves (disk_of engine) B b → IsStoreIn a b engine.base engine.start) }
+        ensures moments { IfOk result (λ engine. IsTrue (D.honest disk)
+            → LeavesOnly D.moment D.might_have_left (IsLeft D.holds D.leaves disk) disk (disk_of engine)) }
+        ensures moments_err { IfErr result (λ back. IsTrue (D.honest disk)
+            → LeavesOnly D.moment D.might_have_left (IsLeft D.holds D.leaves disk) disk back.1) }
+        ensures honesty { IfOk result (λ engine. D.honest (disk_of engine) ≡ D.honest disk) }
+        ensures honesty_err { IfErr result (λ back. D.honest back.1 ≡ D.honest disk) }
+        ensures time { IfOk result (λ engine. D.moment disk ≤ D.moment (disk_of engine)) }
+        ensures time_err { IfErr result (λ back. D.moment disk ≤ D.moment back.1) }
+
+        // Damaged is told where what the disk holds is damaged, and then the disk is left as it was. `Memory` comes only
+        // where memory was refused.
+        ensures damaged { IfErr result (λ back. (area : Area) (offset : ℕ) → back.0 ≡ Damaged area offset
+            → IsTrue (D.honest disk) → IsJudged (D.holds disk A) (D.holds disk B) (found.Damaged area offset)) }
+        ensures kept_a { IfErr result (λ back. (area : Area) (offset : ℕ) → back.0 ≡ Damaged area offset → IsTrue (D.honest disk)
+            → Stays D.holds D.leaves A disk back.1) }
+        ensures kept_b { IfErr result (λ back. (area : Area) (offset : ℕ) → back.0 ≡ Damaged area offset → IsTrue (D.honest disk)
+            → Stays D.holds D.leaves B disk back.1) }
+        ensures fault { IfErr result (λ back. back.0 ≡ DiskFault → CountRose (D.faults disk) (D.faults back.1)) }
+        ensures steady { IfOk result (λ engine. D.faults (disk_of engine) ≡ D.faults disk) }
+        ensures steady_err { IfErr result (λ back. back.0 ≢ DiskFault → D.faults back.1 ≡ D.faults disk) }
+        ensures risen { IfErr result (λ back. D.faults disk ≤ D.faults back.1) }
     {
-        match opened(alloc, calls) {
-            Ok((state, history)) => Ok(Engine {
-                alloc,
-                state,
-                history,
-                disk,
-            }),
-            Err(AllocError) => Err((OpenFault::Memory, disk)),
+        let (store, replayed) = open_disk(alloc, disk)?;
+        match begun(alloc, replayed, calls) {
+            Ok((state, history)) => {
+                let start = store.commits();
+                let epoch = store.epoch();
+                let end = store.end();
+                Ok(Engine {
+                    alloc,
+                    state,
+                    history,
+                    store,
+                    start,
+                    epoch,
+                    end,
+                    down: None,
+                })
+            }
+            Err(AllocError) => Err((OpenFault::Memory, store.close())),
         }
     }
 
-    /// Makes a call of a session: its entry comes into the history, and the state changes by it. Where memory is refused
-    /// the call isn't made. Nobody waits: where sessions stand in each other's way, one of them is refused.
+    /// Makes a call of a session: its entry comes into the history with what the disk said, and the state changes by it. Where
+    /// memory is refused the call isn't made. Nobody waits: where sessions stand in each other's way, one of them is refused.
     pub fn step(&mut self, session: SessionNo, call: u32, request: Request) -> Step<NoLook>
         requires first { 1 ≤ session.0 }
         requires last { session.0 ≤ SESSIONS }
         requires readable { IsReadable request }
-        requires built { built request ≡ request }
-        ensures steps { Steps self.old self.new (entry session call request) result }
+        ensures steps { Steps D.holds D.moment D.might_have_left D.honest D.faults self.old self.new (entry session call request Took) result }
         ensures serial { Serial self.new.base self.new.history }
+        ensures count { self.new.store.commits ≡ self.new.start + length (commits self.new.base self.new.history) }
+        ensures left { IsTrue (D.honest (disk_of self.new)) → (a b : List ℕ) → D.leaves (disk_of self.new) A a → D.leaves (disk_of self.new) B b
+            → IsLeftBy self.new.base self.new.start self.new.history a b }
     {
         let entry = Entry {
             session,
@@ -92,7 +152,14 @@ impl<D> Engine<D> {
             request,
             verdict: Verdict::Took,
         };
-        match make(self.alloc, &mut self.state, &mut self.history, entry) {
+        match make(
+            self.alloc,
+            &mut self.state,
+            &mut self.store,
+            &mut self.down,
+            &mut self.history,
+            entry,
+        ) {
             Ok((place, reply)) => Step::Answered(place, reply),
             Err(AllocError) => Step::NoMemory,
         }
@@ -102,6 +169,7 @@ impl<D> Engine<D> {
     pub fn history(&self) -> &[Entry]
         ensures history { result.now ≡ self.now.history }
         ensures serial { Serial self.now.base result.now }
+        ensures exact { IsNoRoomExact self.now.journal self.now.base self.now.start result.now }
     {
         &self.history
     }
@@ -115,37 +183,82 @@ impl<D> Engine<D> {
         u32::try_from(spare).unwrap_or(u32::MAX)
     }
 
-    /// The history and the disk. Takes no memory.
+    /// The state that the opening left, the history and the disk. Takes no memory.
     pub fn close(self) -> Closed<D>
+        ensures opened { result.opened ≡ self.base }
         ensures history { result.history ≡ self.history }
-        ensures disk { result.disk ≡ self.disk }
+        ensures disk { result.disk ≡ disk_of self }
         ensures serial { Serial self.base result.history }
+        ensures left { IsTrue (D.honest result.disk) → (a b : List ℕ) → D.leaves result.disk A a → D.leaves result.disk B b
+            → IsLeftBy self.base self.start result.history a b }
+        // The limit `room` was told just where a call needed more of it than there was.
+        ensures exact { IsNoRoomExact self.journal self.base self.start result.history }
     {
         let Engine {
             alloc: _,
             state,
             history,
-            disk,
+            store,
+            start: _,
+            epoch: _,
+            end: _,
+            down: _,
         } = self;
-        drop(state);
+        let State {
+            opened,
+            version,
+            weighs: _,
+            txns,
+        } = state;
+        drop(version);
+        drop(txns);
         Closed {
+            opened,
             history: List::from_vec(history),
-            disk,
+            disk: store.close(),
         }
     }
 }
 
-/// Makes a call: its entry is served, and comes into the history. Where memory is refused nothing but the room for entries
-/// changes, which doesn't shrink. All that may fail comes before the first change.
-fn make(
+/// An entry of which the disk said this.
+fn under(verdict: Verdict, entry: Entry) -> Entry
+    ensures { result ≡ spec.under verdict entry }
+{
+    let Entry {
+        session,
+        call,
+        request,
+        verdict: _,
+    } = entry;
+    Entry {
+        session,
+        call,
+        request,
+        verdict,
+    }
+}
+
+/// Makes a call: its entry is served, and comes into the history; once the disk has failed, that is told. Where memory is refused
+/// nothing but the room for entries changes, which doesn't shrink. All that may fail for want of memory comes before the first
+/// change.
+fn make<D: Disk>(
     alloc: Global,
     state: &mut State,
+    store: &mut StoreDisk<D>,
+    down: &mut Option<Place>,
     history: &mut Vec<Entry>,
     entry: Entry,
 ) -> Result<(Place, Reply), AllocError>
-    requires event { IsEvent state.old history.old.items entry }
-    ensures made { IfOk result (λ made. IsMade state.old.opened history.old.items history.new.items state.new entry made.0.0 made.1) }
-    ensures unmade { OnErr result ((history.new.items ≡ history.old.items) × RepresentsWorld state.new (world state.old.opened history.old.items)) }
+    requires entries { IsHistory history.old.items }
+    requires begun { Sound state.old.opened }
+    requires represents { RepresentsWorld state.old (world state.old.opened history.old.items) }
+    requires down { (world state.old.opened history.old.items).down ≡ option_map (λ (place : Place). place.0) down.old }
+    requires store { down.old ≡ None → IsUp D.holds D.leaves D.honest store.old state.old.version }
+    requires is_entry { IsEntry entry }
+    requires took { entry.verdict ≡ Took }
+    ensures made { IfOk result (λ made. IsMade D.holds D.leaves D.moment D.might_have_left D.honest D.faults state.old.opened history.old.items history.new.items state.new
+        store.old store.new down.old down.new entry made.0.0 made.1) }
+    ensures unmade { OnErr result ((history.new.items ≡ history.old.items) × RepresentsWorld state.new (world state.old.opened history.old.items) × (store.new ≡ store.old) × (down.new ≡ down.old)) }
     ensures spared { OnErr result (0 < vec_capacity history.old - vec_len history.old
         → MayBeUnmadeFrom (world state.old.opened history.old.items).flat.schema ((world state.old.opened history.old.items).standing entry.session.0) entry.request) }
     ensures opened { state.new.opened ≡ state.old.opened }
@@ -156,10 +269,17 @@ fn make(
         drop(entry);
         return Err(AllocError);
     }
-    match serve(alloc, state, history, &entry) {
-        Ok(reply) => {
-            let place = Place(history.len() as u64);
-            history.push_reserved(entry);
+    let place = Place(history.len() as u64);
+    if let Some(failed) = *down {
+        history.push_reserved(entry);
+        return Ok((place, Reply::Refused(Refusal::Down(failed))));
+    }
+    match serve(alloc, state, store, history, &entry) {
+        Ok((verdict, reply)) => {
+            if is_fault(verdict) {
+                *down = Some(place);
+            }
+            history.push_reserved(under(verdict, entry));
             Ok((place, reply))
         }
         Err(AllocError) => {
@@ -169,21 +289,22 @@ fn make(
     }
 }
 
-/// No table, no transaction and no history, with room for so many entries.
-fn opened(alloc: Global, calls: u32) -> Result<(State, Vec<Entry>), AllocError>
-    ensures base { IfOk result (λ pair. pair.0.opened ≡ empty) }
+/// The state of a store that was opened, of which no call was made, and room for so many entries.
+fn begun(alloc: Global, replayed: Replayed, calls: u32) -> Result<(State, Vec<Entry>), AllocError>
+    ensures base { IfOk result (λ pair. pair.0.opened ≡ replayed) }
     ensures stands { IfOk result (λ pair. RepresentsWorld pair.0 (world pair.0.opened [])) }
+    ensures sound { IfOk result (λ pair. Sound pair.0.opened) }
     ensures history { IfOk result (λ pair. pair.1.items ≡ []) }
     ensures room { IfOk result (λ pair. calls ≤ vec_capacity pair.1) }
 {
     let history = Vec::with_capacity(alloc, calls as usize)?;
-    let opened = Version::new(alloc)?;
-    let version = Version::new(alloc)?;
     let txns = Txns::new(alloc)?;
+    let (version, weighs) = replayed.into_parts();
+    let opened = version.copy(alloc)?;
     let state = State {
         opened,
         version,
-        weighs: 0,
+        weighs,
         txns,
     };
     Ok((state, history))

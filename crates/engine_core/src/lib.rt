@@ -3,22 +3,23 @@
 
 mod answer;
 mod asker;
+mod checkpoint;
 mod closed;
 mod commit;
 mod creating;
 mod engine;
 mod inside;
 mod installing;
-mod open;
 mod outside;
 mod prepared;
 mod serving;
 mod state;
 mod step;
 mod subjects;
+mod taking;
+mod verdict;
 mod writing;
 
 pub use closed::Closed;
 pub use engine::Engine;
-pub use open::OpenFault;
 pub use step::{NoLook, Step};

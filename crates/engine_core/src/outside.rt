@@ -1,32 +1,37 @@
-ghost use Rattle.std.specs.Prelude.{◌≡◌, true, IfOk};
+ghost use Rattle.std.specs.Prelude.{◌≡◌, true, false, IfOk};
 ghost use Rattle.own_model.specs.declared.history.Verdict.TheVariants.{Took};
 ghost use Rattle.own_model.specs.declared.limit.TheConstants.{STATEMENT_BYTES};
 ghost use Rattle.own_model.specs.declared.request.Request.TheVariants.{Run};
 ghost use Rattle.grammar_model.specs.Readable.{IsWritten};
 ghost use Rattle.state_model.specs.Sound.{IsWellFormed, Sound};
 ghost use Rattle.run_model.specs.Run.{run, run_bound};
-ghost use Rattle.history_model.specs.Built.{is_built};
+ghost use Rattle.history_model.specs.Commits.{is_create};
 ghost use Rattle.history_model.specs.History.{world};
 ghost use Rattle.history_model.specs.Reply.{reply_outside};
 ghost use Rattle.txn_core.specs.SessionStates.{state_by};
 ghost use Rattle.txn_core.specs.declared.session_state.SessionState.TheVariants.{Nothing};
-ghost use Rattle.engine_core.specs.Answered.{Erases, ErasesBound, Tells, bound_reply};
+ghost use Rattle.crash_model.specs.Room.{commit_by};
+ghost use Rattle.engine_core.specs.Answered.{Erases, ErasesBound, Tells, bound_commit, bound_reply};
 ghost use Rattle.engine_core.specs.Asked.{IsBound, IsCreate, IsMeant, RunsByItself};
 ghost use Rattle.engine_core.specs.RepresentsWorld.{IsEvent, Serves, RepresentsWorld};
+ghost use Rattle.engine_core.specs.Stored.{IsUp, Stores};
 
 use crate::answer::Answer;
 use crate::asker::Asker;
+use crate::checkpoint::checkpoint;
 use crate::creating::create;
 use crate::installing::install;
 use crate::state::State;
 use crate::subjects::{forget, get_reply};
 use crate::writing::write;
+use outer_world::Disk;
 use own_base::Place;
-use own_model::{Bound, Entry, Refusal, Reply, Statement};
+use own_model::{Bound, Entry, Refusal, Reply, Statement, Verdict};
 use plan_bind::bind;
 use query_eval::select_reply;
 use std::alloc::{AllocError, Global};
 use std::mem::drop;
+use store_disk::StoreDisk;
 use store_version::Shown;
 
 /// The answer to a bound statement outside a transaction.
@@ -36,7 +41,7 @@ fn answer_meant(alloc: Global, asker: &Asker<'_>, bound: &Bound) -> Result<Answe
     requires stands { RepresentsWorld asker.now.state.now (world asker.now.state.now.opened asker.now.history.now) }
     requires meant { IsMeant asker.now.state.now.version.schema bound.now }
     requires well_formed { IsWellFormed (run_bound asker.now.state.now.version bound.now).db }
-    ensures tells { IfOk result (Tells asker.now.state.now.version (bound_reply (world asker.now.state.now.opened asker.now.history.now) asker.now.state.now.version asker.now.session.0 bound.now) (run_bound asker.now.state.now.version bound.now).db) }
+    ensures tells { IfOk result (Tells asker.now.state.now.version false (bound_commit asker.now.state.now.version bound.now (run_bound asker.now.state.now.version bound.now).db) (bound_reply (world asker.now.state.now.opened asker.now.history.now) asker.now.state.now.version asker.now.session.0 bound.now) (run_bound asker.now.state.now.version bound.now).db) }
     ensures erases { IfOk result (ErasesBound asker.now.state.now.version bound.now) }
 {
     match bound {
@@ -69,7 +74,7 @@ fn answer_by_meaning(
     requires stands { RepresentsWorld asker.now.state.now (world asker.now.state.now.opened asker.now.history.now) }
     requires written { IsWritten STATEMENT_BYTES statement.now }
     requires bound { IsBound statement.now }
-    ensures tells { IfOk result (Tells asker.now.state.now.version (reply_outside (world asker.now.state.now.opened asker.now.history.now) asker.now.session.0 Took statement.now) (run asker.now.state.now.version statement.now).db) }
+    ensures tells { IfOk result (Tells asker.now.state.now.version false (commit_by asker.now.state.now.version (Run statement.now) (run asker.now.state.now.version statement.now).db) (λ verdict. reply_outside (world asker.now.state.now.opened asker.now.history.now) asker.now.session.0 verdict statement.now) (run asker.now.state.now.version statement.now).db) }
     ensures erases { IfOk result (Erases asker.now.state.now.version (Run statement.now)) }
 {
     match bind(alloc, asker.state.version.catalog().schema(), statement) {
@@ -92,7 +97,7 @@ fn answer_to_create(
     requires stands { RepresentsWorld asker.now.state.now (world asker.now.state.now.opened asker.now.history.now) }
     requires written { IsWritten STATEMENT_BYTES statement.now }
     requires create { IsCreate statement.now }
-    ensures tells { IfOk result (Tells asker.now.state.now.version (reply_outside (world asker.now.state.now.opened asker.now.history.now) asker.now.session.0 Took statement.now) (run asker.now.state.now.version statement.now).db) }
+    ensures tells { IfOk result (Tells asker.now.state.now.version true (commit_by asker.now.state.now.version (Run statement.now) (run asker.now.state.now.version statement.now).db) (λ verdict. reply_outside (world asker.now.state.now.opened asker.now.history.now) asker.now.session.0 verdict statement.now) (run asker.now.state.now.version statement.now).db) }
     ensures erases { IfOk result (Erases asker.now.state.now.version (Run statement.now)) }
 {
     let state = asker.state;
@@ -108,7 +113,7 @@ fn answer(alloc: Global, asker: &Asker<'_>, statement: &Statement) -> Result<Ans
     requires stands { RepresentsWorld asker.now.state.now (world asker.now.state.now.opened asker.now.history.now) }
     requires written { IsWritten STATEMENT_BYTES statement.now }
     requires itself { RunsByItself statement.now }
-    ensures tells { IfOk result (Tells asker.now.state.now.version (reply_outside (world asker.now.state.now.opened asker.now.history.now) asker.now.session.0 Took statement.now) (run asker.now.state.now.version statement.now).db) }
+    ensures tells { IfOk result (Tells asker.now.state.now.version (is_create (Run statement.now)) (commit_by asker.now.state.now.version (Run statement.now) (run asker.now.state.now.version statement.now).db) (λ verdict. reply_outside (world asker.now.state.now.opened asker.now.history.now) asker.now.session.0 verdict statement.now) (run asker.now.state.now.version statement.now).db) }
     ensures erases { IfOk result (Erases asker.now.state.now.version (Run statement.now)) }
 {
     match statement {
@@ -124,26 +129,32 @@ fn answer(alloc: Global, asker: &Asker<'_>, statement: &Statement) -> Result<Ans
 }
 
 /// Serves a statement of a session that is outside a transaction.
-pub(crate) fn serve_outside(
+pub(crate) fn serve_outside<D: Disk>(
     alloc: Global,
     state: &mut State,
+    store: &mut StoreDisk<D>,
     history: &[Entry],
     entry: &Entry,
     statement: &Statement,
-) -> Result<Reply, AllocError>
+) -> Result<(Verdict, Reply), AllocError>
     requires event { IsEvent state.old history.now entry.now }
+    requires took { entry.now.verdict ≡ Took }
+    requires store { IsUp D.holds D.leaves D.honest store.old state.old.version }
     requires outside { state_by state.old.txns.states entry.now.session.0 ≡ Nothing }
     requires asks { entry.now.request ≡ Run statement.now }
-    requires built { is_built statement.now ≡ true }
     ensures served { Serves state.old.opened state.new history.now entry.now result }
+    ensures stored { Stores D.holds D.leaves D.moment D.might_have_left D.honest D.faults (world state.old.opened history.now) entry.now store.old result store.new }
     ensures opened { state.new.opened ≡ state.old.opened }
 {
     match statement {
         Statement::Begin => {
             state.txns.begin(alloc, entry.session);
-            Ok(Reply::Done)
+            Ok((Verdict::Took, Reply::Done))
         }
-        Statement::Commit | Statement::Rollback => Ok(Reply::Refused(Refusal::Outside)),
+        Statement::Commit | Statement::Rollback => {
+            Ok((Verdict::Took, Reply::Refused(Refusal::Outside)))
+        }
+        Statement::Checkpoint => checkpoint(alloc, &state.version, store),
         _ => {
             let asker = Asker {
                 state,
@@ -151,7 +162,7 @@ pub(crate) fn serve_outside(
                 session: entry.session,
             };
             let answer = answer(alloc, &asker, statement)?;
-            install(alloc, state, Place(history.len() as u64), answer)
+            Ok(install(state, store, Place(history.len() as u64), answer))
         }
     }
 }

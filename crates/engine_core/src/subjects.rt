@@ -1,6 +1,5 @@
-ghost use Rattle.std.specs.Prelude.{◌≡◌, ◌<◌, ◌^◌, IsTrue, count_by, length, map, not, IfOk};
+ghost use Rattle.std.specs.Prelude.{◌≡◌, ◌<◌, ◌^◌, IsTrue, count_by, false, length, map, not, IfOk};
 ghost use Rattle.own_model.specs.declared.bound.Bound.TheVariants.{Forget};
-ghost use Rattle.own_model.specs.declared.history.Verdict.TheVariants.{Took};
 ghost use Rattle.own_model.specs.declared.reply.Reply.TheVariants.{Forgot};
 ghost use Rattle.move_model.specs.Moves.{AreMovesOf};
 ghost use Rattle.schema_model.specs.Tables.{is_subject};
@@ -11,13 +10,13 @@ ghost use Rattle.state_model.specs.Weight.{weight};
 ghost use Rattle.run_model.specs.Run.{forget_subject, show_subject};
 ghost use Rattle.subject_erase.specs.Plan.{leaves_row};
 ghost use Rattle.history_model.specs.Reply.{forget_reply};
+ghost use Rattle.disk_model.specs.declared.commit.Commit.TheVariants as commit_of;
 ghost use Rattle.engine_core.specs.Answered.{ErasesBound, Tells};
 
 use crate::answer::Answer;
-use crate::commit::decided;
-use crate::prepared::Ahead;
+use crate::commit::recorded;
 use change_weight::weight_by;
-use commit_check::Judged;
+use commit_record::record_of_forget;
 use move_model::OwnerMove;
 use own_base::{Change, List, MakeCopy, RowName, Subject};
 use own_model::{Reply, StoreView};
@@ -108,7 +107,7 @@ pub(crate) fn forget(
     requires sound { Sound version.now }
     requires weighs { weight version.now ≡ weighs }
     requires subject { IsTrue (is_subject version.now.schema subject.now.0.table.0) }
-    ensures tells { IfOk result (Tells version.now (forget_reply Took (forget_subject version.now subject.now.0)) (forget_subject version.now subject.now.0).db) }
+    ensures tells { IfOk result (Tells version.now false (commit_of.Forget subject.now.0) (λ verdict. forget_reply verdict (forget_subject version.now subject.now.0)) (forget_subject version.now subject.now.0).db) }
     ensures erases { IfOk result (ErasesBound version.now (Forget subject.now)) }
 {
     let shown = Shown { version };
@@ -131,8 +130,8 @@ pub(crate) fn forget(
     drop(moves);
     match left {
         Ok(left) => {
-            let judged = Judged::Weighs(left);
-            Ok(decided(alloc, Ahead::Version(next), judged, None, reply).erasing(names))
+            let framed = record_of_forget(alloc, &subject.0);
+            Ok(recorded(alloc, next, left, framed, reply)?.erasing(names))
         }
         Err(refused) => {
             drop(next);

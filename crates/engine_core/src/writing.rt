@@ -1,5 +1,5 @@
-ghost use Rattle.std.specs.Prelude.{◌≡◌, ◌≢◌, [], None, IfErr, IfOk};
-ghost use Rattle.own_model.specs.declared.history.Verdict.TheVariants.{Took};
+ghost use Rattle.std.specs.Prelude.{◌≡◌, ◌≢◌, [], false, None, IfErr, IfOk};
+ghost use Rattle.own_model.specs.declared.history.Verdict.{Verdict};
 ghost use Rattle.own_model.specs.declared.refusal.Refusal.TheVariants.{Memory};
 ghost use Rattle.own_model.specs.declared.reply.Reply.TheVariants.{Refused};
 ghost use Rattle.query_model.specs.Footprints.{footprint_of};
@@ -11,6 +11,8 @@ ghost use Rattle.history_model.specs.Held.{holder};
 ghost use Rattle.history_model.specs.History.{world};
 ghost use Rattle.history_model.specs.Reply.{unless_held, write_reply};
 ghost use Rattle.write_eval.specs.Write.{IsWrite};
+ghost use Rattle.disk_model.specs.declared.commit.Commit.TheVariants.{Changes};
+ghost use Rattle.disk_model.specs.PutOf.{puts_of};
 ghost use Rattle.engine_core.specs.Answered.{Tells};
 ghost use Rattle.engine_core.specs.RepresentsWorld.{RepresentsWorld};
 
@@ -37,8 +39,8 @@ fn written(
     ensures reply { IfOk result (λ pair. (run_bound asker.now.state.now.version bound.now).reply ≡ pair.0) }
     ensures net { IfOk result (λ pair. pair.1 ≡ net asker.now.state.now.version (put asker.now.state.now.version pair.1)) }
     ensures left { IfOk result (λ pair. (run_bound asker.now.state.now.version bound.now).db ≡ put asker.now.state.now.version pair.1) }
-    ensures refused { IfErr result (λ why. why ≢ Memory → unless_held (world asker.now.state.now.opened asker.now.history.now) (holder (world asker.now.state.now.opened asker.now.history.now) asker.now.session.0 (footprint_of asker.now.state.now.version.schema bound.now))
-        (write_reply Took asker.now.state.now.version (run_bound asker.now.state.now.version bound.now)) ≡ Refused why) }
+    ensures refused { IfErr result (λ why. why ≢ Memory → (verdict : Verdict) → unless_held (world asker.now.state.now.opened asker.now.history.now) (holder (world asker.now.state.now.opened asker.now.history.now) asker.now.session.0 (footprint_of asker.now.state.now.version.schema bound.now))
+        (write_reply verdict asker.now.state.now.version (run_bound asker.now.state.now.version bound.now)) ≡ Refused why) }
 {
     let shown = Shown {
         version: &asker.state.version,
@@ -52,8 +54,8 @@ pub(crate) fn write(alloc: Global, asker: &Asker<'_>, bound: &Bound) -> Result<A
     requires sound { Sound asker.now.state.now.version }
     requires stands { RepresentsWorld asker.now.state.now (world asker.now.state.now.opened asker.now.history.now) }
     requires well_formed { IsWellFormed (run_bound asker.now.state.now.version bound.now).db }
-    ensures tells { IfOk result (Tells asker.now.state.now.version (unless_held (world asker.now.state.now.opened asker.now.history.now) (holder (world asker.now.state.now.opened asker.now.history.now) asker.now.session.0 (footprint_of asker.now.state.now.version.schema bound.now))
-        (write_reply Took asker.now.state.now.version (run_bound asker.now.state.now.version bound.now))) (run_bound asker.now.state.now.version bound.now).db) }
+    ensures tells { IfOk result (Tells asker.now.state.now.version false (Changes (puts_of (net asker.now.state.now.version (run_bound asker.now.state.now.version bound.now).db))) (λ verdict. unless_held (world asker.now.state.now.opened asker.now.history.now) (holder (world asker.now.state.now.opened asker.now.history.now) asker.now.session.0 (footprint_of asker.now.state.now.version.schema bound.now))
+        (write_reply verdict asker.now.state.now.version (run_bound asker.now.state.now.version bound.now))) (run_bound asker.now.state.now.version bound.now).db) }
     ensures nothing { IfOk result (λ answer. answer.erased ≡ []) }
 {
     match written(alloc, asker, bound) {

@@ -1,5 +1,5 @@
 use annot_schema::SchemaFault;
-use engine_core::OpenFault;
+use crash_recover::OpenFault;
 use own_base::{Area, Name};
 use own_model::LimitName;
 use std::alloc::{AllocError, Global};

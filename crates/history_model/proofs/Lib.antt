@@ -3,8 +3,8 @@ pub mod AgreeLemmas
 pub mod ApartLemmas
 pub mod BlockLemmas
 pub mod BlockNet
-pub mod BuiltRequests
 pub mod ChangeLemmas
+pub mod DiskAnswers
 pub mod DoomLemmas
 pub mod EveryHistory
 pub mod GrantLemmas

@@ -60,7 +60,7 @@ down_step before entry failed = let up = up_before before entry _ refl failed in
 stays_down : (before : World) (entry : Entry) (place : ℕ) → before.down ≡ Some place → (happens before entry).down ≡ Some place
 stays_down before entry place down = rw down refl
 
-answer-down : (before : World) (entry : Entry) (place : ℕ) → before.down ≡ Some place → answer before entry ≡ Refused (Down (record { 0 = place }))
+pub answer-down : (before : World) (entry : Entry) (place : ℕ) → before.down ≡ Some place → answer before entry ≡ Refused (Down (record { 0 = place }))
 unfolding answer
 answer-down before entry place down = rw down refl
 

@@ -91,7 +91,7 @@ module _ (world : World) (session : ℕ) where
   inside-works block _ = refl
 
   -- any request, however the session stands
-  standing-works : (standing : SessionStanding) (request : Request) → is_failure (reply_in world session Took standing request) ≡ false
+  pub standing-works : (standing : SessionStanding) (request : Request) → is_failure (reply_in world session Took standing request) ≡ false
   standing-works (Doomed by) request = refl
   standing-works Outside (Run asked) = outside-works asked
   standing-works (Open begun block) (Run asked) = inside-works block asked

@@ -1,4 +1,4 @@
-pub mod Built
+pub mod AsksDisk
 pub mod Commits
 pub mod HasWritten
 pub mod Held

@@ -7,7 +7,7 @@ use Rattle.own_model.specs.declared.schema.Schema.{Schema}
 use Rattle.own_model.specs.declared.statement.Statement.{Statement}
 use Rattle.own_model.specs.declared.statement.Statement.TheVariants.{Begin, Commit, Delete, Insert, Rollback, Select, Update}
 use Rattle.history_model.specs.HasWritten.{has_written}
-use Rattle.history_model.specs.Made.{Called, Unmade, entry_of}
+use Rattle.history_model.specs.Made.{Called, Unmade}
 use Rattle.history_model.specs.World.{Block, SessionStanding, Outside, Open, Doomed}
 
 -- Memory may keep this request from being made: a statement, which takes memory to be bound, to run or to show what it
@@ -39,4 +39,4 @@ MayBeUnmadeFrom schema standing request = MayBeUnmade request
 
 -- each of these calls that wasn't made is one that memory may keep from being made
 abbrev pub AreUnmadeByMemory : List Called → Type 0
-AreUnmadeByMemory calls = AllByRecursion (λ called. called.want ≡ Unmade → MayBeUnmade (entry_of called.call).request) calls
+AreUnmadeByMemory calls = AllByRecursion (λ called. called.want ≡ Unmade → MayBeUnmade called.call.request) calls

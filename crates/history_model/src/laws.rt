@@ -5,6 +5,7 @@ ghost use Rattle.std.specs.List.{AllByRecursion};
 ghost use Rattle.own_base.specs.declared.number.Place.{Place};
 ghost use Rattle.own_model.specs.declared.footprint.FootItem.{FootItem};
 ghost use Rattle.own_model.specs.declared.history.Entry.{Entry};
+ghost use Rattle.own_model.specs.declared.history.Verdict.{Verdict};
 ghost use Rattle.own_model.specs.declared.history.Verdict.TheVariants.{Took};
 ghost use Rattle.own_model.specs.declared.refusal.Refusal.{Refusal};
 ghost use Rattle.own_model.specs.declared.refusal.Refusal.TheVariants.{Disk, Down};
@@ -14,11 +15,12 @@ ghost use Rattle.own_model.specs.Db.{Db};
 ghost use Rattle.state_model.specs.Net.{net};
 ghost use Rattle.state_model.specs.Sound.{IsWellFormed, Sound};
 ghost use Rattle.run_model.specs.Agree.{Agree};
+ghost use Rattle.history_model.specs.AsksDisk.{asks_disk, under};
 ghost use Rattle.history_model.specs.Held.{Holding, held, holder, is_open, lowest_other};
 ghost use Rattle.history_model.specs.History.{History, flat, happens, is_failure, reply, standing, world};
 ghost use Rattle.history_model.specs.Made.{Called, made};
 ghost use Rattle.history_model.specs.Named.{called_name, entry_name, was_made};
-ghost use Rattle.history_model.specs.Reply.{answer};
+ghost use Rattle.history_model.specs.Reply.{answer, by_verdict, is_refusal};
 ghost use Rattle.history_model.specs.Sentences.{IsHeldBy, IsHolder, IsOther, StandsInTheWay};
 ghost use Rattle.history_model.specs.Serial.{AreGiven, IsEntry, IsHistory, Serial};
 ghost use Rattle.history_model.specs.Since.{IsBegun, stated_since};
@@ -113,4 +115,13 @@ pub fn all_is_down_after_the_disk_failed()
 pub fn disk_that_takes_all_never_fails()
     ensures answered { (world : World) (entry : Entry) → entry.verdict ≡ Took → world.down ≡ None → is_failure (answer world entry) ≡ false }
     ensures up { (base : Db) (history : History) → AllByRecursion (λ entry. entry.verdict ≡ Took) history → (world base history).down ≡ None }
+{}
+
+/// An answer that isn't the disk's to give is the same whatever the disk says; one that is, is accepted where the disk takes
+/// what is written, and elsewhere it is what the disk says.
+pub fn disk_decides_no_other_answer()
+    ensures told { (world : World) (entry : Entry) (verdict : Verdict) → asks_disk world entry ≡ false
+        → answer world (under verdict entry) ≡ answer world (under Took entry) }
+    ensures decided { (world : World) (entry : Entry) (verdict : Verdict) → asks_disk world entry ≡ true
+        → (answer world (under verdict entry) ≡ by_verdict verdict (answer world (under Took entry))) × (is_refusal (answer world (under Took entry)) ≡ false) }
 {}

@@ -149,11 +149,11 @@ fn open_twice<R: Files<File = File> + AllocGlobal + Abort>(rt: &R) -> Result<(),
 #[test]
 fn a_disk_of_files_moves_the_right_bytes(rt: HostRuntime) -> Result<(), Fail> {
     let _ = fs::remove_dir_all(&rt, FOLDER);
-    let inside = format!(in rt.alloc(); "{FOLDER}/inside")?;
     assert!(rt;
-        FileDisk::open(&rt, &inside).is_err(),
-        "a folder in one that is missing"
+        FileDisk::open(&rt, FOLDER).is_err(),
+        "a folder that isn't there"
     );
+    fs::create_dir(&rt, FOLDER)?;
     use_files(&rt)?;
     find_files(&rt)?;
     open_twice(&rt)?;

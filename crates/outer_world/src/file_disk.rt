@@ -4,9 +4,8 @@ use crate::disk::Disk;
 use crate::failed::Failed;
 use crate::interruption::{INTERRUPTIONS, is_tried_again};
 use own_base::Area;
-use std::fs::{File, Files, OpenOptions, create_dir};
+use std::fs::{File, Files, OpenOptions};
 use std::io;
-use std::io::ErrorKind;
 use std::os::unix::fs::FileExt;
 
 /// Two files of a folder, `a` and `b`, which are locked as long as it is there. It tells nothing of their bytes.
@@ -23,15 +22,14 @@ pub struct FileDisk {
 }
 
 impl FileDisk {
-    /// Opens the two files of the folder, and makes those that are missing, and the folder where it is. The empty text means
-    /// the current folder. What is made is made durable, so that a power cut can't lose the files themselves. The files are
+    /// Opens the two files of the folder, which has to be there, and makes those that are missing. The empty text means the
+    /// current folder. What is made is made durable, so that a power cut can't lose the files themselves. The files are
     /// locked as long as they are open: where another open disk has them, it is an error (`WouldBlock`), and nothing else
     /// was done than to make what was missing.
     pub fn open<R: Files<File = File> + AllocGlobal>(rt: &R, folder: &str) -> io::Result<FileDisk>
         ensures { IfOk result (λ disk. ⟦<FileDisk as Disk>⟧.faults disk ≡ 0) }
     {
         let folder = if folder.is_empty() { "." } else { folder };
-        make_folder(rt, folder)?;
         let a = open_file(rt, folder, "a")?;
         let b = open_file(rt, folder, "b")?;
         File::open(rt, folder)?.sync_all()?;
@@ -52,18 +50,6 @@ impl FileDisk {
     {
         self.faults = self.faults.saturating_add(1);
         Failed
-    }
-}
-
-/// Makes a folder where it is missing, and makes that durable.
-fn make_folder<R: Files<File = File> + AllocGlobal>(rt: &R, folder: &str) -> io::Result<()> {
-    match create_dir(rt, folder) {
-        Ok(()) => {
-            let above = format!(in rt.alloc(); "{folder}/..")?;
-            File::open(rt, above)?.sync_all()
-        }
-        Err(error) if error.kind() == ErrorKind::AlreadyExists => Ok(()),
-        Err(error) => Err(error),
     }
 }
 

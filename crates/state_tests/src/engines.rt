@@ -1,12 +1,11 @@
 //! An engine's calls, and the history that it keeps.
-ghost use Rattle.std.specs.Prelude.{◌≡◌};
 ghost use Rattle.grammar_model.specs.Readable.{IsReadable};
-ghost use Rattle.history_model.specs.Built.{built, is_built};
 
 use crate::texts::read;
 use engine_core::{Closed, Engine, NoLook, Step};
+use outer_world::MemDisk;
 use own_base::{Boxed, SessionNo, Text};
-use own_model::{Entry, Request, SESSIONS, Statement};
+use own_model::{Entry, Request, SESSIONS};
 use sql_print::{print_reply, print_statement};
 use std::mem::drop;
 use std::process::Abort;
@@ -53,24 +52,14 @@ const LINES: &str = "\
 14 2.15 end
 ";
 
-/// Whether it is no CHECKPOINT.
-fn is_built(statement: &Statement) -> bool
-    ensures { result ≡ is_built statement.now }
-{
-    !matches!(statement, Statement::Checkpoint)
-}
-
 /// What a text asks for.
-#[tactic(auto, unfolding(history_model::specs::Built::built))]
 fn request_of(rt: &(impl Abort + AllocGlobal), text: &str) -> Request
-    ensures readable { IsReadable result }
-    ensures built { built result ≡ result }
+    ensures { IsReadable result }
 {
     if text == "End" {
         return Request::End;
     }
     let statement = read(rt, text);
-    assert!(rt; is_built(&statement));
     Request::Run(Boxed::new(rt.alloc(), statement).expect(rt, "memory"))
 }
 
@@ -107,7 +96,7 @@ fn lines_of(
 /// Makes a call, which takes room for one entry.
 fn make(
     rt: &(impl Abort + AllocGlobal),
-    engine: &mut Engine<u32>,
+    engine: &mut Engine<MemDisk>,
     number: u32,
     call: Call,
 ) -> Text {
@@ -121,7 +110,7 @@ fn make(
 }
 
 /// Makes the calls, and gives their lines.
-fn make_all(rt: &(impl Abort + AllocGlobal), engine: &mut Engine<u32>) -> String {
+fn make_all(rt: &(impl Abort + AllocGlobal), engine: &mut Engine<MemDisk>) -> String {
     let mut lines = String::new(rt.alloc());
     for (number, call) in (1..u32::MAX).zip(CALLS) {
         let told = make(rt, engine, number, call);
@@ -142,15 +131,22 @@ fn expect_history(rt: &(impl Abort + AllocGlobal), entries: &[Entry]) {
 
 #[test]
 fn calls_are_answered_and_kept(rt: HostRuntime) {
-    let mut engine = match Engine::open_with_room(rt.alloc(), 7, CALLS.len() as u32) {
+    let disk = MemDisk::new(rt.alloc(), &[]).expect(&rt, "memory");
+    let mut engine = match Engine::open_with_room(rt.alloc(), disk, CALLS.len() as u32) {
         Ok(engine) => engine,
         Err((fault, _)) => panic!(rt; "{fault:?}"),
     };
     let lines = make_all(&rt, &mut engine);
     expect_history(&rt, engine.history());
-    let Closed { history, disk } = engine.close();
+    let Closed {
+        opened,
+        history,
+        disk,
+    } = engine.close();
     expect_history(&rt, history.items());
     drop(history);
-    assert_eq!(rt; disk, 7);
+    assert!(rt; opened.schema().tables.items().is_empty());
+    drop(opened);
+    drop(disk);
     assert_eq!(rt; lines.as_str(), LINES);
 }

@@ -16,10 +16,10 @@ use crate::store::{Store, judged, judged_now, store_of};
 use crate::texts::{check_lines, read};
 use commit_check::Judged;
 use commit_judge::judge_by;
+use commit_record::record_of_changes;
 use move_model::OwnerMove;
 use own_base::Change;
 use own_model::{Bound, Reply};
-use payload_size::payload_size;
 use std::mem::drop;
 use std::process::Abort;
 use store_version::{Next, Shown, Version, prepare};
@@ -168,7 +168,13 @@ fn check_next(
 {
     let whole = weight_in(rt, judged(rt, next));
     assert_eq!(rt; whole, case.weighs);
-    assert_eq!(rt; payload_size(changes), case.bytes);
+    if changes.is_empty() {
+        panic!(rt; "nothing is changed");
+    }
+    // Before its payload a record has four bytes for the length, and behind it a gate.
+    let record = record_of_changes(rt.alloc(), changes).expect(rt, "a record");
+    let payload = (record.items().len() as u64).checked_sub(5);
+    assert_eq!(rt; payload, Some(case.bytes));
     let alone = weight_by_changes(rt, version, next, changes, moves);
     assert_eq!(rt; alone, case.weighs);
 }

@@ -1,3 +1,4 @@
 pub mod Lawful
 pub mod Keeping
 pub mod Opened
+pub mod LeftKept

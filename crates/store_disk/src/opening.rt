@@ -10,6 +10,7 @@ ghost use Rattle.crash_model.specs.StoreIn.{IsStoreIn};
 ghost use Rattle.crash_recover.specs.Opening.{IsLeft};
 ghost use Rattle.crash_recover.specs.declared.open.OpenFault.TheVariants.{Damaged, DiskFault};
 ghost use Rattle.store_disk.specs.Kept.{IsKept};
+ghost use Rattle.store_disk.specs.OpensAt.{OpensAt};
 
 use crate::store_disk::StoreDisk;
 use commit_replay::Replayed;
@@ -28,6 +29,8 @@ pub fn open_disk<D: Disk>(
         → IsKept D.holds D.leaves opened.0.journal opened.1 opened.0.commits) }
     ensures store { IfOk result (λ opened. IsTrue (D.honest disk)
         → IsStoreIn (D.holds disk A) (D.holds disk B) opened.1 opened.0.commits) }
+    ensures start { IfOk result (λ opened. IsTrue (D.honest disk)
+        → OpensAt (D.holds disk A) (D.holds disk B) opened.0.journal.area opened.0.journal.epoch opened.0.journal.end) }
     ensures sound { IfOk result (λ opened. opened.0.journal.failed ≡ false) }
     ensures damaged { IfErr result (λ back. (area : Area) (offset : ℕ) → back.0 ≡ Damaged area offset
         → IsTrue (D.honest disk) → IsJudged (D.holds disk A) (D.holds disk B) (found.Damaged area offset)) }

@@ -40,6 +40,20 @@ impl<D: Disk> StoreDisk<D> {
         self.commits
     }
 
+    /// The epoch of its journal. Takes no memory.
+    pub fn epoch(&self) -> u64
+        ensures { result ≡ self.now.journal.epoch }
+    {
+        self.journal.epoch()
+    }
+
+    /// Where the records of its journal end. Takes no memory.
+    pub fn end(&self) -> u64
+        ensures { result ≡ self.now.journal.end }
+    {
+        self.journal.end()
+    }
+
     /// Whether an epoch, a commit and so many bytes more are within the room of a journal. Takes no memory.
     pub fn fits(&self, bytes: u64) -> bool
         ensures { IsTrue result ↔ HasRoomFor self.now.journal self.now.commits bytes }
@@ -56,6 +70,7 @@ impl<D: Disk> StoreDisk<D> {
 
         ensures at { OnOk result (IsAt self.new.journal self.old.journal.area self.old.journal.epoch (self.old.journal.end + length framed.now)) }
         ensures commits { OnOk result (self.new.commits ≡ self.old.commits + 1) }
+        ensures no_more { OnErr result (self.new.commits ≡ self.old.commits) }
         ensures failed { OnErr result (self.new.journal.failed ≡ true) }
         ensures kept { OnOk result ((commit : Commit) (db after : Db) → IsTrue (D.honest self.old.journal.disk)
             → IsFramed commit framed.now → Follows db commit after

@@ -29,6 +29,16 @@ pub(crate) fn out_of_memory() -> Ending
     }
 }
 
+/// The files of a folder could not be opened.
+pub(crate) fn disk_failed() -> Ending
+    ensures { result ≡ record { status = 5; fault = Some TopFault.Disk } }
+{
+    Ending {
+        status: 5,
+        fault: Some(TopFault::Disk),
+    }
+}
+
 /// What the process ends with.
 pub(crate) fn exit_code(ending: &Ending) -> ExitCode
     ensures { exit_status result ≡ ending.now.status }

@@ -1,5 +1,5 @@
-//! The program: it takes the store's name, the first word, and hands the other words, the standard streams and the
-//! disk to the store. What it tells of a fault goes to standard error.
+//! The program: it takes the store's name, the first word, opens its disk, and hands that, the other words and the standard
+//! streams to the store. What it tells of a fault goes to standard error.
 #![tactic(auto)]
 
 mod ending;

@@ -1,4 +1,7 @@
 pub mod Calls
+pub mod Failures
+pub mod Moves
+pub mod OnDiskLemmas
 pub mod RanLemmas
 pub mod ReadFaults
 pub mod Runs

@@ -1,16 +1,18 @@
 -- What a run in mode step did.
-use Rattle.std.specs.Prelude.{◌≡◌, ◌≢◌, ◌⊎◌, ℕ, ◌+◌, List, [], Option, None, Some}
+use Rattle.std.specs.Prelude.{◌≡◌, ◌≢◌, ◌⊎◌, ℕ, ◌+◌, List, true, false, Option, None, Some}
 use Rattle.outer_world.specs.FaultCount.{CountRose}
 use Rattle.outer_world.specs.LastCall.{EndsInFault}
+use Rattle.own_base.specs.declared.number.Area.{Area}
 use Rattle.own_model.specs.declared.limit.TheConstants.{INPUT_BYTES}
 use Rattle.own_model.specs.declared.script.InputFault.{InputFault}
-use Rattle.own_model.specs.Db.{empty}
+use Rattle.own_model.specs.declared.script.InputFault.TheVariants as input
+use Rattle.own_model.specs.Db.{Db}
 use Rattle.history_model.specs.History.{History}
 use Rattle.history_model.specs.Serial.{Serial}
 use Rattle.store_top.specs.declared.served.TopFault.{TopFault}
-use Rattle.store_top.specs.declared.served.TopFault.TheVariants.{Read, Write, Input, Memory}
+use Rattle.store_top.specs.declared.served.TopFault.TheVariants.{Read, Write, Disk, Damaged, Input, Memory}
 use Rattle.store_top.specs.Steps.{ToldBefore, ToldInPart}
-use Rattle.store_top.specs.Top.{IsBeforeCalls, IsWithoutDisk, ReadsAtMost, RefusesInput, RunsInPart, RunsWhole}
+use Rattle.store_top.specs.Top.{IsBeforeOpening, IsUnserved, ReadsAtMost, ReadsScript, RefusesInput, RunsInPart, RunsWhole}
 
 -- The fault of a run is that of the last call that it made of a source or a sink: the count of faults rose in it, and in no call
 -- before.
@@ -18,31 +20,40 @@ pub record LastFault {S : Type 0} (faults : S → ℕ) (fails : S → S → Type
   pub rose : CountRose (faults old) (faults new)
   pub last : EndsInFault faults fails old new
 
--- What a run did to its source and its sink, by its fault and by the history of the calls that it made. A source and a sink are
--- seen by what is left of the one and written of the other, their counts of faults, and what holds of a call that fails.
+-- What a run did to its source and its sink, by its fault, by the database that was opened and by the history of the calls
+-- that it made. A source and a sink are seen by what is left of the one and written of the other, their counts of faults,
+-- and what holds of a call that fails.
 pub record Ran {R W : Type 0} (remaining : R → Option (List ℕ)) (reads : R → ℕ) (read_fails : R → R → Type 0)
     (written : W → Option (List ℕ)) (writes : W → ℕ) (write_fails : W → W → Type 0)
-    (source_old source_new : R) (sink_old sink_new : W) (history : History) (fault : Option TopFault) : Type 0 where
+    (source_old source_new : R) (sink_old sink_new : W) (opened : Option Db) (history : History) (fault : Option TopFault) : Type 0 where
   -- A read fault comes only where the source's count rose, in the last call made of it; else no call met a fault.
   pub read_fault : fault ≡ Some Read → LastFault reads read_fails source_old source_new
   pub read_steady : fault ≢ Some Read → reads source_new ≡ reads source_old
   -- and a write fault only where the sink's did
   pub write_fault : fault ≡ Some Write → LastFault writes write_fails sink_old sink_new
   pub write_steady : fault ≢ Some Write → writes sink_new ≡ writes sink_old
-  -- An input fault is that of the bytes that were read; without a fault their calls were all made and told, but for those that
-  -- memory may keep from being made.
+  -- An input fault is that of the bytes that were read, and never that memory was refused.
   pub input_fault : (why : InputFault) → fault ≡ Some (Input why) → RefusesInput (remaining source_old) (remaining source_new) why
-  pub whole : fault ≡ None → RunsWhole (remaining source_old) (remaining source_new) (written sink_old) (written sink_new) history
+  pub possible : fault ≢ Some (Input input.Memory)
+  -- Without a fault all calls of the input were made over the database that was opened, and told, but for those that memory
+  -- may keep from being made; and none was answered with a fault of the disk.
+  pub whole : fault ≡ None → RunsWhole (remaining source_old) (remaining source_new) (written sink_old) (written sink_new) opened history false
+  -- With a fault of the disk so they were, and one was answered so; or no store was opened, and the input has calls.
+  pub disk : fault ≡ Some Disk → (IsUnserved sink_old sink_new opened history × ReadsScript (remaining source_old) (remaining source_new))
+      ⊎ RunsWhole (remaining source_old) (remaining source_new) (written sink_old) (written sink_new) opened history true
   -- Where writing failed, or memory was refused, the run stopped at a call: those before it were made and told, none after it was
   -- made. A write fault leaves a part of that call's text written, and out of memory nothing of it. Out of memory comes only where
   -- what was read isn't too long for an input.
-  pub in_part : fault ≡ Some Write → RunsInPart (remaining source_old) (remaining source_new) history (ToldInPart (written sink_old) (written sink_new))
-  pub memory : fault ≡ Some Memory → ((sink_new ≡ sink_old) × (history ≡ []))
-      ⊎ RunsInPart (remaining source_old) (remaining source_new) history (ToldBefore (written sink_old) (written sink_new))
+  pub in_part : fault ≡ Some Write → RunsInPart (remaining source_old) (remaining source_new) opened history (ToldInPart (written sink_old) (written sink_new))
+  pub memory : fault ≡ Some Memory → IsUnserved sink_old sink_new opened history
+      ⊎ RunsInPart (remaining source_old) (remaining source_new) opened history (ToldBefore (written sink_old) (written sink_new))
   pub short : fault ≡ Some Memory → ReadsAtMost (remaining source_old) (remaining source_new) INPUT_BYTES
-  -- Any other fault comes before any call, and nothing is written; none tells of a disk.
-  pub silent : IsBeforeCalls fault → (sink_new ≡ sink_old) × (history ≡ [])
-  pub possible : IsWithoutDisk fault
+  -- A damaged store is told of an input that has calls.
+  pub damaged : (area : Area) (offset : ℕ) → fault ≡ Some (Damaged area offset)
+      → IsUnserved sink_old sink_new opened history × ReadsScript (remaining source_old) (remaining source_new)
+  -- Any other fault comes before any opening; and where no store was opened no call is made, and nothing written.
+  pub silent : IsBeforeOpening fault → IsUnserved sink_old sink_new opened history
+  pub unserved : opened ≡ None → IsUnserved sink_old sink_new opened history
   pub at_most : ReadsAtMost (remaining source_old) (remaining source_new) (INPUT_BYTES + 1)
   -- The history has one order, and leaves no bad state at any of its places.
-  pub serial : Serial empty history
+  pub serial : (base : Db) → opened ≡ Some base → Serial base history

@@ -1,7 +1,7 @@
 -- Why a run ended, and its exit status.
 use Rattle.std.specs.Prelude.{ℕ, Option, None, Some}
-use Rattle.engine_core.specs.declared.open.OpenFault.{OpenFault}
-use Rattle.engine_core.specs.declared.open.OpenFault.TheVariants as opening
+use Rattle.crash_recover.specs.declared.open.OpenFault.{OpenFault}
+use Rattle.crash_recover.specs.declared.open.OpenFault.TheVariants as opening
 use Rattle.store_top.specs.declared.served.TopFault.{TopFault}
 use Rattle.store_top.specs.declared.served.TopFault.TheVariants.{Usage, Read, Write, Disk, Damaged, Input, Memory}
 

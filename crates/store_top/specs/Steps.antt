@@ -1,16 +1,24 @@
--- What serving calls one after another does to a history and a sink.
-use Rattle.std.specs.Prelude.{◌≡◌, ◌≢◌, ℕ, ◌+◌, ◌<◌, ◌≤◌, List, [], ◌∷◌, ◌++◌, length, Option, take, Result, Ok, Err, IfOk}
+-- What serving calls one after another does to a history, a sink and a disk.
+use Rattle.std.specs.Prelude.{◌≡◌, ◌≢◌, ◌⊎◌, ℕ, ◌+◌, ◌<◌, ◌≤◌, List, [], ◌∷◌, ◌++◌, length, Bool, true, false, IsTrue, Option, Some, take, Result, Ok, Err, IfOk}
 use Rattle.std.specs.Io.KnownBytes.{Appends}
 use Rattle.std.specs.List.{AllByRecursion}
+use Rattle.std.specs.Option.{option_map_or}
+use Rattle.outer_world.specs.FaultCount.{CountRose}
+use Rattle.outer_world.specs.LeavesOnly.{LeavesOnly}
+use Rattle.own_model.specs.declared.history.Verdict.{Verdict}
 use Rattle.own_model.specs.declared.limit.TheConstants.{INPUT_CALLS, SESSIONS}
+use Rattle.own_model.specs.declared.refusal.Refusal.TheVariants as refusal
+use Rattle.own_model.specs.declared.reply.Reply.TheVariants.{Refused}
 use Rattle.own_model.specs.declared.script.ScriptCall.{ScriptCall}
-use Rattle.own_model.specs.Db.{empty}
+use Rattle.own_model.specs.Db.{Db}
 use Rattle.grammar_model.specs.Readable.{IsReadable}
 use Rattle.script_model.specs.Split.{IsOfASession}
-use Rattle.history_model.specs.History.{History}
+use Rattle.history_model.specs.History.{History, is_disk, reply}
 use Rattle.history_model.specs.Made.{Want, Unmade, Unshown, added, entry_of}
 use Rattle.history_model.specs.MayBeUnmade.{MayBeUnmade}
 use Rattle.transcript_model.specs.Transcript.{IsTranscript, text_of_call}
+use Rattle.crash_model.specs.LeftBy.{IsLeftOf}
+use Rattle.engine_core.specs.Seen.{IsLeftByEither}
 use Rattle.store_top.specs.declared.steps.RunFault.{RunFault}
 use Rattle.store_top.specs.declared.steps.RunFault.TheVariants.{Write, Memory}
 
@@ -32,39 +40,41 @@ abbrev pub ToldBefore : Option (List ℕ) → Option (List ℕ) → List ℕ →
 ToldBefore old new text next = Appends old new text
 
 -- a call's text is written; after a write fault a part of it; where memory was refused nothing
-abbrev pub TellsCall : Result (Unit {0}) RunFault → Option (List ℕ) → Option (List ℕ) → List ℕ → Type 0
+abbrev pub TellsCall : Result Bool RunFault → Option (List ℕ) → Option (List ℕ) → List ℕ → Type 0
 TellsCall (Ok _) old new text = Appends old new text
 TellsCall (Err Write) old new text = ToldInPart old new [] text
 TellsCall (Err Memory) old new text = ToldBefore old new [] text
 
--- The history grew by the call's entry, unless memory kept it from being made, and the text, where there is one, is the
--- call's. A call that was made is told just as the history replies to it.
-pub record MakesCall {T E : Type 0} (bytes_of : T → List ℕ) (call : ScriptCall) (before after : History) (result : Result T E) : Type 0 where
+-- The history grew by the call's entry, with what the disk said, unless memory kept the call from being made; and the text,
+-- where there is one, is the call's. A call that was made is told just as the history replies to it.
+pub record MakesCall {T E : Type 0} (bytes_of : T → List ℕ) (base : Db) (call : ScriptCall) (before after : History) (result : Result T E) : Type 0 where
   pub want : Want
-  pub history_is : after ≡ before ++ added (entry_of call) want
-  pub spared : want ≡ Unmade → MayBeUnmade (entry_of call).request
+  pub verdict : Verdict
+  pub history_is : after ≡ before ++ added (entry_of call verdict) want
+  pub spared : want ≡ Unmade → MayBeUnmade (entry_of call verdict).request
   pub shown : want ≢ Unshown
-  pub text_is : IfOk result (λ text. bytes_of text ≡ text_of_call empty before call want)
+  pub text_is : IfOk result (λ lines. bytes_of lines ≡ text_of_call base before call want verdict)
 
--- The history grew by the call's entry, unless memory kept it from being made, and the sink has what the result says of
--- the call's text.
-pub record MakesCallTo (call : ScriptCall) (before after : History) (old new : Option (List ℕ)) (result : Result (Unit {0}) RunFault) : Type 0 where
+-- The history grew by the call's entry, with what the disk said, unless memory kept the call from being made; and the sink
+-- has what the result says of the call's text.
+pub record MakesCallTo (base : Db) (call : ScriptCall) (before after : History) (old new : Option (List ℕ)) (result : Result Bool RunFault) : Type 0 where
   pub want : Want
-  pub history_is : after ≡ before ++ added (entry_of call) want
-  pub spared : want ≡ Unmade → MayBeUnmade (entry_of call).request
+  pub verdict : Verdict
+  pub history_is : after ≡ before ++ added (entry_of call verdict) want
+  pub spared : want ≡ Unmade → MayBeUnmade (entry_of call verdict).request
   pub shown : want ≢ Unshown
-  pub written : TellsCall result old new (text_of_call empty before call want)
+  pub written : TellsCall result old new (text_of_call base before call want verdict)
 
--- these calls were made in a run, and known bytes grew by its text
-pub record RunsTo (calls : List ScriptCall) (history : History) (old new : Option (List ℕ)) : Type 0 where
+-- these calls were made in a run over a database, and known bytes grew by its text
+pub record RunsTo (base : Db) (calls : List ScriptCall) (history : History) (old new : Option (List ℕ)) : Type 0 where
   pub text : List ℕ
-  pub transcript : IsTranscript empty calls history text
+  pub transcript : IsTranscript base calls history text
   pub written : Appends old new text
 
--- A run stopped at one of the calls: those before it were made and told, no call after it was made, and its own entry is
--- the last, unless memory kept it from being made. What is told is said of the text of the calls before it and of its
--- own.
-pub record StopsAtCall (calls : List ScriptCall) (history : History) (Told : List ℕ → List ℕ → Type 0) : Type 0 where
+-- A run over a database stopped at one of the calls: those before it were made and told, no call after it was made, and
+-- its own entry is the last, unless memory kept it from being made. What is told is said of the text of the calls before it
+-- and of its own.
+pub record StopsAtCall (base : Db) (calls : List ScriptCall) (history : History) (Told : List ℕ → List ℕ → Type 0) : Type 0 where
   pub done : List ScriptCall
   pub last : ScriptCall
   pub rest : List ScriptCall
@@ -72,10 +82,46 @@ pub record StopsAtCall (calls : List ScriptCall) (history : History) (Told : Lis
   -- what the calls before it left
   pub before : History
   pub text : List ℕ
-  pub transcript : IsTranscript empty done before text
+  pub transcript : IsTranscript base done before text
   -- and with it
   pub want : Want
-  pub history_is : history ≡ before ++ added (entry_of last) want
-  pub spared : want ≡ Unmade → MayBeUnmade (entry_of last).request
-  pub made : IsTranscript empty (done ++ last ∷ []) history (text ++ text_of_call empty before last want)
-  pub told : Told text (text_of_call empty before last want)
+  pub verdict : Verdict
+  pub history_is : history ≡ before ++ added (entry_of last verdict) want
+  pub spared : want ≡ Unmade → MayBeUnmade (entry_of last verdict).request
+  pub made : IsTranscript base (done ++ last ∷ []) history (text ++ text_of_call base before last want verdict)
+  pub told : Told text (text_of_call base before last want verdict)
+
+-- whether the entry at a place was answered with a fault of the disk
+abbrev pub fails_at : Db → History → ℕ → Bool
+fails_at base history place = option_map_or is_disk (reply base history place) false
+
+-- an entry was answered with a fault of the disk
+abbrev pub HasFailed : Db → History → Type 0
+HasFailed base history = (place : ℕ) × (reply base history place ≡ Some (Refused refusal.Disk))
+
+-- one was, or none
+abbrev pub TellsFailure : Bool → Db → History → Type 0
+TellsFailure true base history = HasFailed base history
+TellsFailure false base history = HasFailed base history → ⊥
+
+-- What calls did to the disk that made a history from the opening of a store on, whose database so many commits had made.
+-- Its count of faults rose just where an entry was answered so.
+pub record MovesDisk {D : Type 0} (moment : D → ℕ) (might_have_left : D → ℕ → List ℕ → List ℕ → Type 0) (honest : D → Bool) (faults : D → ℕ)
+    (base : Db) (start : ℕ) (history : History) (old new : D) : Type 0 where
+  pub honesty : honest new ≡ honest old
+  pub time : moment old ≤ moment new
+  pub risen : faults old ≤ faults new
+  pub rose : HasFailed base history → CountRose (faults old) (faults new)
+  pub steady : TellsFailure false base history → faults new ≡ faults old
+  -- a crash leaves the first commits, or with all of them the one that the disk failed
+  pub moments : IsTrue (honest old) → LeavesOnly moment might_have_left (IsLeftOf base start history) old new
+
+-- what one call did to it, which made the history grow
+pub record MovesDiskOnce {D : Type 0} (moment : D → ℕ) (might_have_left : D → ℕ → List ℕ → List ℕ → Type 0) (honest : D → Bool) (faults : D → ℕ)
+    (base : Db) (start : ℕ) (before after : History) (old new : D) : Type 0 where
+  pub honesty : honest new ≡ honest old
+  pub time : moment old ≤ moment new
+  pub risen : faults old ≤ faults new
+  pub rose : fails_at base after (length before) ≡ true → CountRose (faults old) (faults new)
+  pub steady : fails_at base after (length before) ≡ false → faults new ≡ faults old
+  pub moments : IsTrue (honest old) → (new ≡ old) ⊎ LeavesOnly moment might_have_left (IsLeftByEither base start before after) old new

@@ -1,33 +1,39 @@
 -- What a run in mode step did, by its fault.
-use Rattle.std.specs.Prelude.{◌≢◌, ◌⊎◌, ℕ, ◌≤◌, List, length, Option, None, Some, Ok, Err}
+use Rattle.std.specs.Prelude.{◌≡◌, ◌≢◌, ℕ, ◌≤◌, List, [], length, Bool, true, false, Option, None, Some, Ok, Err}
 use Rattle.std.specs.Io.KnownBytes.{Consumes, IsAtEnd}
 use Rattle.own_model.specs.declared.script.InputFault.{InputFault}
 use Rattle.own_model.specs.declared.script.InputFault.TheVariants as input
 use Rattle.own_model.specs.declared.script.ScriptCall.{ScriptCall}
+use Rattle.own_model.specs.Db.{Db}
 use Rattle.history_model.specs.History.{History}
 use Rattle.script_model.specs.Script.{IsScript, IsText}
 use Rattle.store_top.specs.declared.served.TopFault.{TopFault}
 use Rattle.store_top.specs.declared.served.TopFault.TheVariants.{Usage, Read, Write, Disk, Damaged, Input, Memory}
-use Rattle.store_top.specs.Steps.{RunsTo, StopsAtCall, ToldBefore, ToldInPart}
+use Rattle.store_top.specs.Steps.{RunsTo, StopsAtCall, TellsFailure, ToldBefore, ToldInPart}
 
--- the input was read to its end, its calls were all made, but for those that memory may keep from being made, and the text
--- of all of them was written
-pub record RunsWhole (remaining_old remaining_new written_old written_new : Option (List ℕ)) (history : History) : Type 0 where
+-- the input was read to its end, and has calls
+pub record ReadsScript (remaining_old remaining_new : Option (List ℕ)) : Type 0 where
   pub bytes : List ℕ
   pub calls : List ScriptCall
   pub read : Consumes remaining_old remaining_new bytes
   pub ends : IsAtEnd remaining_new
   pub is_script : IsScript bytes (Ok calls)
-  pub runs : RunsTo calls history written_old written_new
 
--- the input was read to its end, and the run stopped at one of its calls
-pub record RunsInPart (remaining_old remaining_new : Option (List ℕ)) (history : History) (Told : List ℕ → List ℕ → Type 0) : Type 0 where
-  pub bytes : List ℕ
-  pub calls : List ScriptCall
-  pub read : Consumes remaining_old remaining_new bytes
-  pub ends : IsAtEnd remaining_new
-  pub is_script : IsScript bytes (Ok calls)
-  pub stops : StopsAtCall calls history Told
+-- The input was read to its end and a store opened; its calls were all made over what that left, but for those that memory
+-- may keep from being made, and the text of all of them was written. A call was answered with a fault of the disk, or none.
+pub record RunsWhole (remaining_old remaining_new written_old written_new : Option (List ℕ)) (opened : Option Db) (history : History) (failed : Bool) : Type 0 where
+  pub script : ReadsScript remaining_old remaining_new
+  pub base : Db
+  pub over : opened ≡ Some base
+  pub runs : RunsTo base script.calls history written_old written_new
+  pub failure : TellsFailure failed base history
+
+-- the input was read to its end and a store opened, and the run stopped at one of its calls
+pub record RunsInPart (remaining_old remaining_new : Option (List ℕ)) (opened : Option Db) (history : History) (Told : List ℕ → List ℕ → Type 0) : Type 0 where
+  pub script : ReadsScript remaining_old remaining_new
+  pub base : Db
+  pub over : opened ≡ Some base
+  pub stops : StopsAtCall base script.calls history Told
 
 -- the bytes that were read have this input fault; they were read to their end, unless they are too many
 pub record RefusesInput (remaining_old remaining_new : Option (List ℕ)) (fault : InputFault) : Type 0 where
@@ -42,50 +48,67 @@ pub record ReadsAtMost (remaining_old remaining_new : Option (List ℕ)) (most :
   pub read : Consumes remaining_old remaining_new bytes
   pub few : length bytes ≤ most
 
--- what serving calls left, by the fault; `rose` is said of the sink's count of faults, and `silent` says that no call was
--- made and nothing written
-abbrev pub ServesCalls : List ScriptCall → History → Option (List ℕ) → Option (List ℕ) → Type 0 → Type 0 → Option TopFault → Type 0
-ServesCalls calls history old new rose silent None = RunsTo calls history old new
-ServesCalls calls history old new rose silent (Some Write) = rose × StopsAtCall calls history (ToldInPart old new)
-ServesCalls calls history old new rose silent (Some Memory) = silent ⊎ StopsAtCall calls history (ToldBefore old new)
-ServesCalls calls history old new rose silent (Some Usage) = ⊥
-ServesCalls calls history old new rose silent (Some Read) = ⊥
-ServesCalls calls history old new rose silent (Some Disk) = ⊥
-ServesCalls calls history old new rose silent (Some (Damaged area offset)) = ⊥
-ServesCalls calls history old new rose silent (Some (Input fault)) = ⊥
+-- no store was opened, no call made and nothing written
+pub record IsUnserved {W : Type 0} (sink_old sink_new : W) (opened : Option Db) (history : History) : Type 0 where
+  pub unopened : opened ≡ None
+  pub unwritten : sink_new ≡ sink_old
+  pub uncalled : history ≡ []
 
--- what serving the bytes of an input left, by the fault; memory is taken only for text that isn't too long
-abbrev pub ServesBytes : List ℕ → History → Option (List ℕ) → Option (List ℕ) → Type 0 → Type 0 → Option TopFault → Type 0
-ServesBytes bytes history old new rose silent None = (calls : List ScriptCall) × IsScript bytes (Ok calls) × RunsTo calls history old new
-ServesBytes bytes history old new rose silent (Some Write) = (calls : List ScriptCall) × IsScript bytes (Ok calls) × rose × StopsAtCall calls history (ToldInPart old new)
-ServesBytes bytes history old new rose silent (Some Memory) = IsText bytes × (silent ⊎ ((calls : List ScriptCall) × IsScript bytes (Ok calls) × StopsAtCall calls history (ToldBefore old new)))
-ServesBytes bytes history old new rose silent (Some (Input fault)) = IsScript bytes (Err fault) × (fault ≢ input.Memory) × silent
-ServesBytes bytes history old new rose silent (Some Usage) = ⊥
-ServesBytes bytes history old new rose silent (Some Read) = ⊥
-ServesBytes bytes history old new rose silent (Some Disk) = ⊥
-ServesBytes bytes history old new rose silent (Some (Damaged area offset)) = ⊥
+-- what serving calls over a database left, by the fault; `rose` is said of the sink's count of faults
+abbrev pub ServesCalls : Db → List ScriptCall → History → Option (List ℕ) → Option (List ℕ) → Type 0 → Option TopFault → Type 0
+ServesCalls base calls history old new rose None = RunsTo base calls history old new × TellsFailure false base history
+ServesCalls base calls history old new rose (Some Disk) = RunsTo base calls history old new × TellsFailure true base history
+ServesCalls base calls history old new rose (Some Write) = rose × StopsAtCall base calls history (ToldInPart old new)
+ServesCalls base calls history old new rose (Some Memory) = StopsAtCall base calls history (ToldBefore old new)
+ServesCalls base calls history old new rose (Some Usage) = ⊥
+ServesCalls base calls history old new rose (Some Read) = ⊥
+ServesCalls base calls history old new rose (Some (Damaged area offset)) = ⊥
+ServesCalls base calls history old new rose (Some (Input fault)) = ⊥
 
--- the faults that come before any call
-abbrev pub IsBeforeCalls : Option TopFault → Type 0
-IsBeforeCalls None = ⊥
-IsBeforeCalls (Some Usage) = Unit {0}
-IsBeforeCalls (Some Read) = Unit {0}
-IsBeforeCalls (Some (Input fault)) = Unit {0}
-IsBeforeCalls (Some Write) = ⊥
-IsBeforeCalls (Some Memory) = ⊥
-IsBeforeCalls (Some Disk) = ⊥
-IsBeforeCalls (Some (Damaged area offset)) = ⊥
+-- the faults by which no store is opened
+abbrev pub IsOfOpening : Option TopFault → Type 0
+IsOfOpening (Some Disk) = Unit {0}
+IsOfOpening (Some (Damaged area offset)) = Unit {0}
+IsOfOpening (Some Memory) = Unit {0}
+IsOfOpening None = ⊥
+IsOfOpening (Some Usage) = ⊥
+IsOfOpening (Some Read) = ⊥
+IsOfOpening (Some Write) = ⊥
+IsOfOpening (Some (Input fault)) = ⊥
 
--- the faults that there are while no disk is used
-abbrev pub IsWithoutDisk : Option TopFault → Type 0
-IsWithoutDisk None = Unit {0}
-IsWithoutDisk (Some Usage) = Unit {0}
-IsWithoutDisk (Some Read) = Unit {0}
-IsWithoutDisk (Some (Input fault)) = fault ≢ input.Memory
-IsWithoutDisk (Some Write) = Unit {0}
-IsWithoutDisk (Some Memory) = Unit {0}
-IsWithoutDisk (Some Disk) = ⊥
-IsWithoutDisk (Some (Damaged area offset)) = ⊥
+-- what serving the calls of an input left, by the database that was opened and the fault; `silent` says that nothing was
+-- called or written
+abbrev pub ServesScript : List ScriptCall → Option Db → History → Option (List ℕ) → Option (List ℕ) → Type 0 → Type 0 → Option TopFault → Type 0
+ServesScript calls (Some base) history old new rose silent fault = ServesCalls base calls history old new rose fault
+ServesScript calls None history old new rose silent fault = silent × IsOfOpening fault
+
+-- what is so of bytes by which no store was opened; memory is taken only for text that isn't too long
+abbrev pub IsUnservedInput : List ℕ → Option TopFault → Type 0
+IsUnservedInput bytes (Some Disk) = (calls : List ScriptCall) × IsScript bytes (Ok calls)
+IsUnservedInput bytes (Some (Damaged area offset)) = (calls : List ScriptCall) × IsScript bytes (Ok calls)
+IsUnservedInput bytes (Some Memory) = IsText bytes
+IsUnservedInput bytes (Some (Input fault)) = IsScript bytes (Err fault) × (fault ≢ input.Memory)
+IsUnservedInput bytes None = ⊥
+IsUnservedInput bytes (Some Usage) = ⊥
+IsUnservedInput bytes (Some Read) = ⊥
+IsUnservedInput bytes (Some Write) = ⊥
+
+-- what serving the bytes of an input left
+abbrev pub ServesBytes : List ℕ → Option Db → History → Option (List ℕ) → Option (List ℕ) → Type 0 → Type 0 → Option TopFault → Type 0
+ServesBytes bytes (Some base) history old new rose silent fault =
+    (calls : List ScriptCall) × IsScript bytes (Ok calls) × ServesCalls base calls history old new rose fault
+ServesBytes bytes None history old new rose silent fault = silent × IsUnservedInput bytes fault
+
+-- the faults that come before any opening
+abbrev pub IsBeforeOpening : Option TopFault → Type 0
+IsBeforeOpening (Some Usage) = Unit {0}
+IsBeforeOpening (Some Read) = Unit {0}
+IsBeforeOpening (Some (Input fault)) = Unit {0}
+IsBeforeOpening None = ⊥
+IsBeforeOpening (Some Write) = ⊥
+IsBeforeOpening (Some Memory) = ⊥
+IsBeforeOpening (Some Disk) = ⊥
+IsBeforeOpening (Some (Damaged area offset)) = ⊥
 
 -- the faults that words which are no mode may end with
 abbrev pub IsUsageOrMemory : Option TopFault → Type 0

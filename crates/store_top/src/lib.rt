@@ -2,7 +2,6 @@
 //! words of the program too.
 #![tactic(auto)]
 
-mod built;
 mod running;
 mod served;
 mod steps;

@@ -1,18 +1,27 @@
-ghost use Rattle.std.specs.Prelude.{◌≡◌, ◌≢◌, ◌+◌, ◌≤◌, [], map, IfErr, IfOk, Ok, Some, None, string_bytes, vec_len};
-ghost use Rattle.own_model.specs.Db.{empty};
+ghost use Rattle.std.specs.Prelude.{◌≡◌, ◌≢◌, ◌⊎◌, ◌+◌, ◌≤◌, ℕ, List, [], map, IfErr, IfOk, IsTrue, Ok, Some, None, string_bytes, vec_len};
+ghost use Rattle.own_base.specs.declared.number.Area.TheVariants.{A, B};
+ghost use Rattle.own_model.specs.declared.script.ScriptCall.{ScriptCall};
+ghost use Rattle.own_model.specs.Db.{Db};
+ghost use Rattle.state_model.specs.Sound.{Sound};
 ghost use Rattle.script_model.specs.Numbered.{AreNumbered};
 ghost use Rattle.script_model.specs.Script.{IsScript};
 ghost use Rattle.sql_reader.specs.InputFaults.{IsFaultOf};
 ghost use Rattle.history_model.specs.Serial.{Serial};
-ghost use Rattle.store_top.specs.Status.{status_of, unopened};
+ghost use Rattle.crash_model.specs.LeftBy.{IsLeftBy};
+ghost use Rattle.crash_model.specs.Room.{IsNoRoomExact};
+ghost use Rattle.crash_model.specs.StoreIn.{IsStoreIn};
+ghost use Rattle.engine_core.specs.Seen.{disk_of};
 ghost use Rattle.store_words.specs.Words.{mode_of};
+ghost use Rattle.store_top.specs.OnDisk.{OnDisk};
 ghost use Rattle.store_top.specs.Ran.{LastFault, Ran};
-ghost use Rattle.store_top.specs.Steps.{AreOfInput, AreReadable};
-ghost use Rattle.store_top.specs.Top.{IsUsageOrMemory, ServesBytes, ServesCalls};
+ghost use Rattle.store_top.specs.Status.{status_of, unopened};
+ghost use Rattle.store_top.specs.Steps.{AreOfInput, AreReadable, MovesDisk};
+ghost use Rattle.store_top.specs.Top.{IsUnserved, IsUsageOrMemory, ReadsScript, ServesBytes, ServesCalls, ServesScript};
 
 use crate::served::{Served, TopFault, status};
 use crate::steps::{RunFault, serve_calls};
-use engine_core::{Closed, Engine, OpenFault};
+use crash_recover::OpenFault;
+use engine_core::{Closed, Engine};
 use outer_world::{Disk, Gate, ReadAllFault, Sink, Source, read_all};
 use own_base::List;
 use own_model::{Entry, INPUT_BYTES, InputFault, ScriptCall};
@@ -21,25 +30,27 @@ use std::alloc::{AllocError, Global};
 use std::mem::drop;
 use std::sync::Wait;
 use std::thread::Threads;
+use store_version::Version;
 use store_words::{Mode, mode_of};
 
 /// How a run ended.
-#[derive(Debug)]
 struct Ended<D> {
     fault: Option<TopFault>,
+    opened: Option<Version>,
     history: List<Entry>,
     disk: D,
 }
 
-/// The end of a run in which no call was made.
+/// The end of a run in which no store was opened.
 fn without_calls<D>(alloc: Global, fault: TopFault, disk: D) -> Ended<D>
     ensures fault { result.fault ≡ Some fault }
+    ensures opened { result.opened ≡ None }
     ensures history { result.history ≡ [] }
     ensures disk { result.disk ≡ disk }
-    ensures serial { Serial empty result.history }
 {
     Ended {
         fault: Some(fault),
+        opened: None,
         history: List::new(alloc),
         disk,
     }
@@ -56,8 +67,8 @@ fn unopened(fault: OpenFault) -> TopFault
     }
 }
 
-/// Serves calls over no table.
-fn serve_script<W: Sink, D>(
+/// Opens the store of the disk, and serves calls over it.
+fn serve_script<W: Sink, D: Disk>(
     alloc: Global,
     calls: Vec<ScriptCall>,
     sink: &mut W,
@@ -66,14 +77,14 @@ fn serve_script<W: Sink, D>(
     requires numbered { AreNumbered [] calls.items }
     requires readable { AreReadable calls.items }
     requires input { AreOfInput calls.items }
-    ensures served { ServesCalls calls.items result.history (W.written sink.old) (W.written sink.new) (LastFault W.faults W.fails sink.old sink.new)
+    ensures served { ServesScript calls.items result.opened result.history (W.written sink.old) (W.written sink.new) (LastFault W.faults W.fails sink.old sink.new)
         ((sink.new ≡ sink.old) × (result.history ≡ [])) result.fault }
     ensures steady { result.fault ≢ Some TopFault.Write → W.faults sink.new ≡ W.faults sink.old }
-    ensures disk { result.disk ≡ disk }
-    ensures serial { Serial empty result.history }
+    ensures serial { (base : Db) → result.opened ≡ Some base → Serial base result.history }
+    ensures on_disk { OnDisk D.holds D.leaves D.moment D.might_have_left D.honest D.faults disk result.disk result.opened result.history result.fault }
 {
     match Engine::open_with_room(alloc, disk, calls.len() as u32) {
-        Ok(engine) => serve_engine(alloc, engine, calls, sink),
+        Ok(engine) => serve_engine(engine, alloc, calls, sink),
         Err((fault, disk)) => {
             drop(calls);
             without_calls(alloc, unopened(fault), disk)
@@ -82,33 +93,44 @@ fn serve_script<W: Sink, D>(
 }
 
 /// Serves calls by an engine that has served none yet.
-fn serve_engine<W: Sink, D>(
-    alloc: Global,
+fn serve_engine<W: Sink, D: Disk>(
     engine: Engine<D>,
+    alloc: Global,
     calls: Vec<ScriptCall>,
     sink: &mut W,
 ) -> Ended<D>
-    requires base { engine.base ≡ empty }
+    requires sound { Sound engine.base }
     requires fresh { engine.history ≡ [] }
+    requires left { IsTrue (D.honest (disk_of engine)) → (a b : List ℕ) → D.leaves (disk_of engine) A a → D.leaves (disk_of engine) B b
+        → IsStoreIn a b engine.base engine.start }
     requires room { vec_len calls ≤ engine.spare }
     requires numbered { AreNumbered [] calls.items }
     requires readable { AreReadable calls.items }
     requires input { AreOfInput calls.items }
-    ensures served { ServesCalls calls.items result.history (W.written sink.old) (W.written sink.new) (LastFault W.faults W.fails sink.old sink.new)
-        ((sink.new ≡ sink.old) × (result.history ≡ [])) result.fault }
+    ensures opened { result.opened ≡ Some engine.base }
+    ensures served { ServesCalls engine.base calls.items result.history (W.written sink.old) (W.written sink.new) (LastFault W.faults W.fails sink.old sink.new) result.fault }
     ensures steady { result.fault ≢ Some TopFault.Write → W.faults sink.new ≡ W.faults sink.old }
-    ensures disk { result.disk ≡ engine.disk }
-    ensures serial { Serial empty result.history }
+    ensures serial { Serial engine.base result.history }
+    ensures moves { MovesDisk D.moment D.might_have_left D.honest D.faults engine.base engine.start result.history (disk_of engine) result.disk }
+    ensures left { IsTrue (D.honest result.disk) → (a b : List ℕ) → D.leaves result.disk A a → D.leaves result.disk B b
+        → IsLeftBy engine.base engine.start result.history a b }
+    ensures exact { IsNoRoomExact engine.journal engine.base engine.start result.history }
 {
     let mut engine = engine;
     let fault = match serve_calls(&mut engine, alloc, calls, sink) {
-        Ok(()) => None,
+        Ok(false) => None,
+        Ok(true) => Some(TopFault::Disk),
         Err(RunFault::Write) => Some(TopFault::Write),
         Err(RunFault::Memory) => Some(TopFault::Memory),
     };
-    let Closed { history, disk } = engine.close();
+    let Closed {
+        opened,
+        history,
+        disk,
+    } = engine.close();
     Ended {
         fault,
+        opened: Some(opened),
         history,
         disk,
     }
@@ -126,12 +148,13 @@ fn script_of(alloc: Global, bytes: Vec<u8>) -> Result<Vec<ScriptCall>, InputFaul
 }
 
 /// Serves the calls of an input.
-fn serve_bytes<W: Sink, D>(alloc: Global, bytes: Vec<u8>, sink: &mut W, disk: D) -> Ended<D>
-    ensures served { ServesBytes bytes.items result.history (W.written sink.old) (W.written sink.new) (LastFault W.faults W.fails sink.old sink.new)
+fn serve_bytes<W: Sink, D: Disk>(alloc: Global, bytes: Vec<u8>, sink: &mut W, disk: D) -> Ended<D>
+    ensures served { ServesBytes bytes.items result.opened result.history (W.written sink.old) (W.written sink.new) (LastFault W.faults W.fails sink.old sink.new)
         ((sink.new ≡ sink.old) × (result.history ≡ [])) result.fault }
     ensures steady { result.fault ≢ Some TopFault.Write → W.faults sink.new ≡ W.faults sink.old }
-    ensures disk { result.disk ≡ disk }
-    ensures serial { Serial empty result.history }
+    ensures serial { (base : Db) → result.opened ≡ Some base → Serial base result.history }
+    ensures order { (result.disk ≡ disk) ⊎ ((calls : List ScriptCall) × IsScript bytes.items (Ok calls)) }
+    ensures on_disk { OnDisk D.holds D.leaves D.moment D.might_have_left D.honest D.faults disk result.disk result.opened result.history result.fault }
 {
     match script_of(alloc, bytes) {
         Ok(calls) => serve_script(alloc, calls, sink, disk),
@@ -141,15 +164,16 @@ fn serve_bytes<W: Sink, D>(alloc: Global, bytes: Vec<u8>, sink: &mut W, disk: D)
 }
 
 /// Reads the input whole, and serves its calls.
-fn serve_source<R: Source, W: Sink, D>(
+fn serve_source<R: Source, W: Sink, D: Disk>(
     alloc: Global,
     source: &mut R,
     sink: &mut W,
     disk: D,
 ) -> Ended<D>
-    ensures ran { Ran R.remaining R.faults R.fails W.written W.faults W.fails source.old source.new sink.old sink.new result.history result.fault }
+    ensures ran { Ran R.remaining R.faults R.fails W.written W.faults W.fails source.old source.new sink.old sink.new result.opened result.history result.fault }
     ensures lawful { result.fault ≢ Some TopFault.Usage }
-    ensures disk { result.disk ≡ disk }
+    ensures order { (result.disk ≡ disk) ⊎ ReadsScript (R.remaining source.old) (R.remaining source.new) }
+    ensures on_disk { OnDisk D.holds D.leaves D.moment D.might_have_left D.honest D.faults disk result.disk result.opened result.history result.fault }
 {
     match read_all(alloc, source, INPUT_BYTES + 1) {
         Ok(bytes) => serve_bytes(alloc, bytes, sink, disk),
@@ -162,39 +186,44 @@ fn serve_source<R: Source, W: Sink, D>(
 fn served<D>(ended: Ended<D>) -> Served<D>
     ensures status { result.status ≡ status_of ended.fault }
     ensures fault { result.fault ≡ ended.fault }
+    ensures opened { result.opened ≡ ended.opened }
     ensures history { result.history ≡ ended.history }
     ensures disk { result.disk ≡ ended.disk }
 {
     let Ended {
         fault,
+        opened,
         history,
         disk,
     } = ended;
     Served {
         status: status(&fault),
         fault,
+        opened,
         history,
         disk,
     }
 }
 
-/// What mode `step` does: it reads an input of calls from the source, makes them one after another over no table, and
-/// writes each call's reply to the sink before the next call. It asks no gate and waits for nothing.
+/// What mode `step` does: it reads an input of calls from the source, opens the store of the disk, makes the calls one after
+/// another over it, and writes each call's reply to the sink before the next call. It asks no gate and waits for nothing.
 ///
-/// The disk is given back as it was, until the journal comes. A source that tells nothing of its bytes, or a sink, has
-/// no clause on them.
-pub fn step<R: Source, W: Sink, D>(
+/// A source that tells nothing of its bytes, or a sink, has no clause on them; nor has a disk that isn't honest.
+pub fn step<R: Source, W: Sink, D: Disk>(
     alloc: Global,
     source: &mut R,
     sink: &mut W,
     disk: D,
 ) -> Served<D>
     ensures status { result.status ≡ status_of result.fault }
-    ensures disk { result.disk ≡ disk }
 
     // What was read, made and written, by the fault.
-    ensures ran { Ran R.remaining R.faults R.fails W.written W.faults W.fails source.old source.new sink.old sink.new result.history result.fault }
+    ensures ran { Ran R.remaining R.faults R.fails W.written W.faults W.fails source.old source.new sink.old sink.new result.opened result.history result.fault }
     ensures lawful { result.fault ≢ Some TopFault.Usage }
+
+    // What became of the disk, which is touched only once the input was read to its end and has calls.
+    ensures order { (result.disk ≡ disk) ⊎ ReadsScript (R.remaining source.old) (R.remaining source.new) }
+    ensures on_disk { OnDisk D.holds D.leaves D.moment D.might_have_left D.honest D.faults disk result.disk result.opened result.history result.fault }
 {
     served(serve_source(alloc, source, sink, disk))
 }
@@ -212,16 +241,19 @@ pub fn run<Rt: Threads + Wait + Sync, R: Source, W: Sink, D: Disk + Send, G: Gat
     _gate: &G,
 ) -> Served<D>
     ensures status { result.status ≡ status_of result.fault }
-    ensures disk { result.disk ≡ disk }
 
     // Usage comes where the words are no mode with its arguments, and nowhere else; only out of memory may be told in its
     // place. Then nothing is read.
     ensures usage { result.fault ≡ Some TopFault.Usage → mode_of (map string_bytes words.now) ≡ None }
     ensures unserved { mode_of (map string_bytes words.now) ≡ None → IsUsageOrMemory result.fault × (source.new ≡ source.old)
-        × (sink.new ≡ sink.old) × (result.history ≡ []) }
+        × IsUnserved sink.old sink.new result.opened result.history × (result.disk ≡ disk) }
 
     // What was read, made and written, by the fault.
-    ensures ran { Ran R.remaining R.faults R.fails W.written W.faults W.fails source.old source.new sink.old sink.new result.history result.fault }
+    ensures ran { Ran R.remaining R.faults R.fails W.written W.faults W.fails source.old source.new sink.old sink.new result.opened result.history result.fault }
+
+    // What became of the disk, which is touched only once the input was read to its end and has calls.
+    ensures order { (result.disk ≡ disk) ⊎ ReadsScript (R.remaining source.old) (R.remaining source.new) }
+    ensures on_disk { OnDisk D.holds D.leaves D.moment D.might_have_left D.honest D.faults disk result.disk result.opened result.history result.fault }
 {
     match mode_of(alloc, words) {
         Ok(Some(Mode::Step)) => step(alloc, source, sink, disk),

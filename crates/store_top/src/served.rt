@@ -3,15 +3,17 @@ ghost use Rattle.store_top.specs.Status.{status_of};
 
 use own_base::{Area, List};
 use own_model::{Entry, InputFault};
+use store_version::Version;
 use thiserror::Error;
 
 /// How a run ended, and what it leaves.
-#[derive(Debug)]
 pub struct Served<D> {
     /// The exit status: 0, or the number of the fault.
     pub status: u8,
     /// None exactly with status 0.
     pub fault: Option<TopFault>,
+    /// The state that the opening left; None exactly where no store was opened.
+    pub opened: Option<Version>,
     /// The entries of the calls made, in the order of their events.
     pub history: List<Entry>,
     /// The disk that was handed in.

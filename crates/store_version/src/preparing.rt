@@ -84,7 +84,7 @@ pub fn publish(version: &mut Version, next: Next)
 }
 
 /// Makes one change of a row of a lone table, which tells the row as it is, in the version itself: in place, where nobody
-/// shares the rows that it falls among. Nobody's rows are others' by it. After `AllocError` the version is as it was.
+/// shares the rows that it falls among. Whose each row is stays. After `AllocError` the version is as it was.
 pub fn publish_change(
     alloc: Global,
     version: &mut Version,

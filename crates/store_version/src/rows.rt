@@ -129,6 +129,20 @@ impl Rows {
         })
     }
 
+    /// The rows themselves, whose parts both share.
+    pub(crate) fn copied(&self, alloc: Global) -> Result<Rows, AllocError>
+        ensures { IfOk result (λ rows. rows ≡ self.now) }
+    {
+        let parts = parts_copied(alloc, &self.parts)?;
+        let index = self.index.copy(alloc)?;
+        let catalog = Arc::try_clone(&self.catalog)?;
+        Ok(Rows {
+            catalog,
+            parts,
+            index,
+        })
+    }
+
     /// Makes one change here. After `AllocError` all is as it was.
     pub(crate) fn change(&mut self, alloc: Global, change: &Change) -> Result<(), AllocError>
         requires tells { Tell self.old (change.now ∷ []) }

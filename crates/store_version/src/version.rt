@@ -5,7 +5,7 @@ ghost use Rattle.link_model.specs.Whose.{owners_at, reach_at};
 
 use crate::rows::Rows;
 use annot_schema::Catalog;
-use own_base::{RowName, Subject};
+use own_base::{MakeCopy, RowName, Subject};
 use own_model::Schema;
 use owner_graph::Graph;
 use owner_index::OwnerIndex;
@@ -106,6 +106,15 @@ impl Version {
         ensures { result.now ≡ reach_at self.now name.now }
     {
         self.owners.reach(name)
+    }
+}
+
+impl MakeCopy for Version {
+    /// The version itself, whose parts both share. It takes memory for a list of as many parts as there are tables.
+    fn copy(&self, alloc: Global) -> Result<Version, AllocError> {
+        let rows = self.rows.copied(alloc)?;
+        let owners = self.owners.copy(alloc)?;
+        Ok(Version { rows, owners })
     }
 }
 

@@ -2,4 +2,8 @@
 #![tactic(auto)]
 
 #[cfg(test)]
+mod disks;
+#[cfg(test)]
 mod runs;
+#[cfg(test)]
+mod stops;

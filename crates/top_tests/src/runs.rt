@@ -125,12 +125,14 @@ fn told<Rt: Threads + Wait + Sync>(rt: &Rt, alloc: Global, case: &Case) -> Resul
     let Served {
         status,
         fault,
+        opened,
         history,
         disk,
     } = run(rt, alloc, &words, &mut source, &mut sink, disk, &NowGate);
     let entries = history.items().len();
     drop(history);
     drop(fault);
+    drop(opened);
     drop(disk);
     let output = String::from_utf8_lossy(alloc, sink.bytes())?;
     Ok(format!(in alloc; "{status} {entries} {}", output.as_str())?)
@@ -177,12 +179,14 @@ fn mode_step_asks_the_gate_nothing(rt: HostRuntime) -> Result<(), Fail> {
     let Served {
         status,
         fault,
+        opened,
         history,
         disk,
     } = run(&rt, rt.alloc(), &words, &mut source, &mut sink, disk, &gate);
     let entries = history.items().len();
     drop(history);
     drop(fault);
+    drop(opened);
     drop(disk);
     assert_eq!(rt; status, 0);
     assert_eq!(rt; entries, 4);
@@ -197,18 +201,21 @@ fn mode_step_asks_the_gate_nothing(rt: HostRuntime) -> Result<(), Fail> {
 fn steps_without_words_and_gate(rt: HostRuntime) {
     let mut source = MemSource::new(rt.alloc(), FIRST.as_bytes(), &[]).expect(&rt, "memory");
     let mut sink = MemSink::new(rt.alloc(), &[]).expect(&rt, "memory");
+    let disk = MemDisk::new(rt.alloc(), &[]).expect(&rt, "memory");
     let Served {
         status,
         fault,
+        opened,
         history,
         disk,
-    } = step(rt.alloc(), &mut source, &mut sink, 7);
+    } = step(rt.alloc(), &mut source, &mut sink, disk);
     let entries = history.items().len();
     drop(history);
     drop(fault);
+    drop(opened);
     assert_eq!(rt; status, 0);
     assert_eq!(rt; entries, 4);
-    assert_eq!(rt; disk, 7);
+    drop(disk);
     let output = String::from_utf8_lossy(rt.alloc(), sink.bytes()).expect(&rt, "memory");
     assert_eq!(rt; output.as_str(), CASES[0].output);
 }

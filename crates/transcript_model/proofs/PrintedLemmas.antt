@@ -8,6 +8,7 @@ use Rattle.std.proofs.lemmas.Grind.{flat_map-append}
 use Rattle.std.proofs.lemmas.List.{take-append-le}
 use Rattle.std.proofs.lemmas.List.Sums.{fold-append}
 use Rattle.own_model.specs.declared.history.Entry.{Entry}
+use Rattle.own_model.specs.declared.history.Verdict.{Verdict}
 use Rattle.own_model.specs.declared.script.ScriptCall.{ScriptCall}
 use Rattle.own_model.specs.Db.{Db}
 use Rattle.schema_model.proofs.Places.{slice_get-append_below}
@@ -159,14 +160,14 @@ others_added done entry Spared calls next within = others_within done entry call
 others_added done entry Unshown calls next within = others_within done entry calls next within
 others_added done entry Unmade calls next within = nothing_of calls
 
-is_of_own : (call : ScriptCall) → is_of call (entry_of call) ≡ true
-is_of_own call = search rules
+is_of_own : (call : ScriptCall) (verdict : Verdict) → is_of call (entry_of call verdict) ≡ true
+is_of_own call verdict = search rules
 
-pub place_added : (history : History) (call : ScriptCall) (want : Want) → NoneOf call history
-    → place_of (history ++ added (entry_of call) want) call ≡ place_by want (length history)
-place_added history call Spared none = place_from-last 0 call history (entry_of call) none (is_of_own call) ∙ ap (λ n. Some n) (omega arith)
-place_added history call Unshown none = place_from-last 0 call history (entry_of call) none (is_of_own call) ∙ ap (λ n. Some n) (omega arith)
-place_added history call Unmade none = ap (λ h. place_of h call) (append-nil history) ∙ place_from-none 0 call history none
+pub place_added : (history : History) (call : ScriptCall) (want : Want) (verdict : Verdict) → NoneOf call history
+    → place_of (history ++ added (entry_of call verdict) want) call ≡ place_by want (length history)
+place_added history call Spared verdict none = place_from-last 0 call history (entry_of call verdict) none (is_of_own call verdict) ∙ ap (λ n. Some n) (omega arith)
+place_added history call Unshown verdict none = place_from-last 0 call history (entry_of call verdict) none (is_of_own call verdict) ∙ ap (λ n. Some n) (omega arith)
+place_added history call Unmade verdict none = ap (λ h. place_of h call) (append-nil history) ∙ place_from-none 0 call history none
 
 pub made-append : (calls : List Called) (called : Called) → made (calls ++ called ∷ []) ≡ after_call (made calls) called
 unfolding made

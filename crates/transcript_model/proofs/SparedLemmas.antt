@@ -1,9 +1,12 @@
--- Transcripts of calls that memory refused nothing.
+-- Transcripts of calls that memory refused nothing, and of which the disk took what they wrote.
 use Rattle.std.proofs.Common.{◌≡◌, ℕ, ◌+◌, ◌≤◌, List, [], ◌∷◌, ◌++◌, length, map, fold, refl, ap, sym, subst, ◌∙◌, arith, append-nil, append_assoc}
 use Rattle.std.specs.Prelude.{Bool, true, false, ◌&&◌, Option, None, Some, if◌then◌else◌}
+use Rattle.std.specs.List.{AllByRecursion}
 use Rattle.std.specs.Option.{option_map_or}
 use Rattle.std.proofs.lemmas.List.{length-append, length-map}
 use Rattle.own_model.specs.declared.history.Entry.{Entry}
+use Rattle.own_model.specs.declared.history.Verdict.{Verdict}
+use Rattle.own_model.specs.declared.history.Verdict.TheVariants.{Took}
 use Rattle.own_model.specs.declared.refusal.Refusal.TheVariants.{Memory}
 use Rattle.own_model.specs.declared.reply.Reply.{Reply}
 use Rattle.own_model.specs.declared.reply.Reply.TheVariants.{Refused}
@@ -16,12 +19,12 @@ use Rattle.transcript_model.specs.Printed.{is_shown, lines_at, lines_of, looks, 
 use Rattle.transcript_model.specs.TellsMemory.{TellsMemory}
 use Rattle.transcript_model.specs.Transcript.{IsSpared, IsTranscript, spared}
 
--- calls that memory refused nothing are these calls
+-- calls that memory refused nothing, and the disk took, are these calls
 spared-calls : (called : List Called) → IsSpared called → called ≡ spared (map (λ called. called.call) called)
 spared-calls [] all = refl
-spared-calls (called ∷ rest) all = λ i. record { call = called.call; want = all.0 i } ∷ spared-calls rest all.1 i
+spared-calls (called ∷ rest) all = λ i. record { call = called.call; want = all.0.0 i; verdict = all.0.1 i } ∷ spared-calls rest all.1 i
 
--- the history and the text of a run in which memory refused nothing
+-- the history and the text of a run in which memory refused nothing, and the disk took all
 pub run-spared : (base : Db) (calls : List ScriptCall) (history : History) (text : List ℕ) (run : IsTranscript base calls history text)
     → IsSpared run.called → (history ≡ made (spared calls)) × (text ≡ printed base (made (spared calls)) (spared calls))
 run-spared base calls history text run all =
@@ -84,17 +87,18 @@ found-same : (place session call : ℕ) (looked : Bool) (want : Want) (found : O
 found-same place session call looked want None none = refl
 found-same place session call looked want (Some reply) none = told-same place session call looked want reply none
 
-lines_at-same : (base : Db) (history : History) (call : ScriptCall) (want : Want) (place : Option ℕ)
-    → (TellsMemory (lines_at base history (record { call = call; want = want }) place) → ⊥)
-    → lines_at base history (record { call = call; want = want }) place ≡ lines_at base history (record { call = call; want = Spared }) place
-lines_at-same base history call want None none = refl
-lines_at-same base history call want (Some place) none =
+lines_at-same : (base : Db) (history : History) (call : ScriptCall) (want : Want) (verdict : Verdict) (place : Option ℕ)
+    → (TellsMemory (lines_at base history (record { call = call; want = want; verdict = verdict }) place) → ⊥)
+    → lines_at base history (record { call = call; want = want; verdict = verdict }) place
+    ≡ lines_at base history (record { call = call; want = Spared; verdict = Took }) place
+lines_at-same base history call want verdict None none = refl
+lines_at-same base history call want verdict (Some place) none =
     found-same place call.session.0 call.call (looks base history place) want (reply base history place) none
 
 lines_of-same : (base : Db) (history : History) (called : Called) → (TellsMemory (lines_of base history called) → ⊥)
-    → lines_of base history called ≡ lines_of base history (record { call = called.call; want = Spared })
+    → lines_of base history called ≡ lines_of base history (record { call = called.call; want = Spared; verdict = Took })
 unfolding lines_of
-lines_of-same base history called none = lines_at-same base history called.call called.want (place_of history called.call) none
+lines_of-same base history called none = lines_at-same base history called.call called.want called.verdict (place_of history called.call) none
 
 -- a text that doesn't tell of memory is that of the same calls where memory refuses none
 printed-same : (base : Db) (history : History) (called : List Called) → (TellsMemory (printed base history called) → ⊥)
@@ -104,7 +108,7 @@ printed-same base history [] none = refl
 printed-same base history (first ∷ rest) none =
     ap (λ lines. lines ++ printed base history rest)
     (lines_of-same base history first (λ tells. none (tells-front (lines_of base history first) (printed base history rest) tells)))
-    ∙ ap (λ more. lines_of base history (record { call = first.call; want = Spared }) ++ more)
+    ∙ ap (λ more. lines_of base history (record { call = first.call; want = Spared; verdict = Took }) ++ more)
     (printed-same base history rest (λ tells. none (tells-rest (lines_of base history first) (printed base history rest) tells)))
 
 added_at_most : (history : History) (entry : Entry) (want : Want) → length (history ++ added entry want) ≤ length history + 1
@@ -116,45 +120,84 @@ added_at_most history entry Unmade = omega (arith, length-append history [])
 fold_at_most : (history : History) (called : List Called) → length (fold after_call history called) ≤ length history + length called
 fold_at_most history [] = omega arith
 fold_at_most history (first ∷ rest) =
-    let step = added_at_most history (entry_of first.call) first.want in
+    let step = added_at_most history (entry_of first.call first.verdict) first.want in
     let more = fold_at_most (after_call history first) rest in
     omega arith
 
+-- of every entry the disk took what it wrote
+abbrev AreTaken : History → Type 0
+AreTaken history = AllByRecursion (λ entry. entry.verdict ≡ Took) history
+
+-- so it did of what is before entries more, and of these
+taken_last : (history : History) (entry : Entry) → AreTaken (history ++ entry ∷ []) → entry.verdict ≡ Took
+taken_last [] entry taken = taken.0
+taken_last (first ∷ history) entry taken = taken_last history entry taken.1
+
+taken_front : (history : History) (entry : Entry) (want : Want) → AreTaken (history ++ added entry want) → AreTaken history
+taken_front [] entry want taken = tt
+taken_front (first ∷ history) entry want taken = (taken.0, taken_front history entry want taken.1)
+
+taken_before : (history : History) (called : List Called) → AreTaken (fold after_call history called) → AreTaken history
+taken_before history [] taken = taken
+taken_before history (first ∷ rest) taken =
+    taken_front history (entry_of first.call first.verdict) first.want (taken_before (after_call history first) rest taken)
+
 -- where there is an entry for each call, every call was made
-made_step : (history : History) (call : ScriptCall) (want : Want) (rest : List Called)
-    → length (fold after_call (history ++ added (entry_of call) want) rest) ≡ length history + (length rest + 1)
-    → ((history : History) → length (fold after_call history rest) ≡ length history + length rest
+made_last : (history : History) (call : ScriptCall) (verdict : Verdict) (rest : List Called) → (verdict ≡ Took)
+    → length (fold after_call (history ++ entry_of call verdict ∷ []) rest) ≡ length history + (length rest + 1)
+    → (length (fold after_call (history ++ entry_of call verdict ∷ []) rest) ≡ length (history ++ entry_of call verdict ∷ []) + length rest
+    → fold after_call (history ++ entry_of call verdict ∷ []) rest
+    ≡ fold after_call (history ++ entry_of call verdict ∷ []) (spared (map (λ (c : Called). c.call) rest)))
+    → fold after_call (history ++ entry_of call verdict ∷ []) rest
+    ≡ fold after_call (history ++ entry_of call Took ∷ []) (spared (map (λ (c : Called). c.call) rest))
+made_last history call verdict rest took long more =
+    more (omega (arith, length-append history (entry_of call verdict ∷ [])))
+    ∙ ap (λ verdict. fold after_call (history ++ entry_of call verdict ∷ []) (spared (map (λ (c : Called). c.call) rest))) took
+
+made_step : (history : History) (call : ScriptCall) (want : Want) (verdict : Verdict) (rest : List Called)
+    → length (fold after_call (history ++ added (entry_of call verdict) want) rest) ≡ length history + (length rest + 1)
+    → AreTaken (history ++ added (entry_of call verdict) want)
+    → ((history : History) → length (fold after_call history rest) ≡ length history + length rest → AreTaken (fold after_call history rest)
     → fold after_call history rest ≡ fold after_call history (spared (map (λ (c : Called). c.call) rest)))
-    → fold after_call (history ++ added (entry_of call) want) rest
-    ≡ fold after_call (history ++ entry_of call ∷ []) (spared (map (λ (c : Called). c.call) rest))
-made_step history call Spared rest long more = more (history ++ entry_of call ∷ []) (omega (arith, length-append history (entry_of call ∷ [])))
-made_step history call Unshown rest long more = more (history ++ entry_of call ∷ []) (omega (arith, length-append history (entry_of call ∷ [])))
-made_step history call Unmade rest long more =
+    → AreTaken (fold after_call (history ++ added (entry_of call verdict) want) rest)
+    → fold after_call (history ++ added (entry_of call verdict) want) rest
+    ≡ fold after_call (history ++ entry_of call Took ∷ []) (spared (map (λ (c : Called). c.call) rest))
+made_step history call Spared verdict rest long front more taken =
+    made_last history call verdict rest (taken_last history (entry_of call verdict) front) long
+    (λ long. more (history ++ entry_of call verdict ∷ []) long taken)
+made_step history call Unshown verdict rest long front more taken =
+    made_last history call verdict rest (taken_last history (entry_of call verdict) front) long
+    (λ long. more (history ++ entry_of call verdict ∷ []) long taken)
+made_step history call Unmade verdict rest long front more taken =
     let few = fold_at_most (history ++ []) rest in
     let same = length-append history [] in
     absurd (omega arith)
 
 made_all : (history : History) (called : List Called) → length (fold after_call history called) ≡ length history + length called
+    → AreTaken (fold after_call history called)
     → fold after_call history called ≡ fold after_call history (spared (map (λ (c : Called). c.call) called))
-made_all history [] long = refl
-made_all history (first ∷ rest) long =
-    made_step history first.call first.want rest (omega arith) (λ history long. made_all history rest long)
+made_all history [] long taken = refl
+made_all history (first ∷ rest) long taken =
+    made_step history first.call first.want first.verdict rest (omega arith) (taken_before (after_call history first) rest taken)
+    (λ history long taken. made_all history rest long taken) taken
 
-made-same : (called : List Called) → length (made called) ≡ length called → made called ≡ made (spared (map (λ (c : Called). c.call) called))
+made-same : (called : List Called) → length (made called) ≡ length called → AreTaken (made called)
+    → made called ≡ made (spared (map (λ (c : Called). c.call) called))
 unfolding made
-made-same called long = made_all [] called (omega arith)
+made-same called long taken = made_all [] called (omega arith) taken
 
--- The history and the text of a transcript that has an entry for each call and doesn't tell of memory.
+-- The history and the text of a transcript that has an entry for each call, of which the disk took each, and doesn't tell
+-- of memory.
 pub transcript-full : (base : Db) (calls : List ScriptCall) (history : History) (text : List ℕ) → IsTranscript base calls history text
-    → length history ≡ length calls → (TellsMemory text → ⊥)
+    → length history ≡ length calls → AllByRecursion (λ entry. entry.verdict ≡ Took) history → (TellsMemory text → ⊥)
     → (history ≡ made (spared calls)) × (text ≡ printed base (made (spared calls)) (spared calls))
-transcript-full base calls history text transcript long none =
+transcript-full base calls history text transcript long taken none =
     let called = transcript.called in
     let mapped = length-map called (λ (c : Called). c.call) in
     let counted : length (map (λ (c : Called). c.call) called) ≡ length calls = ap length transcript.calls_are in
     let own : length history ≡ length (made called) = ap length transcript.history_is in
     let full : length (made called) ≡ length called = omega arith in
-    let history_is = transcript.history_is ∙ (made-same called full ∙ ap (λ calls. made (spared calls)) transcript.calls_are) in
+    let history_is = transcript.history_is ∙ (made-same called full (subst AreTaken transcript.history_is taken) ∙ ap (λ calls. made (spared calls)) transcript.calls_are) in
     let silent : TellsMemory (printed base history called) → ⊥ = λ tells. none (subst TellsMemory (sym transcript.text_is) tells) in
     let text_is = transcript.text_is ∙ (printed-same base history called silent ∙ ap (λ calls. printed base history (spared calls)) transcript.calls_are) in
     (history_is, text_is ∙ ap (λ h. printed base h (spared calls)) history_is)

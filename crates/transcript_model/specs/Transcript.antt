@@ -1,6 +1,8 @@
 -- What calls leave that are made one after another: a history and a text.
 use Rattle.std.specs.Prelude.{◌≡◌, ◌≢◌, ℕ, List, ◌++◌, length, map}
 use Rattle.std.specs.List.{AllByRecursion}
+use Rattle.own_model.specs.declared.history.Verdict.{Verdict}
+use Rattle.own_model.specs.declared.history.Verdict.TheVariants.{Took}
 use Rattle.own_model.specs.declared.script.ScriptCall.{ScriptCall}
 use Rattle.own_model.specs.Db.{Db}
 use Rattle.history_model.specs.History.{History}
@@ -9,14 +11,14 @@ use Rattle.history_model.specs.MayBeUnmade.{AreUnmadeByMemory}
 use Rattle.transcript_model.specs.Printed.{lines_at, printed}
 
 -- the text of one call more
-abbrev pub text_of_call : Db → History → ScriptCall → Want → List ℕ
-text_of_call base history call want =
-    lines_at base (history ++ added (entry_of call) want) (record { call = call; want = want }) (place_by want (length history))
+abbrev pub text_of_call : Db → History → ScriptCall → Want → Verdict → List ℕ
+text_of_call base history call want verdict =
+    lines_at base (history ++ added (entry_of call verdict) want) (record { call = call; want = want; verdict = verdict }) (place_by want (length history))
 
 -- The calls were made over a database, in their order and each once, but for those that memory kept from being made; they
 -- made the history, and the text is theirs.
 pub record IsTranscript (base : Db) (calls : List ScriptCall) (history : History) (text : List ℕ) : Type 0 where
-  -- what refused memory did to each call
+  -- what refused memory did to each call, and what the disk said of it
   pub called : List Called
   pub calls_are : map (λ called. called.call) called ≡ calls
   pub unmade : AreUnmadeByMemory called
@@ -25,10 +27,10 @@ pub record IsTranscript (base : Db) (calls : List ScriptCall) (history : History
   pub history_is : history ≡ made called
   pub text_is : text ≡ printed base history called
 
--- each of these calls, where memory refuses none
+-- each of these calls, where memory refuses none and the disk takes what each writes
 abbrev pub spared : List ScriptCall → List Called
-spared calls = map (λ call. record { call = call; want = Spared }) calls
+spared calls = map (λ call. record { call = call; want = Spared; verdict = Took }) calls
 
--- memory refused nothing to these calls
+-- memory refused nothing to these calls, and the disk took what they wrote
 abbrev pub IsSpared : List Called → Type 0
-IsSpared called = AllByRecursion (λ called. called.want ≡ Spared) called
+IsSpared called = AllByRecursion (λ called. (called.want ≡ Spared) × (called.verdict ≡ Took)) called

@@ -1,14 +1,20 @@
+use Rattle.std.proofs.Common.{false, refl, sym}
 use Rattle.state_model.specs.Put.{put}
-use Rattle.engine_core.proofs.Commits.{tells-refusal}
-use Rattle.engine_core.proofs.Nets.{none-of, tells-none}
-use Rattle.std.proofs.Common.{sym}
+use Rattle.engine_core.proofs.Commits.{tells-left, tells-refusal}
+use Rattle.engine_core.proofs.Nets.{left-none, none-of, told-none}
 use Rattle.engine_core.proofs.commit.commit.Goals as goal
 
+-- a refusal stays one
 pub returns-then-is_refusal-clause-tells : goal.returns-then-is_refusal-clause-tells
 returns-then-is_refusal-clause-tells c =
-    tells-refusal c.args.version.now (put c.args.version.now c.args.changes.now) _ _ c.args.reply c.told.result (sym c.if-is_refusal.ensures) c.told.ensures.reply c.told.ensures.stays
+    let refused = sym c.if-is_refusal.ensures in
+    tells-refusal c.args.version.now (put c.args.version.now c.args.changes.now) false _ c.args.reply c.told.result refused (λ verdict. rw refused refl) c.told.ensures.reply c.told.ensures.stays
 
+-- without any change it is told as it ran
 pub returns-then-is_empty-clause-tells : goal.returns-then-is_empty-clause-tells
 returns-then-is_empty-clause-tells c =
-    tells-none c.args.version.now c.requires.sound c.args.changes.now c.requires.net (none-of c.args.changes.now (sym c.if-is_empty.ensures)) c.args.reply c.told-then-is_empty.result
-    c.told-then-is_empty.ensures.reply c.told-then-is_empty.ensures.stays
+    let db = c.args.version.now in
+    let list = c.args.changes.now in
+    let none = none-of list (sym c.if-is_empty.ensures) in
+    tells-left db (put db list) _ c.args.reply c.told-then-is_empty.result (left-none db c.requires.sound list none)
+    (λ verdict. told-none db c.requires.sound verdict list c.args.reply none) c.told-then-is_empty.ensures.reply c.told-then-is_empty.ensures.stays

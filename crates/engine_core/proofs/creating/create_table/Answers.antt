@@ -10,10 +10,9 @@ use Rattle.own_model.specs.declared.schema.Schema.{Schema}
 use Rattle.own_model.specs.Stored.{holds_rows}
 use Rattle.schema_model.specs.Refusal.{refusal_of}
 use Rattle.text_model.specs.Canonical.{canonical}
-use Rattle.run_model.specs.Run.{create_table}
-use Rattle.engine_core.proofs.CreatedTables.{next-table, tells-created, tells-uncreated}
+use Rattle.engine_core.proofs.CreatedTables.{next-table, tells-uncreated}
 use Rattle.engine_core.proofs.FewColumns.{columns-few}
-use Rattle.engine_core.proofs.JudgedCreates.{judged-table}
+use Rattle.engine_core.proofs.RecordedCreates.{tells-table}
 use Rattle.engine_core.proofs.creating.create_table.Goals as goal
 
 pub admit-requires-clause-columns : goal.admit-requires-clause-columns
@@ -29,23 +28,18 @@ returns-in-Err-clause-tells c =
     tells-uncreated db create (refusal_seen c.in-Err.fault) answer is (told.0 ∙ ap (λ why. Refused why) c.into_refusal.ensures) told.1)
     c.refused.ensures
 
--- the table that is admitted is what the next version has more, and nothing is wrong with it
-pub checked-requires : goal.checked-requires
-checked-requires c =
-    let db = c.args.version.now in
-    let create = c.args.create.now in
-    let text = c.in-Ok-print_statement.ensures ∙ ap canonical c.requires.of in
-    let admitted = subst (λ (schema : Schema). IsAdmitted schema (holds_rows db.rows) create c.in-Ok.admitted) c.catalog.ensures.schema c.in-Ok.ensures.admitted in
-    let next = c.in_ok-next-in-Ok-print_statement.next in
-    let made = next-table db next create c.in-Ok.admitted c.in-Ok-print_statement.text admitted text c.in_ok-next-in-Ok-print_statement.ensures in
-    judged-table db next create c.args.weighs c.requires.sound c.requires.weighs (subst (IsWritten STATEMENT_BYTES) c.requires.of c.requires.written) admitted.unrefused made
-
+-- the table that is admitted is what the next version has more, and its text is what is recorded
 pub returns-in_ok-next-in-Ok-print_statement-clause-tells : goal.returns-in_ok-next-in-Ok-print_statement-clause-tells
 returns-in_ok-next-in-Ok-print_statement-clause-tells c =
     let db = c.args.version.now in
     let create = c.args.create.now in
-    let text = c.in-Ok-print_statement.ensures ∙ ap canonical c.requires.of in
-    let admitted = subst (λ (schema : Schema). IsAdmitted schema (holds_rows db.rows) create c.in-Ok.admitted) c.catalog.ensures.schema c.in-Ok.ensures.admitted in
     let next = c.in_ok-next-in-Ok-print_statement.next in
-    let made = next-table db next create c.in-Ok.admitted c.in-Ok-print_statement.text admitted text c.in_ok-next-in-Ok-print_statement.ensures in
-    tells-created db next (create_table db create) c.checked.result made c.checked.ensures.tells
+    let text = c.in-Ok-print_statement.text in
+    let text_is = c.in-Ok-print_statement.ensures ∙ ap canonical c.requires.of in
+    let admitted = subst (λ (schema : Schema). IsAdmitted schema (holds_rows db.rows) create c.in-Ok.admitted) c.catalog.ensures.schema c.in-Ok.ensures.admitted in
+    let next_is = next-table db next create c.in-Ok.admitted text admitted text_is c.in_ok-next-in-Ok-print_statement.ensures in
+    let written = subst (IsWritten STATEMENT_BYTES) c.requires.of c.requires.written in
+    IfOk-weaker c.recorded.result _ _ (λ answer is.
+    tells-table c.canonical_text_reads_back.ensures db next create text c.args.weighs c.record_of_create-framed.result answer c.requires.sound c.requires.weighs written admitted.unrefused text_is next_is
+    c.record_of_create-framed.ensures is)
+    c.recorded.ensures.told

@@ -5,7 +5,7 @@ use Rattle.txn_core.proofs.Statements.{none_moved}
 use Rattle.engine_core.proofs.BoundStatements.{row-bound}
 use Rattle.engine_core.proofs.CalmEvents.{stands-kept}
 use Rattle.engine_core.proofs.OpenStates.{rows-event, serves-either, sound-event, store-event, written-event}
-use Rattle.engine_core.proofs.StatedEvents.{serves-stated, serves-unbound}
+use Rattle.engine_core.proofs.StatedEvents.{serves-stated, serves-unbound, unasked-stated}
 use Rattle.engine_core.proofs.UnmadeEvents.{unmade-within}
 use Rattle.engine_core.proofs.inside.serve_stated.Goals as goal
 
@@ -58,3 +58,13 @@ returns-in-Err-clause-served c =
       c.requires.event.stands,
       unmade-within c.args.history.now c.args.entry.now c.args.state.now c.requires.event c.requires.open c.args.statement.now c.requires.asks c.requires.takes,
     ))
+
+-- none of these asks the disk
+pub returns-in-Ok-replied-clause-unasked : goal.returns-in-Ok-replied-clause-unasked
+returns-in-Ok-replied-clause-unasked c = unasked-stated c.args.history.now c.args.entry.now c.args.state.now c.requires.event c.requires.open c.args.statement.now c.requires.asks c.requires.takes
+
+pub returns-in-Err-replied-clause-unasked : goal.returns-in-Err-replied-clause-unasked
+returns-in-Err-replied-clause-unasked c = unasked-stated c.args.history.now c.args.entry.now c.args.state.now c.requires.event c.requires.open c.args.statement.now c.requires.asks c.requires.takes
+
+pub returns-in-Err-clause-unasked : goal.returns-in-Err-clause-unasked
+returns-in-Err-clause-unasked c = unasked-stated c.args.history.now c.args.entry.now c.args.state.now c.requires.event c.requires.open c.args.statement.now c.requires.asks c.requires.takes

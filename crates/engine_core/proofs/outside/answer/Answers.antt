@@ -1,5 +1,4 @@
 use Rattle.std.proofs.Common.{◌∙◌}
-use Rattle.own_model.specs.Db.{empty}
 use Rattle.history_model.specs.History.{world}
 use Rattle.engine_core.proofs.OutsideReplies.{tells-explain}
 use Rattle.engine_core.proofs.outside.answer.Goals as goal

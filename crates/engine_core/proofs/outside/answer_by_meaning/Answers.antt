@@ -1,14 +1,14 @@
-use Rattle.std.proofs.Common.{subst}
+use Rattle.std.proofs.Common.{false, subst}
 use Rattle.std.proofs.lemmas.Result.{IfOk-weaker}
 use Rattle.own_model.specs.declared.request.Request.TheVariants.{Run}
-use Rattle.own_model.specs.Db.{empty}
 use Rattle.state_model.specs.Sound.{IsWellFormed}
 use Rattle.state_model.proofs.CreatedSchema.{views_within-created}
 use Rattle.readable_model.proofs.Within.{statement_within}
 use Rattle.run_model.specs.Run.{Outcome}
 use Rattle.run_model.proofs.KeptRuns.{kept-run}
 use Rattle.history_model.specs.History.{world}
-use Rattle.engine_core.proofs.BoundStatements.{erases-as_bound, erases-refused, meant-bound, run-bound, tells-refused}
+use Rattle.engine_core.proofs.BoundStatements.{commit-as_bound, erases-as_bound, erases-refused, meant-bound, run-bound}
+use Rattle.engine_core.proofs.Commits.{tells-alike, tells-committing, tells-refused}
 use Rattle.engine_core.proofs.OutsideReplies.{reply-meant_in, reply-refused_in}
 use Rattle.engine_core.proofs.outside.answer_by_meaning.Goals as goal
 
@@ -35,10 +35,11 @@ returns-in-Ok-clause-tells c =
     let state = c.args.asker.now.state.now in
     let asked = c.args.statement.now in
     let is = rw (c.schema.ensures.same, c.catalog.ensures.schema) at c.in-Ok.ensures.ok in
-    rw (
-      reply-meant_in state (world c.args.asker.now.state.now.opened c.args.asker.now.history.now) c.requires.stands c.args.asker.now.session.0 asked c.in-Ok.bound c.requires.bound is,
-      run-bound state.version asked c.in-Ok.bound c.requires.bound is,
-    ) c.answer_meant-answer.ensures.tells
+    rw (run-bound state.version asked c.in-Ok.bound c.requires.bound is)
+    (IfOk-weaker c.answer_meant-answer.result _ _ (λ answer tells. tells-alike state.version false _ _ _ answer
+    (λ verdict. reply-meant_in state (world c.args.asker.now.state.now.opened c.args.asker.now.history.now) c.requires.stands c.args.asker.now.session.0 verdict asked c.in-Ok.bound c.requires.bound is)
+    (tells-committing state.version false answer (commit-as_bound state.version _ asked c.in-Ok.bound c.requires.bound is) tells))
+    c.answer_meant-answer.ensures.tells)
 
 pub returns-in-Ok-clause-erases : goal.returns-in-Ok-clause-erases
 returns-in-Ok-clause-erases c =
@@ -54,8 +55,9 @@ returns-in-Err-clause-tells c =
     let asked = c.args.statement.now in
     IfOk-weaker c.refused.result _ _ (λ answer told.
     let is = rw (c.schema.ensures.same, c.catalog.ensures.schema) at (c.in-Err.ensures.err told.3) in
-    rw (reply-refused_in state (world c.args.asker.now.state.now.opened c.args.asker.now.history.now) c.requires.stands c.args.asker.now.session.0 asked c.in-Err.why c.requires.bound is)
-    (tells-refused state.version _ c.in-Err.why answer told.0 told.1))
+    tells-refused state.version _ false _ c.in-Err.why answer
+    (λ verdict. reply-refused_in state (world c.args.asker.now.state.now.opened c.args.asker.now.history.now) c.requires.stands c.args.asker.now.session.0 verdict asked c.in-Err.why c.requires.bound is)
+    told.0 told.1)
     c.refused.ensures
 
 pub returns-in-Err-clause-erases : goal.returns-in-Err-clause-erases

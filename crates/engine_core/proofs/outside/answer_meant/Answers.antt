@@ -1,7 +1,6 @@
-use Rattle.own_model.specs.Db.{empty}
 use Rattle.history_model.specs.History.{world}
 use Rattle.write_eval.proofs.StoredTables.{stored_tables}
-use Rattle.engine_core.proofs.Forgotten.{tells-shown}
+use Rattle.engine_core.proofs.Forgotten.{tells-selected, tells-shown}
 use Rattle.engine_core.proofs.KeptViews.{views_there-created}
 use Rattle.engine_core.proofs.outside.answer_meant.Goals as goal
 
@@ -10,6 +9,12 @@ select_reply-requires-clause-tables c = stored_tables c.args.asker.now.state.now
 
 pub select_reply-requires-clause-views : goal.select_reply-requires-clause-views
 select_reply-requires-clause-views c = views_there-created c.args.asker.now.state.now.version c.requires.sound.well_formed.created
+
+-- a SELECT reads, and leaves the state
+pub returns-in_ok-reply-in-Select-clause-tells : goal.returns-in_ok-reply-in-Select-clause-tells
+returns-in_ok-reply-in-Select-clause-tells c =
+    let db = c.args.asker.now.state.now.version in
+    rw c.in-Select.is (tells-selected (world c.args.asker.now.state.now.opened c.args.asker.now.history.now) db c.args.asker.now.session.0 c.in-Select.query c.told.result (rw c.told.ensures.reply c.in_ok-reply-in-Select.ensures) c.told.ensures.stays)
 
 -- a GDPR GET shows, and leaves the state
 pub returns-in_ok-reply-in-Get-clause-tells : goal.returns-in_ok-reply-in-Get-clause-tells

@@ -1,9 +1,10 @@
-use Rattle.std.proofs.Common.{◌∙◌, List, true, ap, subst, sym}
+use Rattle.std.proofs.Common.{◌∙◌, List, false, ap, subst, sym}
 use Rattle.own_base.specs.declared.change.Change.{Change}
 use Rattle.move_model.specs.declared.owner_move.OwnerMove.{OwnerMove}
 use Rattle.move_model.specs.Moves.{AreMovesOf}
 use Rattle.state_model.specs.Put.{put}
 use Rattle.state_model.proofs.CreatedSchema.{owner_schema-created, within-created}
+use Rattle.commit_record.proofs.Named.{there-short}
 use Rattle.engine_core.proofs.Erased.{erases-forgotten, forgot-accepted, tells-erasing}
 use Rattle.engine_core.proofs.Forgotten.{erased-sound, few-erased, lent-there, planned-next, tells-forgotten}
 use Rattle.engine_core.proofs.subjects.forget.Goals as goal
@@ -44,6 +45,13 @@ weight_left-left-requires c =
       moves = subst (λ (list : List OwnerMove). AreMovesOf db (put db c.items-4.result.now) list) (sym c.items-5.ensures) moves;
     }
 
+-- the name of a row that is there is short
+pub record_of_forget-framed-requires : goal.record_of_forget-framed-requires
+record_of_forget-framed-requires c =
+    let db = c.args.version.now in
+    let subject = c.args.subject.now.0 in
+    there-short db subject c.requires.sound (lent-there db subject c.row.result c.row.ensures c.if-is_none.ensures)
+
 -- it is told with its counts
 told : goal.returns-in-Ok-clause-tells
 told c =
@@ -54,8 +62,9 @@ told c =
     let sound = erased-sound db next subject c.requires.subject c.requires.sound is in
     let there = lent-there db subject c.row.result c.row.ensures c.if-is_none.ensures in
     let counted = rw c.items-3.ensures at c.forgotten-reply.ensures in
-    tells-erasing db _ _ c.decided.result c.erasing.result c.erasing.ensures.reply c.erasing.ensures.next
-    (tells-forgotten db next subject c.in_ok-changes.changes c.forgotten-reply.result c.decided.result there is sound.faultless c.in_ok-changes.ensures.plan counted (c.decided.ensures.tells db true (sound.faultless, sym c.in-Ok.ensures) tt))
+    tells-erasing db false _ _ c.in_ok-recorded-in-Ok.field-0 c.erasing.result c.erasing.ensures.reply c.erasing.ensures.next
+    (tells-forgotten db next subject c.in_ok-changes.changes c.forgotten-reply.result c.in-Ok.left c.record_of_forget-framed.result c.in_ok-recorded-in-Ok.field-0 c.requires.subject c.requires.sound sound there is
+    c.in-Ok.ensures c.in_ok-changes.ensures.plan counted c.record_of_forget-framed.ensures.framed c.record_of_forget-framed.ensures.never c.in_ok-recorded-in-Ok.ensures.told)
 
 pub returns-in-Ok-clause-tells : goal.returns-in-Ok-clause-tells
 returns-in-Ok-clause-tells c = told c

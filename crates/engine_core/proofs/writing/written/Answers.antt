@@ -1,5 +1,4 @@
 use Rattle.std.proofs.lemmas.Result.{IfErr-weaker, IfOk-weaker}
-use Rattle.own_model.specs.Db.{empty}
 use Rattle.history_model.specs.History.{world}
 use Rattle.write_eval.proofs.StoredTables.{stored_tables}
 use Rattle.engine_core.proofs.Writes.{free-kept, left-changed, net-changed, refused-kept}
@@ -27,4 +26,4 @@ returns-clause-left c =
 pub returns-clause-refused : goal.returns-clause-refused
 returns-clause-refused c =
     IfErr-weaker c.single.result _ _
-    (λ why is other. refused-kept c.args.asker.now.state.now (world c.args.asker.now.state.now.opened c.args.asker.now.history.now) c.requires.stands c.args.asker.now.session.0 c.args.bound.now why (is other)) c.single.ensures.err
+    (λ why is other verdict. refused-kept c.args.asker.now.state.now (world c.args.asker.now.state.now.opened c.args.asker.now.history.now) c.requires.stands c.args.asker.now.session.0 c.args.bound.now verdict why (is other)) c.single.ensures.err

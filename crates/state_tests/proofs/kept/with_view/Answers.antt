@@ -4,7 +4,7 @@ use Rattle.own_model.specs.declared.limit.TheConstants.{STATEMENT_BYTES}
 use Rattle.readable_model.proofs.Within.{view_within}
 use Rattle.text_model.specs.Canonical.{canonical}
 use Rattle.state_model.proofs.CreatedSchema.{views_within-created}
-use Rattle.engine_core.proofs.CreatedTables.{next-view, view-room}
+use Rattle.engine_core.proofs.CreatedTables.{made-view, next-view, view-room}
 use Rattle.state_tests.proofs.KeptNext.{kept-view}
 use Rattle.state_tests.proofs.kept.with_view.Goals as goal
 
@@ -15,7 +15,7 @@ pub bind_view-requires-clause-items : goal.bind_view-requires-clause-items
 bind_view-requires-clause-items g c = view_within c.args.create.now (subst (IsWritten STATEMENT_BYTES) c.requires.of c.requires.written)
 
 pub prepare_view-requires : goal.prepare_view-requires
-prepare_view-requires g c = view-room c.args.version.now.schema c.args.create.now c.in-Ok.definition (rw (c.schema.ensures.same, c.catalog.ensures.schema) at c.in-Ok.ensures.ok)
+prepare_view-requires g c = view-room c.args.version.now c.args.create.now c.in-Ok.definition (rw (c.schema.ensures.same, c.catalog.ensures.schema) at c.in-Ok.ensures.ok)
 
 pub returns : goal.returns
 returns g c =
@@ -23,5 +23,6 @@ returns g c =
     let create = c.args.create.now in
     let text = (rw c.expect-text.ensures at c.print_statement.ensures) ∙ ap canonical c.requires.of in
     let is = rw (c.schema.ensures.same, c.catalog.ensures.schema) at c.in-Ok.ensures.ok in
-    let made = next-view db c.expect.result create c.in-Ok.definition c.expect-text.result is text (rw c.expect.ensures at c.prepare_view.ensures) in
+    let next = next-view db c.expect.result create c.in-Ok.definition c.expect-text.result is text (rw c.expect.ensures at c.prepare_view.ensures) in
+    let made = made-view db c.expect.result create c.in-Ok.definition is next in
     kept-view db c.expect.result create c.requires.well_formed (subst (IsWritten STATEMENT_BYTES) c.requires.of c.requires.written) made

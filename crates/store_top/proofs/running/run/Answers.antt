@@ -7,13 +7,19 @@ pub returns-in-Ok-None-clause-ran : goal.returns-in-Ok-None-clause-ran
 returns-in-Ok-None-clause-ran g c =
     let source = g.R.Source in
     let sink = g.W.Sink in
-    rw (c.served.ensures.fault ∙ c.without_calls.ensures.fault) (ran-usage source.remaining source.faults source.fails sink.written sink.faults sink.fails c.args.source.now c.args.source.now
-    c.args.sink.now c.args.sink.now c.served.result.history refl refl (c.served.ensures.history ∙ c.without_calls.ensures.history) (reads-nothing (source.remaining c.args.source.now)))
+    let end = c.served.ensures in
+    let ended = c.without_calls.ensures in
+    rw (end.fault ∙ ended.fault) (ran-usage source.remaining source.faults source.fails sink.written sink.faults sink.fails c.args.source.now c.args.source.now
+    c.args.sink.now c.args.sink.now c.served.result.opened c.served.result.history
+    (record { unopened = end.opened ∙ ended.opened; unwritten = refl; uncalled = end.history ∙ ended.history }) (reads-nothing (source.remaining c.args.source.now)) refl)
 
 -- memory for the words was refused
 pub returns-in-Err-clause-ran : goal.returns-in-Err-clause-ran
 returns-in-Err-clause-ran g c =
     let source = g.R.Source in
     let sink = g.W.Sink in
-    rw (c.served-in-Err.ensures.fault ∙ c.without_calls-in-Err.ensures.fault) (ran-out_of_memory source.remaining source.faults source.fails sink.written sink.faults sink.fails c.args.source.now c.args.source.now
-    c.args.sink.now c.args.sink.now c.served-in-Err.result.history refl refl (c.served-in-Err.ensures.history ∙ c.without_calls-in-Err.ensures.history) (reads-nothing (source.remaining c.args.source.now)))
+    let end = c.served-in-Err.ensures in
+    let ended = c.without_calls-in-Err.ensures in
+    rw (end.fault ∙ ended.fault) (ran-out_of_memory source.remaining source.faults source.fails sink.written sink.faults sink.fails c.args.source.now c.args.source.now
+    c.args.sink.now c.args.sink.now c.served-in-Err.result.opened c.served-in-Err.result.history
+    (record { unopened = end.opened ∙ ended.opened; unwritten = refl; uncalled = end.history ∙ ended.history }) (reads-nothing (source.remaining c.args.source.now)) refl)

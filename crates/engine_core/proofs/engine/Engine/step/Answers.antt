@@ -1,48 +1,71 @@
-use Rattle.std.proofs.Common.{◌∙◌, ap, arith, refl, subst, sym}
+use Rattle.std.proofs.Common.{◌∙◌, ◌-◌, ap, refl, subst, sym}
+use Rattle.std.specs.Prelude.{is_some, vec_len}
+use Rattle.std.specs.Vec.{vec_capacity}
 use Rattle.own_model.specs.declared.history.Entry.{Entry}
-use Rattle.state_model.specs.Sound.{Sound}
-use Rattle.history_model.specs.History.{world}
-use Rattle.history_model.specs.MayBeUnmade.{MayBeUnmadeFrom}
+use Rattle.own_model.specs.declared.history.Verdict.TheVariants.{Took}
+use Rattle.own_model.specs.Db.{Db}
 use Rattle.history_model.proofs.EveryHistory.{serial-history}
-use Rattle.engine_core.specs.Made.{IsMade}
-use Rattle.engine_core.specs.Seen.{base_of, disk_of, entry as made, history_of, spare_of}
-use Rattle.engine_core.proofs.RepresentsLemmas.{built-request, history-after, leaves-of, makes-of}
+use Rattle.history_model.proofs.HistoryLemmas.{flat-world}
+use Rattle.store_disk.specs.Kept.{IsKept}
+use Rattle.engine_core.specs.Seen.{Seen, Steps, entry as made}
+use Rattle.engine_core.specs.declared.step.NoLook.{NoLook}
+use Rattle.engine_core.specs.declared.step.Step.{Step}
+use Rattle.engine_core.proofs.EngineStands.{makes-made, stands-after, writes-made}
+use Rattle.engine_core.proofs.RepresentsLemmas.{leaves-of}
 use Rattle.engine_core.proofs.engine.Engine.step.Goals as goal
 use Rattle.engine_core.proofs.engine.Engine.step.Goals.{in-Err, in-Ok}
 
-pub make-requires : goal.make-requires
-make-requires g c = record {
-  event = record {
-    entries = c.self.invariant.0;
-    begun = c.self.invariant.2;
-    stands = c.self.invariant.1;
-    is_entry = record { readable = c.requires.readable; first = c.requires.first; last = c.requires.last };
-    took = refl;
-    built = built-request c.args.request c.requires.built;
-  };
+-- while the disk hasn't failed it keeps the state
+pub make-requires-clause-store : goal.make-requires-clause-store
+make-requires-clause-store g c none = record {
+  sound = c.self.invariant.failed ∙ ap is_some none;
+  kept = λ honest.
+      let D = g.D.Disk in
+      let store = c.self.inside.store in
+      subst (λ db. IsKept D.holds D.leaves store.journal db store.commits) (flat-world _ _ ∙ sym c.self.invariant.represents.flat) (c.self.invariant.kept none honest);
 }
+
+pub invariant_of-self : goal.invariant_of-self
+invariant_of-self g c =
+    let D = g.D.Disk in
+    let was = c.self.inside in
+    let now = c.make.new in
+    stands-after D.holds D.leaves D.moment D.might_have_left D.honest D.faults g.met.D.Disk.only_now g.met.D.Disk.now_counts was.start (record { epoch = was.epoch; end = was.end }) was.state now.state was.store now.store was.down now.down was.history.items now.history.items
+    c.self.invariant c.make.ensures.opened (made c.args.session c.args.call c.args.request Took) refl
+    (record { readable = c.requires.readable; first = c.requires.first; last = c.requires.last }) c.make.result c.make.ensures.made c.make.ensures.unmade
 
 pub returns-clause-steps : goal.returns-clause-steps
 returns-clause-steps g c =
-    let based = ap base_of c.self.view_is in
-    let same = ap history_of c.self.view_is in
-    let spare = ap spare_of c.self.view_is in
-    let entry : Entry = made c.args.session c.args.call c.args.request in
+    let D = g.D.Disk in
+    let was = c.self.inside in
+    let now = c.make.new in
+    let call : Entry = made c.args.session c.args.call c.args.request Took in
+    let spare = vec_capacity was.history - vec_len was.history in
+    let spare_after = vec_capacity now.history - vec_len now.history in
+    let before : Seen g.row.D.Denot = record { base = was.state.opened; start = was.start; journal = record { epoch = was.epoch; end = was.end }; history = was.history.items; spare = spare; store = was.store } in
+    let after : Db → Seen g.row.D.Denot = λ base. record { base = base; start = was.start; journal = record { epoch = was.epoch; end = was.end }; history = now.history.items; spare = spare_after; store = now.store } in
+    let steps : Step NoLook → Type 0 = λ step. Steps D.holds D.moment D.might_have_left D.honest D.faults before (after was.state.opened) call step in
+    let told : steps c.match-make.result =
     elim c.match-make.branch [
-      | in-Ok w ↦ rw w.result-is
-          (makes-of c.args.self.now _ c.make.new.state entry w.in-Ok.place.0 w.in-Ok.reply
-          (subst (λ base. IsMade base c.args.self.now.history c.make.new.history.items c.make.new.state entry w.in-Ok.place.0 w.in-Ok.reply) based
-          (subst (λ history. IsMade c.self.inside.state.opened history c.make.new.history.items c.make.new.state entry w.in-Ok.place.0 w.in-Ok.reply) same w.in-Ok.ensures.made))
-          (let room = c.make.ensures.room in omega arith) (ap disk_of c.self.view_is) (c.make.ensures.opened ∙ based))
-      | in-Err w ↦ rw w.result-is
-          (leaves-of c.args.self.now _ entry (w.in-Err.ensures.unmade.0 ∙ same) (let room = w.in-Err.ensures.room_left in omega arith) (ap disk_of c.self.view_is) (c.make.ensures.opened ∙ based)
-          (λ some. subst (λ base. MayBeUnmadeFrom (world base c.args.self.now.history).flat.schema ((world base c.args.self.now.history).standing c.args.session.0) c.args.request) based
-          (subst (λ history. MayBeUnmadeFrom (world c.self.inside.state.opened history).flat.schema ((world c.self.inside.state.opened history).standing c.args.session.0) c.args.request) same
-          (w.in-Err.ensures.spared (omega arith)))))
-    ]
+      | in-Ok w ↦ subst steps (sym w.result-is) (
+        w.in-Ok.ensures.made.verdict,
+        makes-made D.holds D.leaves D.moment D.might_have_left D.honest D.faults g.met.D.Disk.only_now g.met.D.Disk.now_counts was.start (record { epoch = was.epoch; end = was.end }) was.state now.state was.store now.store was.down now.down was.history.items
+            now.history.items c.self.invariant call refl w.in-Ok.place.0 w.in-Ok.reply w.in-Ok.ensures.made spare spare_after c.make.ensures.room,
+        writes-made D.holds D.leaves D.moment D.might_have_left D.honest D.faults g.met.D.Disk.only_now g.met.D.Disk.now_counts was.start (record { epoch = was.epoch; end = was.end }) was.state now.state was.store now.store was.down now.down was.history.items
+            now.history.items c.self.invariant call refl w.in-Ok.place.0 w.in-Ok.reply w.in-Ok.ensures.made spare spare_after,
+      )
+      | in-Err w ↦ subst steps (sym w.result-is)
+          (leaves-of was.state.opened was.start _ was.history.items now.history.items spare spare_after was.store now.store call w.in-Err.ensures.unmade.0 w.in-Err.ensures.room_left w.in-Err.ensures.unmade.2
+          w.in-Err.ensures.spared)
+    ] in
+    subst (λ seen. Steps D.holds D.moment D.might_have_left D.honest D.faults seen (after now.state.opened) call c.match-make.result) c.self.view_is
+    (subst (λ base. Steps D.holds D.moment D.might_have_left D.honest D.faults before (after base) call c.match-make.result) (sym c.make.ensures.opened) told)
 
 pub returns-clause-serial : goal.returns-clause-serial
-returns-clause-serial g c =
-    serial-history c.make.new.state.opened c.make.new.history.items (subst Sound (sym c.make.ensures.opened) c.self.invariant.2)
-    (history-after c.self.inside.state.opened c.self.inside.history.items c.make.new.history.items c.make.new.state _ c.make.result c.self.invariant.0
-    (record { readable = c.requires.readable; first = c.requires.first; last = c.requires.last }) c.make.ensures.made c.make.ensures.unmade).0
+returns-clause-serial g c = let stands = invariant_of-self g c in serial-history c.make.new.state.opened c.make.new.history.items stands.begun stands.entries
+
+pub returns-clause-count : goal.returns-clause-count
+returns-clause-count g c = (invariant_of-self g c).count
+
+pub returns-clause-left : goal.returns-clause-left
+returns-clause-left g c = (invariant_of-self g c).left

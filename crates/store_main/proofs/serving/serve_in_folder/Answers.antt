@@ -1,0 +1,13 @@
+use Rattle.std.proofs.Common.{inl, inr, refl}
+use Rattle.store_main.proofs.Ends.{over-memory}
+use Rattle.store_main.proofs.serving.serve_in_folder.Goals as goal
+
+-- the files could not be opened
+pub returns-in-Err-clause-ran : goal.returns-in-Err-clause-ran
+returns-in-Err-clause-ran g c =
+    let source = g.R.Source in
+    let sink = g.W.Sink in
+    elim c.without_files.ensures.other [
+      | inl memory ↦ rw memory (inl (over-memory source.remaining source.faults source.fails sink.written sink.faults sink.fails _ c.args.source.now c.args.sink.now))
+      | inr disk ↦ inr (record { told = disk; unread = refl; unwritten = refl })
+    ]

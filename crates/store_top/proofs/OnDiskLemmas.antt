@@ -1,0 +1,135 @@
+-- What a run did to its disk, by how it ended.
+use Rattle.std.proofs.Common.{◌≡◌, ℕ, ◌≤◌, List, Bool, IsTrue, inl, inr, refl, ap, sym, subst, ◌∙◌, arith}
+use Rattle.std.specs.Prelude.{◌≢◌, ◌⊎◌, Option, None, Some}
+use Rattle.own_base.specs.declared.number.Area.{Area}
+use Rattle.own_base.specs.declared.number.Area.TheVariants.{A, B}
+use Rattle.outer_world.specs.FaultCount.{CountRose}
+use Rattle.outer_world.specs.LeavesOnly.{LeavesOnly}
+use Rattle.outer_world.specs.Stays.{Stays}
+use Rattle.outer_world.proofs.Moments.{begun, then, weaker}
+use Rattle.own_model.specs.declared.script.ScriptCall.{ScriptCall}
+use Rattle.own_model.specs.Db.{Db}
+use Rattle.history_model.specs.History.{History}
+use Rattle.disk_model.specs.Judged.{IsJudged}
+use Rattle.disk_model.specs.JudgedArea as found
+use Rattle.crash_model.specs.LeftBy.{IsLeftBy, IsLeftOf}
+use Rattle.crash_model.specs.Room.{IsNoRoomExact, JournalEnd}
+use Rattle.crash_model.specs.StoreIn.{IsStoreIn}
+use Rattle.crash_recover.specs.Opening.{IsLeft}
+use Rattle.crash_recover.specs.declared.open.OpenFault.{OpenFault}
+use Rattle.crash_recover.specs.declared.open.OpenFault.TheVariants as opening
+use Rattle.store_disk.specs.OpensAt.{OpensAt}
+use Rattle.store_top.specs.declared.served.TopFault.{TopFault}
+use Rattle.store_top.specs.declared.served.TopFault.TheVariants.{Disk, Damaged}
+use Rattle.store_top.specs.OnDisk.{IsServedOn, OnDisk}
+use Rattle.store_top.specs.Status.{unopened}
+use Rattle.store_top.specs.Steps.{HasFailed, MovesDisk}
+use Rattle.store_top.specs.Top.{IsBeforeOpening, ServesCalls}
+use Rattle.store_top.proofs.Runs.{calls-failed, calls-later, calls-undamaged, calls-whole}
+
+-- which fault an opening's was
+disk_fault : (fault : OpenFault) → Some (unopened fault) ≡ Some Disk → fault ≡ opening.DiskFault
+disk_fault opening.DiskFault is = refl
+disk_fault (opening.Damaged area offset) is = cc
+disk_fault opening.Memory is = cc
+
+damaged_fault : (fault : OpenFault) (area : Area) (offset : ℕ) → Some (unopened fault) ≡ Some (Damaged area offset) → fault ≡ opening.Damaged area offset
+damaged_fault opening.DiskFault area offset is = cc
+damaged_fault (opening.Damaged at place) area offset is = cc
+damaged_fault opening.Memory area offset is = cc
+
+not_before : (fault : OpenFault) → IsBeforeOpening (Some (unopened fault)) → ⊥
+not_before opening.DiskFault before = before
+not_before (opening.Damaged area offset) before = before
+not_before opening.Memory before = before
+
+module _ {D : Type 0} (holds : D → Area → List ℕ) (leaves : D → Area → List ℕ → Type 0) (moment : D → ℕ) (might : D → ℕ → List ℕ → List ℕ → Type 0)
+    (only_now : (disk : D) (a b : List ℕ) → might disk (moment disk) a b → leaves disk A a × leaves disk B b)
+    (honest : D → Bool) (faults : D → ℕ) (old new : D) (opened : Option Db) (history : History) where
+  abbrev Did : Option TopFault → Type 0
+  Did fault = OnDisk holds leaves moment might honest faults old new opened history fault
+
+  -- no store was opened, since the run ended before that
+  pub on_disk-before : (fault : TopFault) → new ≡ old → opened ≡ None → Some fault ≢ Some Disk
+      → ((area : Area) (offset : ℕ) → Some fault ≢ Some (Damaged area offset)) → Did (Some fault)
+  on_disk-before fault same none other sound = record {
+    rose = λ is. absurd (other is);
+    failed = λ base over failed. let never : ⊥ = cc in absurd never;
+    steady = λ other failed. ap faults same;
+    whole = λ is. ap faults same;
+    risen = rw same (omega arith);
+    untouched = λ before. same;
+    damaged = λ area offset is. absurd (sound area offset is);
+    honesty = ap honest same;
+    time = rw same (omega arith);
+    unopened = λ none can. rw same (begun leaves moment might only_now old (IsLeft holds leaves old) (λ a b in_a in_b. inl (in_a, in_b)));
+    served = λ base over. let never : ⊥ = cc in absurd never;
+  }
+
+  -- the opening failed
+  pub on_disk-unopened : (fault : OpenFault) → opened ≡ None
+      → ((area : Area) (offset : ℕ) → fault ≡ opening.Damaged area offset → IsTrue (honest old) → IsJudged (holds old A) (holds old B) (found.Damaged area offset))
+      → ((area : Area) (offset : ℕ) → fault ≡ opening.Damaged area offset → IsTrue (honest old) → Stays holds leaves A old new)
+      → ((area : Area) (offset : ℕ) → fault ≡ opening.Damaged area offset → IsTrue (honest old) → Stays holds leaves B old new)
+      → (fault ≡ opening.DiskFault → CountRose (faults old) (faults new)) → (fault ≢ opening.DiskFault → faults new ≡ faults old) → faults old ≤ faults new
+      → honest new ≡ honest old → moment old ≤ moment new → (IsTrue (honest old) → LeavesOnly moment might (IsLeft holds leaves old) old new)
+      → Did (Some (unopened fault))
+  on_disk-unopened fault none damaged kept_a kept_b rose steady risen honesty time moments = record {
+    rose = λ is. rose (disk_fault fault is);
+    failed = λ base over failed. let never : ⊥ = cc in absurd never;
+    steady = λ other failed. steady (λ is. other (rw is refl));
+    whole = λ is. let never : ⊥ = cc in absurd never;
+    risen = risen;
+    untouched = λ before. absurd (not_before fault before);
+    damaged = λ area offset is can. let damage = damaged_fault fault area offset is in
+        record { judged = damaged area offset damage can; kept_a = kept_a area offset damage can; kept_b = kept_b area offset damage can };
+    honesty = honesty;
+    time = time;
+    unopened = λ none can. moments can;
+    served = λ base over. let never : ⊥ = cc in absurd never;
+  }
+
+  -- calls were served over the database that was opened
+  module _ (mid : D) (base : Db) (start : ℕ) (over : opened ≡ Some base)
+      (store : IsTrue (honest old) → IsStoreIn (holds old A) (holds old B) base start) (honesty : honest mid ≡ honest old) (time : moment old ≤ moment mid) (steady : faults mid ≡ faults old)
+      (moments : IsTrue (honest old) → LeavesOnly moment might (IsLeft holds leaves old) old mid) (moves : MovesDisk moment might honest faults base start history mid new)
+      (left : IsTrue (honest new) → (a b : List ℕ) → leaves new A a → leaves new B b → IsLeftBy base start history a b)
+      (area : Area) (journal : JournalEnd) (opens : IsTrue (honest old) → OpensAt (holds old A) (holds old B) area journal.epoch journal.end) (exact : IsNoRoomExact journal base start history) where
+    abbrev Either : List ℕ → List ℕ → Type 0
+    Either a b = IsLeft holds leaves old a b ⊎ IsLeftOf base start history a b
+
+    served_on : IsTrue (honest old) → IsServedOn holds leaves moment might old new base history
+    served_on can = record {
+      start = start;
+      store = store can;
+      left = left (subst IsTrue (sym (moves.honesty ∙ honesty)) can);
+      moments = then leaves moment might only_now old mid new Either
+          (weaker leaves moment might only_now old mid (IsLeft holds leaves old) Either (λ a b before. inl before) (moments can))
+          (weaker leaves moment might only_now mid new (IsLeftOf base start history) Either (λ a b of. inr of) (moves.moments (subst IsTrue (sym honesty) can)));
+      area = area;
+      journal = journal;
+      opens = opens can;
+      exact = exact;
+    }
+
+    rose_since : HasFailed base history → CountRose (faults old) (faults new)
+    rose_since failed = rw (← steady) (moves.rose failed)
+
+    pub on_disk-served : (calls : List ScriptCall) (written_old written_new : Option (List ℕ)) (rose : Type 0) (fault : Option TopFault)
+        → ServesCalls base calls history written_old written_new rose fault → Did fault
+    on_disk-served calls written_old written_new rose fault serves =
+        let later = moves.time in
+        let risen = moves.risen in
+        record {
+          rose = λ is. rose_since (calls-failed base calls history written_old written_new rose fault serves is);
+          failed = λ of is failed. let same : of ≡ base = cc in rose_since (subst (λ db. HasFailed db history) same failed);
+          steady = λ other none. moves.steady (none base over) ∙ steady;
+          whole = λ is. moves.steady (calls-whole base calls history written_old written_new rose fault serves is) ∙ steady;
+          risen = omega arith;
+          untouched = λ before. absurd (calls-later base calls history written_old written_new rose fault serves before);
+          damaged = λ area offset is. absurd (calls-undamaged base calls history written_old written_new rose fault area offset serves is);
+          honesty = moves.honesty ∙ honesty;
+          time = omega arith;
+          unopened = λ none. let never : ⊥ = cc in absurd never;
+          served = λ of is can. let same : base ≡ of = cc in subst (λ db. IsServedOn holds leaves moment might old new db history) same (served_on can);
+        }
