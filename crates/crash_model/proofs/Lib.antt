@@ -1,3 +1,4 @@
+pub mod AloneLemmas
 pub mod FlatLemmas
 pub mod LeftLemmas
 pub mod RoomLemmas

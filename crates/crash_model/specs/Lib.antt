@@ -1,3 +1,4 @@
+pub mod Alone
 pub mod LeavesSince
 pub mod LeftBy
 pub mod Room

@@ -1,8 +1,6 @@
 -- What a call would write to the disk, behind a history over a database that so many commits made, and where the journal
 -- stands then.
-use Rattle.std.specs.Prelude.{◌≡◌, ◌<◌, ◌↔◌, ◌&&◌, ℕ, ◌+◌, List, [], ◌∷◌, length, max, slice_get, take, Bool, true, false, Option, None, Some, if◌then◌else◌}
-use Rattle.own_base.specs.declared.change.Change.{Change}
-use Rattle.own_base.specs.declared.row_name.RowName.{RowName}
+use Rattle.std.specs.Prelude.{◌≡◌, ◌<◌, ◌↔◌, ◌&&◌, ℕ, ◌+◌, List, [], ◌∷◌, length, max, slice_get, take, Bool, true, false, Some, if◌then◌else◌}
 use Rattle.own_model.specs.declared.history.Entry.{Entry}
 use Rattle.own_model.specs.declared.history.Verdict.{Verdict}
 use Rattle.own_model.specs.declared.history.Verdict.TheVariants.{Took, DiskFault, NoRoom}
@@ -15,11 +13,11 @@ use Rattle.state_model.specs.Created.{OfTable, OfView, text_of}
 use Rattle.state_model.specs.Net.{net}
 use Rattle.history_model.specs.AsksDisk.{asks_disk, under}
 use Rattle.history_model.specs.Commits.{commits, is_commit}
-use Rattle.history_model.specs.History.{History, flat_after, forgotten, happens, world as world_of}
+use Rattle.history_model.specs.History.{History, flat_after, happens, world as world_of}
 use Rattle.history_model.specs.Reply.{answer}
 use Rattle.history_model.specs.World.{World, start}
 use Rattle.disk_model.specs.declared.commit.Commit.{Commit}
-use Rattle.disk_model.specs.declared.commit.Commit.TheVariants.{CreateTable, CreateView, Changes, Forget}
+use Rattle.disk_model.specs.declared.commit.Commit.TheVariants.{CreateTable, CreateView, Changes}
 use Rattle.disk_model.specs.declared.image.Image.{Image}
 use Rattle.disk_model.specs.PutOf.{puts_of}
 use Rattle.disk_model.specs.Spelling.{image_spelling, payload_spelling}
@@ -28,20 +26,26 @@ use Rattle.disk_model.specs.Spelling.{image_spelling, payload_spelling}
 abbrev pub left_where_taken : World → Entry → Db
 left_where_taken world entry = flat_after world (under Took entry) (answer world (under Took entry))
 
--- the data subject that is forgotten, or else the rows that are changed
-abbrev pub commit_of_rows : Option RowName → List Change → Commit
-commit_of_rows (Some subject) changes = Forget subject
-commit_of_rows None changes = Changes (puts_of changes)
+-- What a call writes: behind the others the record of a commit, or in the other area the image of what it leaves, with the
+-- number of commits that made that.
+pub data Written : Type 0 where
+  Appended : Commit → Written
+  LaidAnew : ℕ → Written
 
--- what a request commits that leaves this database: a CREATE its canonical text
-abbrev pub commit_by : Db → Request → Db → Commit
-commit_by before (Run (statement.CreateTable table)) after = CreateTable (text_of (OfTable table)).text
-commit_by before (Run (statement.CreateView view)) after = CreateView (text_of (OfView view)).text
-commit_by before request after = commit_of_rows (forgotten before.schema request) (net before after)
+-- what a request writes that leads from this database, which so many commits made, to another: a CREATE its canonical text; a
+-- CHECKPOINT and a FORGET lay what they leave anew, and a FORGET is a commit more
+abbrev pub written_by : Db → Request → Db → ℕ → Written
+written_by before (Run (statement.CreateTable table)) after number = Appended (CreateTable (text_of (OfTable table)).text)
+written_by before (Run (statement.CreateView view)) after number = Appended (CreateView (text_of (OfView view)).text)
+written_by before (Run statement.Checkpoint) after number = LaidAnew number
+written_by before (Run (statement.GdprForget table key)) after number = LaidAnew (number + 1)
+written_by before request after number = Appended (Changes (puts_of (net before after)))
 
--- the commit that an accepted entry writes
-abbrev pub commit_of : World → Entry → Commit
-commit_of world entry = commit_by world.flat entry.request (left_where_taken world entry)
+-- whether a request lays the store anew
+abbrev pub lays_anew : Request → Bool
+lays_anew (Run statement.Checkpoint) = true
+lays_anew (Run (statement.GdprForget table key)) = true
+lays_anew _ = false
 
 -- the image of a database that so many commits made
 abbrev pub image_after : Db → ℕ → Image
@@ -60,11 +64,19 @@ image_bytes db number = length (image_spelling (image_after db number)) + 1
 abbrev pub record_bytes : Commit → ℕ
 record_bytes commit = 5 + length (payload_spelling commit)
 
--- How many bytes an entry writes after so many commits: an image for CHECKPOINT, a record for a commit, and none where the
--- answer isn't the disk's to give.
+-- how many bytes are written to leave a database
+abbrev pub written_bytes : Db → Written → ℕ
+written_bytes after (Appended commit) = record_bytes commit
+written_bytes after (LaidAnew number) = image_bytes after number
+
+-- what an accepted entry writes after so many commits
+abbrev pub written_of : World → Entry → ℕ → Written
+written_of world entry number = written_by world.flat entry.request (left_where_taken world entry) number
+
+-- How many bytes an entry writes after so many commits: none where the answer isn't the disk's to give.
 unfoldable pub bytes_written : World → Entry → ℕ → ℕ
-bytes_written world entry number = if asks_disk world entry
-    then (if is_checkpoint entry.request then image_bytes world.flat number else record_bytes (commit_of world entry)) else 0
+bytes_written world entry number =
+    if asks_disk world entry then written_bytes (left_where_taken world entry) (written_of world entry number) else 0
 
 -- how many a call would write that comes behind a history
 abbrev pub bytes_behind : Db → ℕ → History → Entry → ℕ
@@ -89,7 +101,7 @@ journal_with at false bytes = record { epoch = at.epoch; end = at.end + bytes }
 -- where it stands after an entry, over a world that so many commits made
 abbrev pub journal_after : JournalEnd → World → ℕ → Entry → JournalEnd
 journal_after at world number entry =
-    if is_taken entry.verdict && asks_disk world entry then journal_with at (is_checkpoint entry.request) (bytes_written world entry number) else at
+    if is_taken entry.verdict && asks_disk world entry then journal_with at (lays_anew entry.request) (bytes_written world entry number) else at
 
 abbrev pub journal_from : JournalEnd → World → ℕ → History → JournalEnd
 journal_from at world number [] = at

@@ -5,6 +5,8 @@ ghost use Rattle.state_model.specs.Sound.{Sound};
 ghost use Rattle.history_model.specs.Commits.{after, commits};
 ghost use Rattle.history_model.specs.History.{History, flat};
 ghost use Rattle.history_model.specs.Serial.{IsHistory};
+ghost use Rattle.own_base.specs.declared.number.Area.{Area};
+ghost use Rattle.crash_model.specs.Alone.{IsAlone};
 ghost use Rattle.crash_model.specs.LeftBy.{IsLeftBy, IsLeftOf};
 ghost use Rattle.crash_model.specs.StoreIn.{IsStoreIn};
 
@@ -24,4 +26,11 @@ pub fn what_is_left_of_a_history_stays_so()
         → IsLeftBy base number history a b → IsLeftOf base number history a b }
     ensures later { (base : Db) (number : ℕ) (a b : List ℕ) (history more : History)
         → IsLeftOf base number history a b → IsLeftOf base number (history ++ more) a b }
+{}
+
+/// Two areas in which nothing but a database lies have the bytes that follow from it, from the number of its commits, from the
+/// epoch and from the area. So two stores that agree on these have equal bytes, whatever was in them before.
+pub fn areas_with_a_database_alone_are_equal()
+    ensures { (db : Db) (number epoch : ℕ) (area : Area) (a b other_a other_b : List ℕ) → IsAlone db number epoch area a b → IsAlone db number epoch area other_a other_b
+        → (a ≡ other_a) × (b ≡ other_b) }
 {}

@@ -135,7 +135,7 @@ fn replaced(rt: &(impl Abort + AllocGlobal), disk: MemDisk) -> Came {
     let gated = image_of(rt, state.version(), before);
     drop(state);
     assert!(rt; store.fits(gated.items().len() as u64));
-    let done = store.replace(gated.items()).is_ok();
+    let done = store.replace(gated.items(), before).is_ok();
     assert_eq!(rt; store.failed(), !done);
     assert_eq!(rt; store.disk().faults(), if done { 0 } else { 1 });
     assert_eq!(rt; store.commits(), before);

@@ -26,8 +26,8 @@ use Rattle.run_model.specs.Items.{TakesRows}
 use Rattle.run_model.proofs.Outcomes.{bound-ok}
 use Rattle.txn_core.specs.Runs.{IsRowStatement}
 use Rattle.write_eval.proofs.BoundWrites.{bound_write}
-use Rattle.crash_model.specs.Room.{commit_by}
-use Rattle.engine_core.specs.Answered.{Erases, ErasesBound, bound_commit, bound_reply, erases, erases_bound}
+use Rattle.crash_model.specs.Room.{written_by}
+use Rattle.engine_core.specs.Answered.{Erases, ErasesBound, bound_reply, bound_written, erases, erases_bound}
 use Rattle.engine_core.specs.Asked.{IsBound, IsMeant}
 use Rattle.engine_core.specs.declared.answer.Answer.{Answer}
 
@@ -142,20 +142,21 @@ erases-as_bound db found got answer bound is erased =
     let by = bound-ok db.schema found got is in
     λ items. erased items ∙ sym (erases-meant db found answer.reply items bound ∙ ap (λ meant. erases_bound db meant answer.reply items) by.1)
 
--- and what it commits is what its meaning does
-commit-meant : (db behind : Db) (found : Statement) → IsBound found → bound_commit db (meaning db.schema found) behind ≡ commit_by db (Run found) behind
+-- and what it writes is what its meaning does
+written-meant : (db behind : Db) (number : ℕ) (found : Statement) → IsBound found → bound_written db number (meaning db.schema found) behind ≡ written_by db (Run found) behind number
 unfolding meaning
-commit-meant db behind (statement.Select select) bound = refl
-commit-meant db behind (statement.Insert name names tuples) bound = refl
-commit-meant db behind (statement.Update name sets cond) bound = refl
-commit-meant db behind (statement.Delete name cond) bound = refl
-commit-meant db behind (statement.GdprGet name key) bound = refl
-commit-meant db behind (statement.GdprForget name key) bound = refl
-commit-meant db behind _ bound = absurd bound
+written-meant db behind number (statement.Select select) bound = refl
+written-meant db behind number (statement.Insert name names tuples) bound = refl
+written-meant db behind number (statement.Update name sets cond) bound = refl
+written-meant db behind number (statement.Delete name cond) bound = refl
+written-meant db behind number (statement.GdprGet name key) bound = refl
+written-meant db behind number (statement.GdprForget name key) bound = refl
+written-meant db behind number _ bound = absurd bound
 
-pub commit-as_bound : (db behind : Db) (found : Statement) (got : Bound) → IsBound found → bound_statement db.schema found ≡ Ok got → bound_commit db got behind ≡ commit_by db (Run found) behind
-commit-as_bound db behind found got bound is =
-    ap (λ meant. bound_commit db meant behind) (sym (bound-ok db.schema found got is).1) ∙ commit-meant db behind found bound
+pub written-as_bound : (db behind : Db) (number : ℕ) (found : Statement) (got : Bound) → IsBound found → bound_statement db.schema found ≡ Ok got
+    → bound_written db number got behind ≡ written_by db (Run found) behind number
+written-as_bound db behind number found got bound is =
+    ap (λ meant. bound_written db number meant behind) (sym (bound-ok db.schema found got is).1) ∙ written-meant db behind number found bound
 
 -- a refusal erases nothing
 refused_step : (db : Db) (request : Request) (reply : Reply) (items : List FootItem) → is_refusal reply ≡ true → erases db request reply items ≡ false

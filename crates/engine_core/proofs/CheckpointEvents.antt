@@ -26,15 +26,15 @@ use Rattle.txn_core.specs.declared.session_state.SessionState.TheVariants as kep
 use Rattle.txn_core.specs.SessionStates.{RepresentsSession, state_by}
 use Rattle.txn_core.proofs.Statements.{none_moved}
 use Rattle.store_disk.specs.declared.store_disk.StoreDisk.{StoreDisk}
-use Rattle.crash_model.specs.Room.{bytes_written, image_bytes, is_checkpoint}
+use Rattle.crash_model.specs.Room.{LaidAnew, bytes_written, image_bytes, lays_anew, left_where_taken, written_by, written_bytes, written_of}
 use Rattle.engine_core.specs.RepresentsWorld.{IsEvent, RepresentsWorld, Serves}
 use Rattle.engine_core.specs.Stored.{Carries, Stores}
 use Rattle.engine_core.specs.declared.state.State.{State}
 use Rattle.engine_core.proofs.CalmEvents.{others-same, stands-calm, stands-unmoved}
 use Rattle.engine_core.proofs.Carried.{carries-of}
-use Rattle.engine_core.proofs.Decided.{asks-is, commit-none, event-under, serves-fault}
+use Rattle.engine_core.proofs.Decided.{asks-is, commit-none, event-under, serves-fault, under-took}
 use Rattle.engine_core.proofs.NextWorlds.{answer-in, own-in}
-use Rattle.engine_core.proofs.Sizes.{bytes-image}
+use Rattle.engine_core.proofs.Sizes.{bytes-asked}
 use Rattle.engine_core.proofs.Stood.{stood-outside}
 use Rattle.engine_core.proofs.UnmadeEvents.{unmade-checkpoint}
 
@@ -88,9 +88,9 @@ module _ (history : History) (entry : Entry) (before : State) (event : IsEvent b
   told_by verdict = told_checkpoint history (under verdict entry) before (event-under history entry before verdict event) nothing asks
 
   serves_by : (verdict : Verdict) → Serves {E = ℕ} before.opened before history entry (Ok (verdict, by_verdict verdict Done))
-  serves_by Took = (told_by Took, stands_done history (under Took entry) before (event-under history entry before Took event) nothing asks (told_by Took), refl)
-  serves_by DiskFault = serves-fault history entry before before event (told_by DiskFault) refl
-  serves_by NoRoom = (told_by NoRoom, stands_refused history (under NoRoom entry) before (event-under history entry before NoRoom event) nothing asks (told_by NoRoom), refl)
+  serves_by Took = (told_by Took, λ other. stands_done history (under Took entry) before (event-under history entry before Took event) nothing asks (told_by Took), refl)
+  serves_by DiskFault = serves-fault history entry before before event (told_by DiskFault)
+  serves_by NoRoom = (told_by NoRoom, λ other. stands_refused history (under NoRoom entry) before (event-under history entry before NoRoom event) nothing asks (told_by NoRoom), refl)
 
   -- it leaves the state, whatever the disk says
   pub serves-checkpoint : {E : Type 0} (result : Result (Verdict × Reply) E) → IfOk result (λ told. told.1 ≡ by_verdict told.0 Done) → Serves before.opened before history entry result
@@ -104,16 +104,23 @@ module _ (history : History) (entry : Entry) (before : State) (event : IsEvent b
     flat_same : (happens was entry).flat ≡ was.flat
     flat_same = calm history entry before event nothing asks done
 
+    left_is : left_where_taken was entry ≡ was.flat
+    left_is = ap (λ (entry : Entry). flat_after was entry (answer was entry)) (under-took entry took) ∙ flat_same
+
+    -- what it writes is the image of the database
+    bytes_is : (number : ℕ) → asks_disk was entry ≡ true → image_bytes before.version number ≡ bytes_written was entry number
+    bytes_is number asked =
+        let written_is : written_of was entry number ≡ LaidAnew number = ap (λ request. written_by was.flat request (left_where_taken was entry) number) asks in
+        ap (λ db. image_bytes db number) (event.stands.flat ∙ sym left_is) ∙ (ap (written_bytes (left_where_taken was entry)) (sym written_is) ∙ sym (bytes-asked was entry number asked))
+
     -- and so it is stored
     pub stores-checkpoint : {E D : Type 0} (holds : D → Area → List ℕ) (leaves : D → Area → List ℕ → Type 0) (moment : D → ℕ) (might_have_left : D → ℕ → List ℕ → List ℕ → Type 0) (honest : D → Bool) (faults : D → ℕ)
         (store new : StoreDisk D) (result : Result (Verdict × Reply) E)
-        → IfOk result (λ told. Carries holds leaves moment might_have_left honest faults before.version before.version true false (image_bytes before.version store.commits) store told.0 new) → OnErr result (new ≡ store)
+        → IfOk result (λ told. Carries holds leaves moment might_have_left honest faults before.version before.version true false true (image_bytes before.version store.commits) store told.0 new) → OnErr result (new ≡ store)
         → Stores holds leaves moment might_have_left honest faults (world before.opened history) entry store result new
-    stores-checkpoint holds leaves moment might_have_left honest faults store new (Ok told) carries same = (
-      λ asked. commit-none was entry (answer was entry) flat_same (inr (ap is_create asks)) ∙ sym (ap not (ap is_checkpoint asks)),
-      carries-of holds leaves moment might_have_left honest faults before.version was.flat before.version (happens was entry).flat true (asks_disk was entry) false (is_commit was entry (answer was entry))
-          (image_bytes before.version store.commits) (bytes_written was entry store.commits) store new told.0 event.stands.flat (event.stands.flat ∙ sym flat_same)
-          (sym (asks-is was entry (Refused refusal.Disk) (told_by DiskFault))) (sym (commit-none was entry (answer was entry) flat_same (inr (ap is_create asks))))
-          (ap (λ db. image_bytes db store.commits) event.stands.flat ∙ sym (bytes-image was entry store.commits (asks-is was entry (Refused refusal.Disk) (told_by DiskFault)) (ap is_checkpoint asks))) carries,
-    )
+    stores-checkpoint holds leaves moment might_have_left honest faults store new (Ok told) carries same =
+        let asked = asks-is was entry (Refused refusal.Disk) (told_by DiskFault) in
+        carries-of holds leaves moment might_have_left honest faults before.version was.flat before.version (happens was entry).flat true (asks_disk was entry) false (is_commit was entry (answer was entry))
+        true (lays_anew entry.request) (image_bytes before.version store.commits) (bytes_written was entry store.commits) store new told.0 event.stands.flat (event.stands.flat ∙ sym flat_same)
+        (sym asked) (sym (commit-none was entry (answer was entry) flat_same (inr (ap is_create asks)))) (λ asked_it. sym (ap lays_anew asks)) (bytes_is store.commits asked) carries
     stores-checkpoint holds leaves moment might_have_left honest faults store new (Err e) carries same = same

@@ -25,7 +25,7 @@ use Rattle.state_model.specs.Create.{create, create_view, with_view}
 use Rattle.state_model.specs.Fault.{fault}
 use Rattle.run_model.specs.Run.{Outcome, add_view, answered, create_table}
 use Rattle.history_model.specs.Reply.{create_reply}
-use Rattle.disk_model.specs.declared.commit.Commit.{Commit}
+use Rattle.crash_model.specs.Room.{Written}
 use Rattle.engine_core.specs.Answered.{Tells}
 use Rattle.engine_core.specs.declared.answer.Answer.{Answer}
 use Rattle.engine_core.proofs.Commits.{tells-refused}
@@ -51,8 +51,8 @@ unfolding create_table
 table-refused db table why is = rw is refl
 
 -- one that is refused is told why, and the database is left
-pub tells-uncreated : {commit : Commit} (db : Db) (table : TableCreate) (why : Refusal) (answer : Answer) → refusal_of db.schema (holds_rows db.rows) table ≡ Some why → answer.reply ≡ Refused why
-    → answer.next ≡ None → Tells db true commit (λ verdict. create_reply verdict (create_table db table)) (create_table db table).db answer
+pub tells-uncreated : {written : Written} (db : Db) (table : TableCreate) (why : Refusal) (answer : Answer) → refusal_of db.schema (holds_rows db.rows) table ≡ Some why → answer.reply ≡ Refused why
+    → answer.next ≡ None → Tells db true written (λ verdict. create_reply verdict (create_table db table)) (create_table db table).db answer
 tells-uncreated db table why answer is told stays =
     let made = table-refused db table why is in
     tells-refused db (create_table db table).db true _ why answer (λ verdict. rw made refl) told stays
@@ -92,15 +92,15 @@ unfolding add_view bound_view
 view-refused db view why is = rw (told (lowest (view_faults db.schema view)) (new_view db.schema view) why is) refl
 
 -- one that is refused is told why, and the database is left
-pub tells-unviewed : {commit : Commit} (db : Db) (view : ViewCreate) (why : Refusal) (answer : Answer) → bound_view db.schema view ≡ Err why → answer.reply ≡ Refused why → answer.next ≡ None
-    → Tells db true commit (λ verdict. create_reply verdict (add_view db view)) (add_view db view).db answer
+pub tells-unviewed : {written : Written} (db : Db) (view : ViewCreate) (why : Refusal) (answer : Answer) → bound_view db.schema view ≡ Err why → answer.reply ≡ Refused why → answer.next ≡ None
+    → Tells db true written (λ verdict. create_reply verdict (add_view db view)) (add_view db view).db answer
 tells-unviewed db view why answer is told stays =
     let made = view-refused db view why is in
     tells-refused db (add_view db view).db true _ why answer (λ verdict. rw made refl) told stays
 
 -- so is one that would weigh too much
-pub tells-heavy : {commit : Commit} (db : Db) (view : ViewCreate) (definition : ViewDef) (why : Refusal) (answer : Answer) → bound_view db.schema view ≡ Ok definition → fault (create_view db view) ≡ Some why
-    → answer.reply ≡ Refused why → answer.next ≡ None → Tells db true commit (λ verdict. create_reply verdict (add_view db view)) (add_view db view).db answer
+pub tells-heavy : {written : Written} (db : Db) (view : ViewCreate) (definition : ViewDef) (why : Refusal) (answer : Answer) → bound_view db.schema view ≡ Ok definition → fault (create_view db view) ≡ Some why
+    → answer.reply ≡ Refused why → answer.next ≡ None → Tells db true written (λ verdict. create_reply verdict (add_view db view)) (add_view db view).db answer
 tells-heavy db view definition why answer is heavy told stays =
     let made = made-view db (create_view db view) view definition is refl in
     tells-refused db (add_view db view).db true _ why answer (λ verdict. rw (made, heavy) refl) told stays

@@ -22,14 +22,13 @@ use Rattle.history_model.specs.Reply.{answer, by_verdict, changes, is_refusal}
 use Rattle.history_model.specs.World.{World}
 use Rattle.history_model.proofs.Working.{answer-works}
 use Rattle.store_disk.specs.declared.store_disk.StoreDisk.{StoreDisk}
-use Rattle.crash_model.specs.Room.{bytes_written}
+use Rattle.crash_model.specs.Room.{bytes_written, lays_anew}
 use Rattle.engine_core.specs.Answered.{IsDecided, commits}
 use Rattle.engine_core.specs.RepresentsWorld.{IsEvent, RepresentsWorld, Serves, ServesAlone}
-use Rattle.engine_core.specs.Stored.{Carries, IsCommitOrImage, IsUp}
+use Rattle.engine_core.specs.Stored.{Carries, IsUp}
 use Rattle.engine_core.specs.declared.prepared.Prepared.{Prepared}
 use Rattle.engine_core.specs.declared.state.State.{State}
-use Rattle.engine_core.proofs.CalmEvents.{represents-failure}
-use Rattle.engine_core.proofs.Carried.{carries-same, kind-unasked}
+use Rattle.engine_core.proofs.Carried.{carries-same}
 
 -- an entry that the disk took is itself as one that the disk took
 pub under-took : (entry : Entry) → entry.verdict ≡ Took → under Took entry ≡ entry
@@ -109,19 +108,14 @@ module _ (history : History) (entry : Entry) (before after : State) (event : IsE
   abbrev now : World
   now = world before.opened history
 
-  -- the disk failed, and the state is as it was
-  pub serves-fault : answer (world before.opened history) (under DiskFault entry) ≡ Refused Disk → after ≡ before → Serves {E = ℕ} before.opened after history entry (Ok (DiskFault, Refused Disk))
-  serves-fault told same = (
-    told,
-    subst (λ state. RepresentsWorld state (happens now (under DiskFault entry))) (sym same)
-        (represents-failure before.opened history (under DiskFault entry) before event.stands (ap is_failure told)),
-    refl,
-  )
+  -- the disk failed, whatever the state is then
+  pub serves-fault : answer (world before.opened history) (under DiskFault entry) ≡ Refused Disk → Serves {E = ℕ} before.opened after history entry (Ok (DiskFault, Refused Disk))
+  serves-fault told = (told, λ other. absurd (other refl), refl)
 
   -- an entry that is answered so whatever the disk says
   module _ (reply : Reply) (serves : (verdict : Verdict) → ServesAlone {E = ℕ} before.opened after history (under verdict entry) (Ok reply)) (works : is_disk reply ≡ false) where
     pub serves-alone : Serves {E = ℕ} before.opened after history entry (Ok (Took, reply))
-    serves-alone = ((serves Took).0, (serves Took).1, works)
+    serves-alone = ((serves Took).0, λ other. (serves Took).1, works)
 
     -- doesn't ask it, and where it leaves the database it leaves the disk
     module _ (took : entry.verdict ≡ Took) (version : after.version ≡ before.version) (none : (is_refusal reply ≡ true) ⊎ (is_create entry.request ≡ false)) where
@@ -141,20 +135,17 @@ module _ (history : History) (entry : Entry) (before after : State) (event : IsE
       pub stores-alone : {D : Type 0} (holds : D → Area → List ℕ) (leaves : D → Area → List ℕ → Type 0) (moment : D → ℕ) (might_have_left : D → ℕ → List ℕ → List ℕ → Type 0)
           → ((disk : D) (a b : List ℕ) → might_have_left disk (moment disk) a b → leaves disk A a × leaves disk B b) → (honest : D → Bool) (faults : D → ℕ) (store : StoreDisk D)
           → IsUp holds leaves honest store before.version
-          → IsCommitOrImage (world before.opened history) entry
-          × Carries holds leaves moment might_have_left honest faults (world before.opened history).flat (happens (world before.opened history) entry).flat (asks_disk (world before.opened history) entry)
+          → Carries holds leaves moment might_have_left honest faults (world before.opened history).flat (happens (world before.opened history) entry).flat (asks_disk (world before.opened history) entry)
           (is_commit (world before.opened history) entry (answer (world before.opened history) entry))
-          (bytes_written (world before.opened history) entry store.commits) store Took store
+          (lays_anew entry.request) (bytes_written (world before.opened history) entry store.commits) store Took store
       stores-alone holds leaves moment might_have_left only_now honest faults store up =
-          let unasked = asks-is now entry reply (serves DiskFault).0 ∙ works in (
-            kind-unasked now entry unasked,
-            carries-same holds leaves moment might_have_left only_now honest faults store now.flat (happens now entry).flat (asks_disk now entry) (is_commit now entry (answer now entry))
-                (subst (λ db. IsUp holds leaves honest store db) event.stands.flat up) flat_same unasked (commit-none now entry (answer now entry) flat_same (refused_or none)),
-          )
+          let unasked = asks-is now entry reply (serves DiskFault).0 ∙ works in
+          carries-same holds leaves moment might_have_left only_now honest faults store now.flat (happens now entry).flat (asks_disk now entry) (is_commit now entry (answer now entry))
+          (subst (λ db. IsUp holds leaves honest store db) event.stands.flat up) flat_same unasked (commit-none now entry (answer now entry) flat_same (refused_or none))
 
 -- an entry that was answered so where the disk took it
 pub serves-took : (base : Db) (after : State) (history : History) (entry : Entry) (reply : Reply) → entry.verdict ≡ Took → (world base history).down ≡ None → ServesAlone {E = ℕ} base after history entry (Ok reply)
     → Serves {E = ℕ} base after history entry (Ok (Took, reply))
 serves-took base after history entry reply took up served =
     let same = subst (λ entry. ServesAlone {E = ℕ} base after history entry (Ok reply)) (sym (under-took entry took)) served in
-    (same.0, same.1, sym (ap is_disk served.0) ∙ took-works (world base history) entry took up)
+    (same.0, λ other. same.1, sym (ap is_disk served.0) ∙ took-works (world base history) entry took up)

@@ -24,8 +24,10 @@ use Rattle.history_model.specs.World.{World}
 use Rattle.history_model.proofs.DiskAnswers.{answer-decided}
 use Rattle.history_model.proofs.HistoryLemmas.{flat-world, reply-last, world-append}
 use Rattle.history_model.proofs.RefusalLemmas.{answer-down}
+use Rattle.crash_model.specs.Alone.{IsAloneOn, is_laid_behind, laid_by}
+use Rattle.crash_model.proofs.AloneLemmas.{laid-append, laid-none}
 use Rattle.crash_model.specs.LeftBy.{IsLate, IsLeftBy, IsWhole}
-use Rattle.crash_model.specs.Room.{IsNoRoomExact, JournalEnd, bytes_written, image_bytes, is_checkpoint, is_taken, journal_behind, journal_with, room}
+use Rattle.crash_model.specs.Room.{IsNoRoomExact, JournalEnd, bytes_written, is_taken, journal_behind, journal_with, lays_anew, room}
 use Rattle.crash_model.specs.StoreIn.{IsStoreIn}
 use Rattle.crash_model.proofs.LeftLemmas.{commits-down, commits-more, down-whole, late-last, whole-none, whole-refused}
 use Rattle.crash_model.proofs.RoomLemmas.{asks-under, bytes-under, exact-more, exact-none, journal-append, journal-none}
@@ -35,10 +37,9 @@ use Rattle.store_disk.specs.declared.store_disk.StoreDisk.{StoreDisk}
 use Rattle.store_disk.proofs.LeftKept.{kept-left}
 use Rattle.engine_core.specs.Made.{IsEndOf, IsMade, Stands}
 use Rattle.engine_core.specs.RepresentsWorld.{RepresentsWorld}
-use Rattle.engine_core.specs.Seen.{IsLeftByEither, Makes, Seen, Writes}
+use Rattle.engine_core.specs.Seen.{IsAloneBehind, IsLeftByEither, Makes, Seen, Writes}
 use Rattle.engine_core.specs.Stored.{Carries, IsLaidAnew, grown_by, is_fault, kept_by}
 use Rattle.engine_core.specs.declared.state.State.{State}
-use Rattle.engine_core.proofs.Sizes.{bytes-image, gated-length}
 
 -- the disk has failed where it fails now
 fails_of : (down : Option Place) (b : Bool) (p : ℕ) → option_map (λ (place : Place). place.0) down ≡ (if b then Some p else None) → is_some down ≡ b
@@ -111,20 +112,53 @@ module _ {D : Type 0} (holds : D → Area → List ℕ) (leaves : D → Area →
     (only_now : (disk : D) (a b : List ℕ) → might disk (moment disk) a b → leaves disk A a × leaves disk B b)
     (now_counts : (disk : D) (since : ℕ) (a b : List ℕ) → since ≤ moment disk → leaves disk A a → leaves disk B b → might disk since a b) where
   -- where the journal stands after a call that the disk didn't fail
-  journal_moved : (verdict : Verdict) (asks lays counts : Bool) (size : ℕ) (db next : Db) (before after : StoreDisk D) (at : JournalEnd) → (asks ≡ true → counts ≡ not lays)
-      → (asks ≡ true → lays ≡ true → size ≡ image_bytes db before.commits) → Carries holds leaves moment might honest faults db next asks counts size before verdict after → verdict ≢ DiskFault
+  journal_moved : (verdict : Verdict) (asks lays counts : Bool) (size : ℕ) (db next : Db) (before after : StoreDisk D) (at : JournalEnd)
+      → Carries holds leaves moment might honest faults db next asks counts lays size before verdict after → verdict ≢ DiskFault
       → IsEndOf before.journal at → IsEndOf after.journal (if is_taken verdict && asks then journal_with at lays size else at)
-  journal_moved Took false lays counts size db next before after at kind image carries sound was = subst (λ (store : StoreDisk D). IsEndOf store.journal at) (sym (carries.unasked refl).0) was
-  journal_moved Took true true counts size db next before after at kind image carries sound was =
-      let laid = carries.anew refl (kind refl) refl in
-      let more = (carries.roomy refl (λ never. cc)).one_more in
-      let long : length laid.gated ≡ size = gated-length db before.commits laid.gated laid.is (omega arith) ∙ sym (image refl refl) in
-      (laid.at.of_epoch ∙ ap (λ n. n + 1) was.0, laid.at.up_to ∙ ap (λ n. 16 + n) long)
-  journal_moved Took true false counts size db next before after at kind image carries sound was =
-      let added = carries.added refl (kind refl) refl in
+  journal_moved Took false lays counts size db next before after at carries sound was = subst (λ (store : StoreDisk D). IsEndOf store.journal at) (sym (carries.unasked refl).0) was
+  journal_moved Took true true counts size db next before after at carries sound was =
+      let laid = carries.anew refl refl refl in
+      (laid.at.of_epoch ∙ ap (λ n. n + 1) was.0, laid.at.up_to)
+  journal_moved Took true false counts size db next before after at carries sound was =
+      let added = carries.added refl refl refl in
       (added.0 ∙ was.0, added.1 ∙ ap (λ n. n + size) was.1)
-  journal_moved DiskFault asks lays counts size db next before after at kind image carries sound was = absurd (sound refl)
-  journal_moved NoRoom asks lays counts size db next before after at kind image carries sound was = subst (λ (store : StoreDisk D). IsEndOf store.journal at) (sym (carries.room refl).0) was
+  journal_moved DiskFault asks lays counts size db next before after at carries sound was = absurd (sound refl)
+  journal_moved NoRoom asks lays counts size db next before after at carries sound was = subst (λ (store : StoreDisk D). IsEndOf store.journal at) (sym (carries.room refl).0) was
+
+  -- nothing but this database is there, where the store was laid anew
+  abbrev alone_in : Db → StoreDisk D → Type 0
+  alone_in db store = IsTrue (honest store.journal.disk) → IsAloneOn holds leaves store.journal.disk db store.commits store.journal.epoch store.journal.area
+
+  abbrev alone_by : Bool → Db → StoreDisk D → Type 0
+  alone_by laid db store = laid ≡ true → alone_in db store
+
+  -- a disk that failed isn't laid anew
+  works_laid : (verdict : Verdict) (asks lays was_laid : Bool) → (asks ≡ false → verdict ≡ Took) → (if asks then laid_by was_laid verdict lays else was_laid) ≡ true → is_fault verdict ≡ false
+  works_laid Took asks lays was_laid unasked laid = refl
+  works_laid NoRoom asks lays was_laid unasked laid = refl
+  works_laid DiskFault true lays was_laid unasked laid = let never : false ≡ true = laid in absurd (cc)
+  works_laid DiskFault false lays was_laid unasked laid = let never : ◌≡◌ {A = Verdict} DiskFault Took = unasked refl in absurd (cc)
+
+  -- so it goes on over a call: laid anew it is there, and where nothing is done to the disk it stays
+  alone_moved : (verdict : Verdict) (asks lays counts was_laid : Bool) (size : ℕ) (db next : Db) (before after : StoreDisk D)
+      → Carries holds leaves moment might honest faults db next asks counts lays size before verdict after
+      → alone_by was_laid db before → alone_by (if asks then laid_by was_laid verdict lays else was_laid) (kept_by verdict db next) after
+  alone_moved Took false lays counts was_laid size db next before after carries was =
+      let none = carries.unasked refl in
+      subst (λ store. alone_by was_laid next store) (sym none.0) (subst (λ db. alone_by was_laid db before) (sym none.2) was)
+  alone_moved Took true true counts was_laid size db next before after carries was = λ laid is.
+      let anew = carries.anew refl refl refl in
+      subst (λ epoch. IsAloneOn holds leaves after.journal.disk next after.commits epoch after.journal.area) (sym anew.at.of_epoch)
+      (subst (λ area. IsAloneOn holds leaves after.journal.disk next after.commits (before.journal.epoch + 1) area) (sym anew.at.in_area) (anew.alone (subst IsTrue carries.honesty is)))
+  alone_moved Took true false counts was_laid size db next before after carries was = λ laid is. let never : false ≡ true = laid in absurd (cc)
+  alone_moved DiskFault false lays counts was_laid size db next before after carries was =
+      let none = carries.unasked refl in
+      let never : ◌≡◌ {A = Verdict} DiskFault Took = none.1 in absurd (cc)
+  alone_moved DiskFault true lays counts was_laid size db next before after carries was = λ laid is. let never : false ≡ true = laid in absurd (cc)
+  alone_moved NoRoom false lays counts was_laid size db next before after carries was =
+      let none = carries.unasked refl in
+      let never : ◌≡◌ {A = Verdict} NoRoom Took = none.1 in absurd (cc)
+  alone_moved NoRoom true lays counts was_laid size db next before after carries was = subst (λ store. alone_by was_laid db store) (sym (carries.room refl).0) was
 
   -- before any call
   pub stands-begun : (state : State) (store : StoreDisk D) (start : ℕ) (at : JournalEnd) → IsEndOf store.journal at → start ≡ store.commits → Sound state.opened → RepresentsWorld state (world state.opened []) → store.journal.failed ≡ false
@@ -134,7 +168,7 @@ module _ {D : Type 0} (holds : D → Area → List ℕ) (leaves : D → Area →
   stands-begun state store start at ends begins sound represents up kept = record {
     entries = tt;
     begun = sound;
-    represents = represents;
+    represents = λ none. represents;
     down_is = refl;
     failed = up;
     kept = λ none is. kept is;
@@ -144,6 +178,7 @@ module _ {D : Type 0} (holds : D → Area → List ℕ) (leaves : D → Area →
         (whole-none state.opened store.commits a b (kept-left holds leaves store.journal state.opened store.commits (kept is) a b in_a in_b)));
     ends = λ none. subst (IsEndOf store.journal) (sym (journal-none at state.opened start)) ends;
     exact = exact-none at state.opened start;
+    alone = λ laid. let never : false ≡ true = sym (laid-none state.opened) ∙ laid in absurd (cc);
   }
 
   module _ (start : ℕ) (at : JournalEnd) (state_old state : State) (store_old store : StoreDisk D) (down_old down : Option Place) (history_old history : History) (old : Stands holds leaves honest start at state_old store_old down_old history_old)
@@ -166,7 +201,7 @@ module _ {D : Type 0} (holds : D → Area → List ℕ) (leaves : D → Area →
 
     -- while the disk hadn't failed
     module _ (up : down_old ≡ None) where
-      carries : Carries holds leaves moment might honest faults now.flat (happens now call).flat (asks_disk now call) (is_commit now call (answer now call)) (bytes_written now call store_old.commits) store_old made.verdict store
+      carries : Carries holds leaves moment might honest faults now.flat (happens now call).flat (asks_disk now call) (is_commit now call (answer now call)) (lays_anew call.request) (bytes_written now call store_old.commits) store_old made.verdict store
       carries = made.carries up
 
       unasked : asks_disk now call ≡ false → made.verdict ≡ Took
@@ -261,17 +296,35 @@ module _ {D : Type 0} (holds : D → Area → List ℕ) (leaves : D → Area →
       behind = journal_behind at base start history_old
 
       ends_is : journal_behind at base start history
-          ≡ (if is_taken made.verdict && asks_disk now call then journal_with behind (is_checkpoint call.request) (bytes_written now call store_old.commits) else behind)
+          ≡ (if is_taken made.verdict && asks_disk now call then journal_with behind (lays_anew call.request) (bytes_written now call store_old.commits) else behind)
       ends_is =
           ap (journal_behind at base start) made.history
           ∙ (journal-append at base start history_old entry
-          ∙ (λ i. if is_taken made.verdict && asks-under now made.verdict call i then journal_with behind (is_checkpoint call.request) (sym bytes_is i) else behind))
+          ∙ (λ i. if is_taken made.verdict && asks-under now made.verdict call i then journal_with behind (lays_anew call.request) (sym bytes_is i) else behind))
 
       ends_now : made.verdict ≢ DiskFault → IsEndOf store.journal (journal_behind at base start history)
       ends_now sound =
           subst (IsEndOf store.journal) (sym ends_is)
-          (journal_moved made.verdict (asks_disk now call) (is_checkpoint call.request) (is_commit now call (answer now call)) (bytes_written now call store_old.commits) now.flat (happens now call).flat
-          store_old store behind (made.kind up) (bytes-image now call store_old.commits) carries sound (old.ends up))
+          (journal_moved made.verdict (asks_disk now call) (lays_anew call.request) (is_commit now call (answer now call)) (bytes_written now call store_old.commits) now.flat (happens now call).flat
+          store_old store behind carries sound (old.ends up))
+
+      -- and whether nothing but the database is there
+      laid_is : is_laid_behind base history ≡ (if asks_disk now call then laid_by (is_laid_behind base history_old) made.verdict (lays_anew call.request) else is_laid_behind base history_old)
+      laid_is =
+          ap (is_laid_behind base) made.history
+          ∙ (laid-append base history_old entry
+          ∙ (λ i. if asks-under now made.verdict call i then laid_by (is_laid_behind base history_old) made.verdict (lays_anew call.request) else is_laid_behind base history_old))
+
+      alone_now : alone_by (is_laid_behind base history) (flat base history) store
+      alone_now =
+          subst (λ laid. alone_by laid (flat base history) store) (sym laid_is)
+          (subst (λ db. alone_by (if asks_disk now call then laid_by (is_laid_behind base history_old) made.verdict (lays_anew call.request) else is_laid_behind base history_old) db store)
+          (kept-flat now call took made.verdict unasked ∙ sym flat_after)
+          (alone_moved made.verdict (asks_disk now call) (lays_anew call.request) (is_commit now call (answer now call)) (is_laid_behind base history_old) (bytes_written now call store_old.commits) now.flat (happens now call).flat
+          store_old store carries (subst (λ db. alone_by (is_laid_behind base history_old) db store_old) (flat-world base history_old) (λ laid. (old.alone laid).1))))
+
+      none_now : is_laid_behind base history ≡ true → down ≡ None
+      none_now laid = none_of down (failed_is ∙ works_laid made.verdict (asks_disk now call) (lays_anew call.request) (is_laid_behind base history_old) unasked (sym laid_is ∙ laid))
 
       -- where there is no room
       abbrev needed : ℕ
@@ -349,6 +402,17 @@ module _ {D : Type 0} (holds : D → Area → List ℕ) (leaves : D → Area →
             (λ both. let never : true ≡ false = sym both.0 ∙ (asks-under now made.verdict call ∙ unasked_still) in cc),
           ))
 
+      laid_still : is_laid_behind base history ≡ is_laid_behind base history_old
+      laid_still =
+          ap (is_laid_behind base) made.history
+          ∙ (laid-append base history_old entry
+          ∙ ap (λ (asks : Bool). if asks then laid_by (is_laid_behind base history_old) made.verdict (lays_anew call.request) else is_laid_behind base history_old) (asks-under now made.verdict call ∙ unasked_still))
+
+      alone_still : is_laid_behind base history ≡ true → (down ≡ None) × alone_in (flat base history) store
+      alone_still laid =
+          let up = (old.alone (sym laid_still ∙ laid)).0 in
+          let never : ◌≡◌ {A = Option Place} None (Some failed_at) = sym up ∙ was in absurd (cc)
+
       left_still : IsTrue (honest store.journal.disk) → (a b : List ℕ) → leaves store.journal.disk A a → leaves store.journal.disk B b → IsLeftBy base start history a b
       left_still =
           subst (λ (store : StoreDisk D). IsTrue (honest store.journal.disk) → (a b : List ℕ) → leaves store.journal.disk A a → leaves store.journal.disk B b → IsLeftBy base start history a b) (sym still.0)
@@ -368,7 +432,7 @@ module _ {D : Type 0} (holds : D → Area → List ℕ) (leaves : D → Area →
       by_down None was = record {
         entries = entries_now;
         begun = over Sound old.begun;
-        represents = over (λ db. RepresentsWorld state (world db history)) made.represents;
+        represents = λ none. over (λ db. RepresentsWorld state (world db history)) (made.represents none);
         down_is = over (λ db. (world db history).down ≡ option_map (λ (place : Place). place.0) down) made.down_is;
         failed = (carries was).failed ∙ sym (failed_is was);
         kept = λ none is.
@@ -380,11 +444,12 @@ module _ {D : Type 0} (holds : D → Area → List ℕ) (leaves : D → Area →
             let sound : made.verdict ≢ DiskFault = λ fault. let never : true ≡ false = ap is_fault (sym fault) ∙ (sym (failed_is was) ∙ ap is_some none) in cc in
             over (λ db. IsEndOf store.journal (journal_behind at db start history)) (ends_now was sound);
         exact = over (λ db. IsNoRoomExact at db start history) (exact_now was);
+        alone = over (λ db. is_laid_behind db history ≡ true → (down ≡ None) × alone_in (flat db history) store) (λ laid. (none_now was laid, alone_now was laid));
       }
       by_down (Some failed_at) was = record {
         entries = entries_now;
         begun = over Sound old.begun;
-        represents = over (λ db. RepresentsWorld state (world db history)) made.represents;
+        represents = λ none. over (λ db. RepresentsWorld state (world db history)) (made.represents none);
         down_is = over (λ db. (world db history).down ≡ option_map (λ (place : Place). place.0) down) made.down_is;
         failed = ap (λ (store : StoreDisk D). store.journal.failed) (still failed_at was).0 ∙ (old.failed ∙ ap is_some (sym (still failed_at was).2));
         kept = λ none is. let never : ◌≡◌ {A = Option Place} None (Some failed_at) = sym none ∙ ((still failed_at was).2 ∙ was) in absurd (cc);
@@ -392,6 +457,7 @@ module _ {D : Type 0} (holds : D → Area → List ℕ) (leaves : D → Area →
         left = λ is a b in_a in_b. over (λ db. IsLeftBy db start history a b) (left_still failed_at was is a b in_a in_b);
         ends = λ none. let never : ◌≡◌ {A = Option Place} None (Some failed_at) = sym none ∙ ((still failed_at was).2 ∙ was) in absurd (cc);
         exact = over (λ db. IsNoRoomExact at db start history) (exact_still failed_at was);
+        alone = over (λ db. is_laid_behind db history ≡ true → (down ≡ None) × alone_in (flat db history) store) (alone_still failed_at was);
       }
 
       -- with the call
@@ -425,18 +491,19 @@ module _ {D : Type 0} (holds : D → Area → List ℕ) (leaves : D → Area →
         weaker leaves moment might only_now store_old.journal.disk store.journal.disk _ (IsLeftByEither base start history_old history)
         (λ a b left. either_left up DiskFault is a b left (λ no. cc)) ((carries up).left honest_old)
 
-    writes_by : (was : Option Place) → down_old ≡ was → (spare spare_after : ℕ) → Writes holds moment might honest faults (seen_old spare) (seen_new spare_after) call made.verdict told
+    writes_by : (was : Option Place) → down_old ≡ was → (spare spare_after : ℕ) → Writes holds leaves moment might honest faults (seen_old spare) (seen_new spare_after) call made.verdict told
     writes_by None was spare spare_after =
         let by = carries was in
-        let flat_is = sym (flat-world base history_old) in
         record {
           fault = made.fault;
           rose = by.rose;
           steady = by.steady;
-          unasked = by.unasked;
+          unasked = λ asks. let none = by.unasked asks in (none.0, none.1);
           room = by.room;
           roomy = by.roomy;
-          anew = λ asks counts took. subst (λ db. IsLaidAnew holds honest db store_old store) flat_is (by.anew asks counts took);
+          anew = λ asks lays took_it.
+              subst (λ db. IsLaidAnew holds leaves honest db (bytes_written now call store_old.commits) store_old store)
+              (ap (λ entry. (happens now entry).flat) (sym (under_same call took) ∙ ap (λ v. under v call) (sym took_it)) ∙ sym flat_after) (by.anew asks lays took_it);
           left = left_asked was _ refl;
           honesty = by.honesty;
           time = by.time;
@@ -453,14 +520,14 @@ module _ {D : Type 0} (holds : D → Area → List ℕ) (leaves : D → Area →
           unasked = λ asks. (same, is_took);
           room = λ is. let never : ◌≡◌ {A = Verdict} Took NoRoom = sym is_took ∙ is in cc;
           roomy = λ asks other. let never : true ≡ false = sym asks ∙ unasked_still failed_at was in absurd (cc);
-          anew = λ asks counts took. let never : true ≡ false = sym asks ∙ unasked_still failed_at was in cc;
+          anew = λ asks lays took_it. let never : true ≡ false = sym asks ∙ unasked_still failed_at was in cc;
           left = left_same same;
           honesty = ap honest disk_is;
           time = let is = ap moment disk_is in omega arith;
           risen = let is = ap faults disk_is in omega arith;
         }
 
-    pub writes-made : (spare spare_after : ℕ) → Writes holds moment might honest faults (seen_old spare) (seen_new spare_after) call made.verdict told
+    pub writes-made : (spare spare_after : ℕ) → Writes holds leaves moment might honest faults (seen_old spare) (seen_new spare_after) call made.verdict told
     writes-made = writes_by _ refl
 
     pub makes-made : (spare spare_after : ℕ) → spare ≤ spare_after + 1 → Makes (seen_old spare) (seen_new spare_after) (under made.verdict call) place told
@@ -481,13 +548,13 @@ module _ {D : Type 0} (holds : D → Area → List ℕ) (leaves : D → Area →
   module _ (start : ℕ) (at : JournalEnd) (state_old state : State) (store_old store : StoreDisk D) (down_old down : Option Place) (history_old history : History) (old : Stands holds leaves honest start at state_old store_old down_old history_old)
       (opened : state.opened ≡ state_old.opened) where
     -- where memory kept it from being made, all is as it was
-    stands_unmade : RepresentsWorld state (world state_old.opened history_old) → Stands holds leaves honest start at state store_old down_old history_old
+    stands_unmade : (down_old ≡ None → RepresentsWorld state (world state_old.opened history_old)) → Stands holds leaves honest start at state store_old down_old history_old
     stands_unmade represents =
         let over : (P : Db → Type 0) → P state_old.opened → P state.opened = λ P is. subst P (sym opened) is in
         record {
           entries = old.entries;
           begun = over Sound old.begun;
-          represents = over (λ db. RepresentsWorld state (world db history_old)) represents;
+          represents = λ none. over (λ db. RepresentsWorld state (world db history_old)) (represents none);
           down_is = over (λ db. (world db history_old).down ≡ option_map (λ (place : Place). place.0) down_old) old.down_is;
           failed = old.failed;
           kept = λ none is. over (λ db. IsKept holds leaves store_old.journal (flat db history_old) store_old.commits) (old.kept none is);
@@ -495,14 +562,26 @@ module _ {D : Type 0} (holds : D → Area → List ℕ) (leaves : D → Area →
           left = λ is a b in_a in_b. over (λ db. IsLeftBy db start history_old a b) (old.left is a b in_a in_b);
           ends = λ none. over (λ db. IsEndOf store_old.journal (journal_behind at db start history_old)) (old.ends none);
           exact = over (λ db. IsNoRoomExact at db start history_old) old.exact;
+          alone = over (λ db. is_laid_behind db history_old ≡ true → (down_old ≡ None) × alone_in (flat db history_old) store_old) old.alone;
         }
 
     pub stands-after : {E : Type 0} (call : Entry) → call.verdict ≡ Took → IsEntry call → (result : Result (Place × Reply) E)
         → IfOk result (λ made. IsMade holds leaves moment might honest faults state_old.opened history_old history state store_old store down_old down call made.0.0 made.1)
-        → OnErr result ((history ≡ history_old) × RepresentsWorld state (world state_old.opened history_old) × (store ≡ store_old) × (down ≡ down_old))
+        → OnErr result ((history ≡ history_old) × (down_old ≡ None → RepresentsWorld state (world state_old.opened history_old)) × (store ≡ store_old) × (down ≡ down_old))
         → Stands holds leaves honest start at state store down history
     stands-after call took is_entry (Ok told) made unmade = stands-made start at state_old state store_old store down_old down history_old history old call took told.0.0 told.1 made is_entry opened
     stands-after call took is_entry (Err refused) made unmade =
         subst (λ (history : History). Stands holds leaves honest start at state store down history) (sym unmade.0)
         (subst (λ (down : Option Place). Stands holds leaves honest start at state store down history_old) (sym unmade.3)
         (subst (λ (store : StoreDisk D). Stands holds leaves honest start at state store down_old history_old) (sym unmade.2) (stands_unmade unmade.1)))
+
+  -- what a disk is that a history laid anew, as the history tells it
+  pub alone-behind : (start : ℕ) (at : JournalEnd) (state : State) (store : StoreDisk D) (down : Option Place) (history : History) → Stands holds leaves honest start at state store down history
+      → is_laid_behind state.opened history ≡ true → IsTrue (honest store.journal.disk) → IsAloneBehind holds leaves store.journal.disk at state.opened start history
+  alone-behind start at state store down history stands laid is =
+      let both = stands.alone laid in
+      record {
+        area = store.journal.area;
+        alone = subst (λ epoch. IsAloneOn holds leaves store.journal.disk (flat state.opened history) (start + length (commits state.opened history)) epoch store.journal.area) (stands.ends both.0).0
+            (subst (λ number. IsAloneOn holds leaves store.journal.disk (flat state.opened history) number store.journal.epoch store.journal.area) stands.count (both.1 is));
+      }

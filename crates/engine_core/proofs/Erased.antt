@@ -23,8 +23,8 @@ use Rattle.subject_erase.specs.Plan.{IsPlan, leaves_row, plan_of}
 use Rattle.history_model.specs.History.{lie_on}
 use Rattle.history_model.specs.Reply.{forget_reply, is_refusal}
 use Rattle.engine_core.specs.declared.answer.Answer.{Answer}
-use Rattle.disk_model.specs.declared.commit.Commit.{Commit}
-use Rattle.engine_core.specs.Answered.{ErasesBound, IsDecided, IsFramedAs, MayBeLeft, Tells, left}
+use Rattle.crash_model.specs.Room.{Written}
+use Rattle.engine_core.specs.Answered.{ErasesBound, IsDecided, IsWrittenAs, MayBeLeft, Tells, left}
 
 -- one of some is among those of one kind or those of the other
 abbrev names : List Change → List RowName
@@ -76,13 +76,13 @@ erases-absent db subject why answer told none = λ items.
     ap (λ some. lie_on some items) none ∙ sym (absent_step db subject answer.reply items (ap is_refusal told))
 
 -- an answer that names more rows as erased tells the same
-pub tells-erasing : {commit : Commit} (db : Db) (creates : Bool) (given : Verdict → Reply) (behind : Db) (answer other : Answer) → other.reply ≡ answer.reply → other.next ≡ answer.next
-    → Tells db creates commit given behind answer → Tells db creates commit given behind other
-tells-erasing {commit} db creates given behind answer other reply next tells = record {
+pub tells-erasing : {written : Written} (db : Db) (creates : Bool) (given : Verdict → Reply) (behind : Db) (answer other : Answer) → other.reply ≡ answer.reply → other.next ≡ answer.next
+    → Tells db creates written given behind answer → Tells db creates written given behind other
+tells-erasing {written} db creates given behind answer other reply next tells = record {
   told = reply ∙ tells.told;
   leaves = ap (left db) next ∙ tells.leaves;
   may = subst (MayBeLeft db) (sym next) tells.may;
-  framed = subst (IsFramedAs commit) (sym next) tells.framed;
+  writes = subst (IsWrittenAs written) (sym next) tells.writes;
   decided = subst (IsDecided given) (sym next) tells.decided;
   counted = ap is_some next ∙ tells.counted;
 }
@@ -92,6 +92,6 @@ forgot_step : (db : Db) (subject : RowName) → is_there db subject ≡ true →
 unfolding forget_subject
 forgot_step db subject there = rw there refl
 
-pub forgot-accepted : {commit : Commit} (db behind : Db) (subject : RowName) (answer : Answer) → is_there db subject ≡ true
-    → Tells db false commit (λ verdict. forget_reply verdict (forget_subject db subject)) behind answer → is_refusal answer.reply ≡ false
+pub forgot-accepted : {written : Written} (db behind : Db) (subject : RowName) (answer : Answer) → is_there db subject ≡ true
+    → Tells db false written (λ verdict. forget_reply verdict (forget_subject db subject)) behind answer → is_refusal answer.reply ≡ false
 forgot-accepted db behind subject answer there tells = ap is_refusal tells.told ∙ forgot_step db subject there

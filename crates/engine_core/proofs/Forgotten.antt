@@ -1,6 +1,6 @@
 -- What a GDPR FORGET is answered.
 use Rattle.std.proofs.Common.{Bor, ◌≡◌, ◌∙◌, ℕ, zero, suc, ◌+◌, ◌<◌, ◌≤◌, ◌^◌, List, [], ◌∷◌, Bool, true, false, not, ap, arith, filter, length, map, refl, subst, sym}
-use Rattle.std.specs.Prelude.{Option, None, Some, Result, Err, ◌&&◌, IsTrue, count_by, is_some, slice_get, sum_by, if◌then◌else◌}
+use Rattle.std.specs.Prelude.{Option, None, Some, IfOk, Result, Ok, Err, ◌&&◌, IsTrue, count_by, is_some, slice_get, sum_by, if◌then◌else◌}
 use Rattle.std.specs.Option.{option_copied, option_map_or}
 use Rattle.std.proofs.lemmas.List.{length-append, length-map}
 use Rattle.std.proofs.lemmas.List.Filters.{length-filter_both}
@@ -35,17 +35,15 @@ use Rattle.own_base.specs.declared.row_name.Subject.{Subject}
 use Rattle.owner_model.specs.Joins.{row_of}
 use Rattle.own_model.specs.declared.bound.Bound.TheVariants.{Get, Select}
 use Rattle.subject_model.specs.Get.{get}
-use Rattle.disk_model.specs.declared.commit.Commit.TheVariants as commit
-use Rattle.rec_codec.specs.declared.fault.EncodeFault.{EncodeFault}
-use Rattle.rec_codec.specs.declared.fault.EncodeFault.TheVariants.{TooBig}
-use Rattle.commit_record.specs.Recorded.{Frames}
+use Rattle.check_image.specs.Gated.{IsGatedImage}
+use Rattle.crash_model.specs.Room.{LaidAnew, Written}
 use Rattle.run_model.specs.Run.{Outcome, answered, forget_subject, run_bound, show_subject}
 use Rattle.history_model.specs.Reply.{changes, forget_reply}
 use Rattle.history_model.specs.World.{World}
 use Rattle.engine_core.specs.declared.answer.Answer.{Answer}
-use Rattle.disk_model.specs.declared.commit.Commit.{Commit}
-use Rattle.engine_core.specs.Answered.{IsRecorded, Tells, bound_reply}
-use Rattle.engine_core.proofs.Commits.{tells-framed, tells-left, tells-refused}
+use Rattle.engine_core.specs.declared.prepared.NextState.TheVariants.{Anew}
+use Rattle.engine_core.specs.Answered.{IsLaidBy, Tells, bound_reply}
+use Rattle.engine_core.proofs.Commits.{tells-kept, tells-left, tells-refused}
 use Rattle.engine_core.proofs.Nets.{rows-unchanged}
 
 -- no more rows have a name than there are
@@ -88,8 +86,8 @@ few-erased db subject changes none plan =
     omega arith
 
 -- there is no such subject
-pub forget-absent : {commit : Commit} (db : Db) (subject : RowName) (why : Refusal) (answer : Answer) → is_there db subject ≡ false → (forget_subject db subject).reply ≡ Refused why
-    → answer.reply ≡ Refused why → answer.next ≡ None → Tells db false commit (λ verdict. forget_reply verdict (forget_subject db subject)) (forget_subject db subject).db answer
+pub forget-absent : {written : Written} (db : Db) (subject : RowName) (why : Refusal) (answer : Answer) → is_there db subject ≡ false → (forget_subject db subject).reply ≡ Refused why
+    → answer.reply ≡ Refused why → answer.next ≡ None → Tells db false written (λ verdict. forget_reply verdict (forget_subject db subject)) (forget_subject db subject).db answer
 forget-absent db subject why answer absent is told stays = tells-refused db (forget_subject db subject).db false _ why answer (λ verdict. rw is refl) told stays
 
 -- the table of a subject is there
@@ -120,15 +118,15 @@ shown-left : (db : Db) (subject : RowName) → (show_subject db subject).db ≡ 
 unfolding show_subject
 shown-left db subject = shown_step (is_there db subject) db (Got (get db subject)) _
 
-pub tells-shown : {commit : Commit} (world : World) (db : Db) (session : ℕ) (subject : Subject) (answer : Answer) → answer.reply ≡ (show_subject db subject.0).reply → answer.next ≡ None
-    → Tells db false commit (bound_reply world db session (Get subject)) (run_bound db (Get subject)).db answer
+pub tells-shown : {written : Written} (world : World) (db : Db) (session : ℕ) (subject : Subject) (answer : Answer) → answer.reply ≡ (show_subject db subject.0).reply → answer.next ≡ None
+    → Tells db false written (bound_reply world db session (Get subject)) (run_bound db (Get subject)).db answer
 unfolding run_bound
 tells-shown world db session subject answer told stays =
     tells-left db (show_subject db subject.0).db _ (show_subject db subject.0).reply answer (shown-left db subject.0) (λ verdict. refl) told stays
 
 -- and so does a SELECT
-pub tells-selected : {commit : Commit} (world : World) (db : Db) (session : ℕ) (query : BoundSelect) (answer : Answer) → answer.reply ≡ reply_of (query_rows db.schema db.rows query) → answer.next ≡ None
-    → Tells db false commit (bound_reply world db session (Select query)) (run_bound db (Select query)).db answer
+pub tells-selected : {written : Written} (world : World) (db : Db) (session : ℕ) (query : BoundSelect) (answer : Answer) → answer.reply ≡ reply_of (query_rows db.schema db.rows query) → answer.next ≡ None
+    → Tells db false written (bound_reply world db session (Select query)) (run_bound db (Select query)).db answer
 unfolding run_bound
 tells-selected world db session query answer told stays = tells-left db db _ (reply_of (query_rows db.schema db.rows query)) answer refl (λ verdict. refl) told stays
 
@@ -170,18 +168,18 @@ counted-as db subject changes reply plan counted =
     counted
     ∙ (counts-planned changes ∙ (λ i. Forgot (length (plan.removed i)) ((sym (length-map (plan_of changes).changed (λ (change : Change). change.name)) ∙ ap length plan.changed) i)))
 
-pub tells-forgotten : (db next : Db) (subject : RowName) (changes : List Change) (reply : Reply) (weighs : ℕ) (framed : Result (List ℕ) EncodeFault) (answer : Answer)
-    → IsTrue (is_subject db.schema subject.table.0) → Sound db → Sound next → is_there db subject ≡ true → next ≡ forget db subject → weighs ≡ weight next → IsPlan db subject (plan_of changes)
-    → reply ≡ Forgot (count_by (λ change. not (leaves_row change)) changes) (count_by leaves_row changes) → Frames (commit.Forget subject) framed → ((count : ℕ) → framed ≡ Err (TooBig count) → ⊥)
-    → IsRecorded next weighs reply framed answer
-    → Tells db false (commit.Forget subject) (λ verdict. forget_reply verdict (forget_subject db subject)) (forget_subject db subject).db answer
-tells-forgotten db next subject changes reply weighs framed answer of sound sound_next there is weight_is plan counted frames never recorded =
-    let forgot = Forgot (length (removed db subject)) (length (changed db subject)) in
-    let made : forget_subject db subject ≡ record { db = next; reply = forgot } = forgotten-made db subject there ∙ ap (λ (db : Db). record { db = db; reply = forgot }) (sym is) in
-    let own = subst (λ reply. IsRecorded next weighs reply framed answer) (counted-as db subject changes reply plan counted) recorded in
-    subst (λ (outcome : Outcome). Tells db false (commit.Forget subject) (λ verdict. forget_reply verdict outcome) outcome.db answer) (sym made)
-    (tells-framed db next false _ forgot weighs (commit.Forget subject) framed answer refl (λ verdict. refl) (changes-forgotten db next subject sound sound_next is there) (sym weight_is)
-    (λ bytes framed_is. record { lawful = record { subject = of; row = there }; after_is = is }) never frames own)
+module _ (db next : Db) (subject : RowName) (changes : List Change) (reply : Reply) (weighs number : ℕ) (answer : Answer)
+    (sound : Sound db) (sound_next : Sound next) (there : is_there db subject ≡ true) (is : next ≡ forget db subject) (weight_is : weighs ≡ weight next) (plan : IsPlan db subject (plan_of changes))
+    (counted : reply ≡ Forgot (count_by (λ change. not (leaves_row change)) changes) (count_by leaves_row changes)) where
+  pub tells-forgotten : {E : Type 0} (image : Result (List ℕ) E) → IfOk image (IsGatedImage next number) → IsLaidBy next weighs reply image answer
+      → Tells db false (LaidAnew number) (λ verdict. forget_reply verdict (forget_subject db subject)) (forget_subject db subject).db answer
+  tells-forgotten (Ok gated) image_is laid =
+      let forgot = Forgot (length (removed db subject)) (length (changed db subject)) in
+      let made : forget_subject db subject ≡ record { db = next; reply = forgot } = forgotten-made db subject there ∙ ap (λ (db : Db). record { db = db; reply = forgot }) (sym is) in
+      subst (λ (outcome : Outcome). Tells db false (LaidAnew number) (λ verdict. forget_reply verdict outcome) outcome.db answer) (sym made)
+      (tells-kept db (Anew next) false (LaidAnew number) _ forgot weighs gated answer refl (λ verdict. refl) (changes-forgotten db next subject sound sound_next is there) (sym weight_is) sound_next
+      image_is tt (laid.0 ∙ counted-as db subject changes reply plan counted) laid.1)
+  tells-forgotten (Err refused) image_is laid = absurd laid
 
 -- a row that is lent is there
 pub lent-there : (db : Db) (name : RowName) (row : Option (Bor Row)) → option_copied row ≡ row_of db name → is_some row ≡ true → is_there db name ≡ true

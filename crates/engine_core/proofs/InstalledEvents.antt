@@ -1,6 +1,6 @@
 -- A statement outside a transaction, which may commit and erase.
-use Rattle.std.proofs.Common.{◌≡◌, ◌∙◌, ◌<◌, ◌≤◌, ℕ, zero, suc, List, [], length, Bool, true, false, ap, arith, inl, inr, not, refl, subst, sym}
-use Rattle.std.specs.Prelude.{◌≢◌, ◌⊎◌, ◌&&◌, None, Ok, is_some, nat_lt, if◌then◌else◌}
+use Rattle.std.proofs.Common.{◌≡◌, ◌∙◌, ◌<◌, ◌≤◌, ◌+◌, ℕ, zero, suc, List, [], length, Bool, true, false, ap, arith, inl, inr, not, refl, subst, sym}
+use Rattle.std.specs.Prelude.{◌≢◌, ◌⊎◌, ◌&&◌, Err, IfOk, None, Ok, OnErr, Result, is_some, nat_lt, if◌then◌else◌}
 use Rattle.std.specs.Option.{option_map_or}
 use Rattle.std.proofs.lemmas.Bool.{ltb-false, ltb-true}
 use Rattle.own_base.specs.declared.number.Area.{Area}
@@ -39,20 +39,21 @@ use Rattle.txn_core.specs.SessionStates.{RepresentsSession, state_by, once_doome
 use Rattle.txn_core.specs.Transactions.{AreSame, Transactions}
 use Rattle.txn_core.proofs.Statements.{none_moved}
 use Rattle.store_disk.specs.declared.store_disk.StoreDisk.{StoreDisk}
-use Rattle.crash_model.specs.Room.{bytes_written, commit_by, commit_of, is_checkpoint, left_where_taken}
-use Rattle.engine_core.specs.Answered.{Erases, Tells, commits, left, record_size}
+use Rattle.crash_model.specs.Room.{bytes_written, lays_anew, left_where_taken, written_by, written_of}
+use Rattle.engine_core.specs.Answered.{Erases, Tells, commits, is_laid, left, write_size}
 use Rattle.engine_core.specs.Asked.{RunsByItself}
 use Rattle.engine_core.specs.HasDoomed.{HasDoomed}
 use Rattle.engine_core.specs.RepresentsWorld.{IsEvent, RepresentsWorld, Serves}
-use Rattle.engine_core.specs.Stored.{Carries, IsCommitOrImage}
+use Rattle.engine_core.specs.Stored.{Carries, Stores}
 use Rattle.engine_core.specs.declared.answer.Answer.{Answer}
 use Rattle.engine_core.specs.declared.state.State.{State}
 use Rattle.engine_core.proofs.CalmEvents.{stands-unmoved}
 use Rattle.engine_core.proofs.Carried.{carries-of}
 use Rattle.engine_core.proofs.Decided.{asks-is, commit-is, decided-by, disk-decided, event-under, serves-fault, took-works, under-took}
 use Rattle.engine_core.proofs.NextWorlds.{IsLeft, answer-in, own-in, stands-next}
-use Rattle.engine_core.proofs.Sizes.{accepted-of, bytes-prepared}
+use Rattle.engine_core.proofs.Sizes.{IsOfNumber, accepted-of, bytes-prepared, is_image, laid-as}
 use Rattle.engine_core.proofs.Stood.{stood-outside}
+use Rattle.engine_core.proofs.UnmadeEvents.{unmade-outside}
 
 -- a number is one of a session, or none
 in_range : (number : ℕ) → ((number ≡ 0) ⊎ (SESSIONS < number)) ⊎ ((1 ≤ number) × (number ≤ SESSIONS))
@@ -87,21 +88,36 @@ same_undoomed place before after held are doomed = record {
     held_in session (inl out) = (doomed.others session out).1
     held_in session (inr within) = (doomed.once_doomed held are session within.0 within.1).1
 
--- what runs by itself asks for no image
-plain : (asked : Statement) → RunsByItself asked → is_checkpoint (Run asked) ≡ false
-plain of.Begin none = refl
-plain (of.CreateTable table) none = refl
-plain (of.CreateView view) none = refl
-plain (of.Insert table columns rows) none = refl
-plain (of.Update table sets cond) none = refl
-plain (of.Delete table cond) none = refl
-plain (of.Select select) none = refl
-plain of.Commit none = refl
-plain of.Rollback none = refl
-plain (of.GdprGet table key) none = refl
-plain (of.GdprForget table key) none = refl
-plain of.Explain none = refl
-plain of.Checkpoint none = absurd none
+-- What runs by itself lays the store anew just where an image is to be written, and that with a commit more.
+laid_by : (asked : Statement) → RunsByItself asked → (db behind : Db) (number : ℕ) → is_image (written_by db (Run asked) behind number) ≡ lays_anew (Run asked)
+laid_by of.Begin none db behind number = refl
+laid_by (of.CreateTable table) none db behind number = refl
+laid_by (of.CreateView view) none db behind number = refl
+laid_by (of.Insert table columns rows) none db behind number = refl
+laid_by (of.Update table sets cond) none db behind number = refl
+laid_by (of.Delete table cond) none db behind number = refl
+laid_by (of.Select select) none db behind number = refl
+laid_by of.Commit none db behind number = refl
+laid_by of.Rollback none db behind number = refl
+laid_by (of.GdprGet table key) none db behind number = refl
+laid_by (of.GdprForget table key) none db behind number = refl
+laid_by of.Explain none db behind number = refl
+laid_by of.Checkpoint none db behind number = absurd none
+
+pub numbered-by : (asked : Statement) → RunsByItself asked → (db behind : Db) (number : ℕ) → IsOfNumber (number + 1) (written_by db (Run asked) behind number)
+numbered-by of.Begin none db behind number = absurd none
+numbered-by (of.CreateTable table) none db behind number = tt
+numbered-by (of.CreateView view) none db behind number = tt
+numbered-by (of.Insert table columns rows) none db behind number = tt
+numbered-by (of.Update table sets cond) none db behind number = tt
+numbered-by (of.Delete table cond) none db behind number = tt
+numbered-by (of.Select select) none db behind number = tt
+numbered-by of.Commit none db behind number = absurd none
+numbered-by of.Rollback none db behind number = absurd none
+numbered-by (of.GdprGet table key) none db behind number = tt
+numbered-by (of.GdprForget table key) none db behind number = refl
+numbered-by of.Explain none db behind number = tt
+numbered-by of.Checkpoint none db behind number = absurd none
 
 module _ (history : History) (entry : Entry) (before : State) (event : IsEvent before history entry) where
   abbrev now : World
@@ -172,7 +188,7 @@ module _ (history : History) (entry : Entry) (before : State) (event : IsEvent b
     run_is = λ i. left_by now.flat (stands_outside i) (asks i)
 
     -- by what is told where the disk takes it
-    module _ (given : Answer) (tells : Tells before.version (is_create (Run asked)) (commit_by before.version (Run asked) (run before.version asked).db) (λ verdict. reply_outside (world before.opened history) entry.session.0 verdict asked) (run before.version asked).db given)
+    module _ (given : Answer) (number : ℕ) (tells : Tells before.version (is_create (Run asked)) (written_by before.version (Run asked) (run before.version asked).db number) (λ verdict. reply_outside (world before.opened history) entry.session.0 verdict asked) (run before.version asked).db given)
         (took : entry.verdict ≡ Took) where
       told_took : told ≡ reply_outside now session Took asked
       told_took = told_outside ∙ ap (λ verdict. reply_outside now session verdict asked) took
@@ -196,30 +212,34 @@ module _ (history : History) (entry : Entry) (before : State) (event : IsEvent b
           ∙ ((λ i. commits (is_create (Run asked)) (event.stands.flat i) (run (event.stands.flat i) asked).db (sym told_took i))
           ∙ sym (commit-is now entry told (is_create (Run asked)) (run now.flat asked).db run_is (ap is_create asks)))
 
-      -- what is recorded is what the entry commits
-      commit_is : is_some given.next ≡ true → commit_by before.version (Run asked) (run before.version asked).db ≡ commit_of now entry
-      commit_is some =
+      -- what is prepared is what the entry leaves, and writes what it writes
+      left_as : left before.version given.next ≡ left_where_taken now entry
+      left_as = left_is ∙ sym (ap (λ (entry : Entry). flat_after now entry (answer now entry)) (under-took entry took))
+
+      written_as : is_some given.next ≡ true → written_by before.version (Run asked) (run before.version asked).db number ≡ written_of now entry number
+      written_as some =
           let accepted : is_refusal told ≡ false = ap is_refusal told_took ∙ accepted-of _ _ (sym tells.counted ∙ some) in
           let behind : left_where_taken now entry ≡ (run now.flat asked).db =
           ap (λ (entry : Entry). flat_after now entry (answer now entry)) (under-took entry took)
           ∙ (ap (λ (b : Bool). if b then now.flat else left_by now.flat (now.standing session) entry.request) accepted ∙ run_is) in
-          (λ i. commit_by (event.stands.flat i) (sym asks i) (run (event.stands.flat i) asked).db) ∙ ap (commit_by now.flat entry.request) (sym behind)
+          (λ i. written_by (event.stands.flat i) (sym asks i) (run (event.stands.flat i) asked).db number) ∙ ap (λ db. written_by now.flat entry.request db number) (sym behind)
 
       -- what is installed is what the entry does to the disk
       pub stores-outside : is_disk (reply_outside (world before.opened history) entry.session.0 DiskFault asked) ≡ asks_disk (world before.opened history) entry → {D : Type 0} (holds : D → Area → List ℕ) (leaves : D → Area → List ℕ → Type 0) (moment : D → ℕ)
-          (might_have_left : D → ℕ → List ℕ → List ℕ → Type 0) (honest : D → Bool) (faults : D → ℕ) (store new : StoreDisk D) (verdict : Verdict)
-          → Carries holds leaves moment might_have_left honest faults before.version (left before.version given.next) (is_some given.next) (is_some given.next) (record_size given.next) store verdict new
-          → IsCommitOrImage (world before.opened history) entry
-          × Carries holds leaves moment might_have_left honest faults (world before.opened history).flat (happens (world before.opened history) entry).flat (asks_disk (world before.opened history) entry)
-          (is_commit (world before.opened history) entry (answer (world before.opened history) entry)) (bytes_written (world before.opened history) entry store.commits) store verdict new
-      stores-outside asks_is holds leaves moment might_have_left honest faults store new verdict carries =
+          (might_have_left : D → ℕ → List ℕ → List ℕ → Type 0) (honest : D → Bool) (faults : D → ℕ) (store new : StoreDisk D) (verdict : Verdict) → number ≡ store.commits
+          → Carries holds leaves moment might_have_left honest faults before.version (left before.version given.next) (is_some given.next) (is_some given.next) (is_laid given.next) (write_size (store.commits + 1) given.next) store verdict new
+          → Carries holds leaves moment might_have_left honest faults (world before.opened history).flat (happens (world before.opened history) entry).flat (asks_disk (world before.opened history) entry)
+          (is_commit (world before.opened history) entry (answer (world before.opened history) entry)) (lays_anew entry.request) (bytes_written (world before.opened history) entry store.commits) store verdict new
+      stores-outside asks_is holds leaves moment might_have_left honest faults store new verdict numbered carries =
           let works : is_disk (reply_outside now session Took asked) ≡ false = sym (ap is_disk told_took) ∙ took-works now entry took event.up in
-          let asked_is = sym (disk-decided (λ verdict. reply_outside now session verdict asked) given.next tells.decided works) ∙ asks_is in (
-            λ asked_it. sym counted_is ∙ (asked_is ∙ (asked_it ∙ sym (ap not (ap is_checkpoint asks ∙ plain asked itself)))),
-            carries-of holds leaves moment might_have_left honest faults before.version now.flat (left before.version given.next) (happens now entry).flat (is_some given.next) (asks_disk now entry)
-                (is_some given.next) (is_commit now entry told) (record_size given.next) (bytes_written now entry store.commits) store new verdict event.stands.flat left_is asked_is counted_is
-                (bytes-prepared now entry store.commits given.next _ asked_is (ap is_checkpoint asks ∙ plain asked itself) tells.framed commit_is) carries,
-          )
+          let asked_is = sym (disk-decided (λ verdict. reply_outside now session verdict asked) given.next tells.decided works) ∙ asks_is in
+          let size : write_size (store.commits + 1) given.next ≡ bytes_written now entry store.commits =
+          subst (λ number. write_size (number + 1) given.next ≡ bytes_written now entry number) numbered
+          (bytes-prepared now entry number before.version given.next _ asked_is tells.writes (numbered-by asked itself before.version (run before.version asked).db number) written_as (λ some. left_as)) in
+          carries-of holds leaves moment might_have_left honest faults before.version now.flat (left before.version given.next) (happens now entry).flat (is_some given.next) (asks_disk now entry)
+          (is_some given.next) (is_commit now entry told) (is_laid given.next) (lays_anew entry.request) (write_size (store.commits + 1) given.next) (bytes_written now entry store.commits) store new verdict
+          event.stands.flat left_is asked_is counted_is
+          (λ asked_it. laid-as given.next _ tells.writes (asked_is ∙ asked_it) ∙ (laid_by asked itself before.version (run before.version asked).db number ∙ sym (ap lays_anew asks))) size carries
 
       module _ (erased : Erases before.version (Run asked) given) (after : State) (place : Place) (at : place.0 ≡ length history)
           (version : after.version ≡ left before.version given.next) (weighs : weight after.version ≡ after.weighs)
@@ -269,10 +289,10 @@ module _ (history : History) (entry : Entry) (before : State) (event : IsEvent b
             by true = stand-same []
             by false = before_held
 
-        serves_took : (answer now entry ≡ given.reply) × RepresentsWorld after (happens now entry) × (is_disk given.reply ≡ false)
+        serves_took : (answer now entry ≡ given.reply) × (Took ≢ DiskFault → RepresentsWorld after (happens now entry)) × (is_disk given.reply ≡ false)
         serves_took = (
           replied,
-          stands-next history entry event.entries event.is_entry before event.begun event.stands event.up after place at (version ∙ left_is) weighs
+          λ other. stands-next history entry event.entries event.is_entry before event.begun event.stands event.up after place at (version ∙ left_is) weighs
               (subst (λ stood. RepresentsSession (flat_after now entry told) (state_by after.txns.states session) stood) (sym (own_outside works_took))
               (subst (λ one. RepresentsSession (flat_after now entry told) one Outside) (sym own_kept) tt))
               (subst (λ stood. RepresentsItems (held_by after.txns.held session) (items_held (flat_after now entry told).schema stood)) (sym (own_outside works_took)) own_held)
@@ -282,7 +302,7 @@ module _ (history : History) (entry : Entry) (before : State) (event : IsEvent b
 
 module _ (history : History) (entry : Entry) (before after : State) (event : IsEvent before history entry) (place : Place) (at : place.0 ≡ length history)
     (asked : Statement) (asks : entry.request ≡ Run asked) (itself : RunsByItself asked) (nothing : state_by before.txns.states entry.session.0 ≡ kept.Nothing)
-    (given : Answer) (tells : Tells before.version (is_create (Run asked)) (commit_by before.version (Run asked) (run before.version asked).db) (λ verdict. reply_outside (world before.opened history) entry.session.0 verdict asked) (run before.version asked).db given) where
+    (given : Answer) (number : ℕ) (tells : Tells before.version (is_create (Run asked)) (written_by before.version (Run asked) (run before.version asked).db number) (λ verdict. reply_outside (world before.opened history) entry.session.0 verdict asked) (run before.version asked).db given) where
   abbrev session_of : ℕ
   session_of = entry.session.0
 
@@ -298,35 +318,51 @@ module _ (history : History) (entry : Entry) (before after : State) (event : IsE
 
   serves_by : (verdict : Verdict) (reply : Reply) → Erases before.version (Run asked) given → reply ≡ by_verdict verdict given.reply
       → (verdict ≡ Took → after.version ≡ left before.version given.next) → (verdict ≡ Took → weight after.version ≡ after.weighs) → (verdict ≡ Took → HasDoomed given.erased place before.txns after.txns)
-      → (verdict ≢ Took → after ≡ before) → (verdict ≢ Took → given.next ≢ None) → Serves {E = ℕ} before.opened after history entry (Ok (verdict, reply))
+      → (verdict ≡ NoRoom → after ≡ before) → (verdict ≢ Took → given.next ≢ None) → Serves {E = ℕ} before.opened after history entry (Ok (verdict, reply))
   serves_by Took reply erased is version weighs doomed stays some =
       subst (λ reply. Serves {E = ℕ} before.opened after history entry (Ok (Took, reply))) (sym is)
-      (serves_took history (under Took entry) before (event-under history entry before Took event) asked asks itself nothing given tells refl erased after place at (version refl) (weighs refl) (doomed refl))
+      (serves_took history (under Took entry) before (event-under history entry before Took event) asked asks itself nothing given number tells refl erased after place at (version refl) (weighs refl) (doomed refl))
   serves_by DiskFault reply erased is version weighs doomed stays some =
       let other : DiskFault ≢ Took = λ same. absurd (cc) in
       subst (λ reply. Serves {E = ℕ} before.opened after history entry (Ok (DiskFault, reply))) (sym is)
-      (serves-fault history entry before after event (refused_by DiskFault reply (some other) is other) (stays other))
+      (serves-fault history entry before after event (refused_by DiskFault reply (some other) is other))
   serves_by NoRoom reply erased is version weighs doomed stays some =
       let other : NoRoom ≢ Took = λ same. absurd (cc) in
       let told = refused_by NoRoom reply (some other) is other in
       subst (λ reply. Serves {E = ℕ} before.opened after history entry (Ok (NoRoom, reply))) (sym is) (
         told,
-        subst (λ state. RepresentsWorld state (happens (world before.opened history) (under NoRoom entry))) (sym (stays other))
+        λ no_fault. subst (λ state. RepresentsWorld state (happens (world before.opened history) (under NoRoom entry))) (sym (stays refl))
             (unmoved_outside history (under NoRoom entry) before (event-under history entry before NoRoom event) asked asks itself nothing (refusal.Limit limit.Room) told refl),
         refl,
       )
 
-  -- What an answer leads to is left where the disk takes its record; else the state is as it was.
+  -- What an answer leads to is left where the disk takes its record; where there is no room for it the state is as it was.
   pub serves-installed : Erases before.version (Run asked) given → (told : Verdict × Reply) → told.1 ≡ by_verdict told.0 given.reply
       → (told.0 ≡ Took → after.version ≡ left before.version given.next) → (told.0 ≡ Took → weight after.version ≡ after.weighs) → (told.0 ≡ Took → HasDoomed given.erased place before.txns after.txns)
-      → (told.0 ≢ Took → after ≡ before) → (told.0 ≢ Took → given.next ≢ None) → Serves {E = ℕ} before.opened after history entry (Ok told)
+      → (told.0 ≡ NoRoom → after ≡ before) → (told.0 ≢ Took → given.next ≢ None) → Serves {E = ℕ} before.opened after history entry (Ok told)
   serves-installed erased told is version weighs doomed stays some = serves_by told.0 told.1 erased is version weighs doomed stays some
+
+  -- by what installing it came to: where memory was refused the state is as it was
+  pub serves-result : {E : Type 0} → Erases before.version (Run asked) given → (result : Result (Verdict × Reply) E) → IfOk result (λ told. told.1 ≡ by_verdict told.0 given.reply)
+      → IfOk result (λ told. told.0 ≡ Took → after.version ≡ left before.version given.next) → IfOk result (λ told. told.0 ≡ Took → weight after.version ≡ after.weighs)
+      → IfOk result (λ told. told.0 ≡ Took → HasDoomed given.erased place before.txns after.txns) → IfOk result (λ told. told.0 ≡ NoRoom → after ≡ before) → IfOk result (λ told. told.0 ≢ Took → given.next ≢ None)
+      → OnErr result (after ≡ before) → Serves before.opened after history entry result
+  serves-result erased (Ok told) is version weighs doomed stays some same = serves-installed erased told is version weighs doomed stays some
+  serves-result erased (Err refused) is version weighs doomed stays some same =
+      (subst (λ state. RepresentsWorld state (world before.opened history)) (sym same) event.stands, unmade-outside history entry before event nothing asked asks itself)
 
   -- and so it is stored
   pub stores-installed : entry.verdict ≡ Took → {D : Type 0} (holds : D → Area → List ℕ) (leaves : D → Area → List ℕ → Type 0) (moment : D → ℕ)
-      (might_have_left : D → ℕ → List ℕ → List ℕ → Type 0) (honest : D → Bool) (faults : D → ℕ) (store new : StoreDisk D) (verdict : Verdict)
-      → Carries holds leaves moment might_have_left honest faults before.version (left before.version given.next) (is_some given.next) (is_some given.next) (record_size given.next) store verdict new
-      → IsCommitOrImage (world before.opened history) entry
-      × Carries holds leaves moment might_have_left honest faults (world before.opened history).flat (happens (world before.opened history) entry).flat (asks_disk (world before.opened history) entry)
-      (is_commit (world before.opened history) entry (answer (world before.opened history) entry)) (bytes_written (world before.opened history) entry store.commits) store verdict new
-  stores-installed took = stores-outside history entry before event asked asks itself nothing given tells took (sym (asks-is (world before.opened history) entry (replies DiskFault) (told-outside DiskFault)))
+      (might_have_left : D → ℕ → List ℕ → List ℕ → Type 0) (honest : D → Bool) (faults : D → ℕ) (store new : StoreDisk D) (verdict : Verdict) → number ≡ store.commits
+      → Carries holds leaves moment might_have_left honest faults before.version (left before.version given.next) (is_some given.next) (is_some given.next) (is_laid given.next) (write_size (store.commits + 1) given.next) store verdict new
+      → Carries holds leaves moment might_have_left honest faults (world before.opened history).flat (happens (world before.opened history) entry).flat (asks_disk (world before.opened history) entry)
+      (is_commit (world before.opened history) entry (answer (world before.opened history) entry)) (lays_anew entry.request) (bytes_written (world before.opened history) entry store.commits) store verdict new
+  stores-installed took = stores-outside history entry before event asked asks itself nothing given number tells took (sym (asks-is (world before.opened history) entry (replies DiskFault) (told-outside DiskFault)))
+
+  pub stores-result : entry.verdict ≡ Took → {D E : Type 0} (holds : D → Area → List ℕ) (leaves : D → Area → List ℕ → Type 0) (moment : D → ℕ)
+      (might_have_left : D → ℕ → List ℕ → List ℕ → Type 0) (honest : D → Bool) (faults : D → ℕ) (store new : StoreDisk D) → number ≡ store.commits → (result : Result (Verdict × Reply) E)
+      → IfOk result (λ told. Carries holds leaves moment might_have_left honest faults before.version (left before.version given.next) (is_some given.next) (is_some given.next) (is_laid given.next) (write_size (store.commits + 1) given.next) store told.0 new)
+      → OnErr result (new ≡ store) → Stores holds leaves moment might_have_left honest faults (world before.opened history) entry store result new
+  stores-result took holds leaves moment might_have_left honest faults store new numbered (Ok told) carries same =
+      stores-installed took holds leaves moment might_have_left honest faults store new told.0 numbered carries
+  stores-result took holds leaves moment might_have_left honest faults store new numbered (Err refused) carries same = same

@@ -19,6 +19,7 @@ mod OutsideReplies
 mod PromptEvents
 mod Puts
 mod RecordedCreates
+mod Images
 mod InstalledEvents
 mod RepresentsLemmas
 mod Sizes

@@ -25,7 +25,7 @@ use Rattle.history_model.specs.World.{World}
 use Rattle.txn_core.specs.SessionStates.{is_open, state_by}
 use Rattle.txn_core.proofs.RepresentsSteps.{represents_lowest}
 use Rattle.engine_core.specs.declared.answer.Answer.{Answer}
-use Rattle.crash_model.specs.Room.{commit_by}
+use Rattle.crash_model.specs.Room.{written_by}
 use Rattle.engine_core.specs.Answered.{Tells, bound_reply}
 use Rattle.engine_core.specs.Asked.{IsBound, IsCreate, RunsByItself, has_place_inside}
 use Rattle.engine_core.specs.RepresentsWorld.{RepresentsWorld}
@@ -87,10 +87,10 @@ module _ (state : State) (world : World) (stands : RepresentsWorld state world) 
   unfolding run
   left-explain = refl
 
-  pub tells-explain : (asked : Statement) (answer : Answer) → asked ≡ Explain → answer.reply ≡ Graph (explained state.version.schema) → answer.next ≡ None
-      → Tells state.version (is_create (Run asked)) (commit_by state.version (Run asked) (run state.version asked).db) (λ verdict. reply_outside world session verdict asked) (run state.version asked).db answer
-  tells-explain asked answer is told stays =
-      subst (λ asked. Tells state.version (is_create (Run asked)) (commit_by state.version (Run asked) (run state.version asked).db) (λ verdict. reply_outside world session verdict asked) (run state.version asked).db answer) (sym is)
+  pub tells-explain : (number : ℕ) (asked : Statement) (answer : Answer) → asked ≡ Explain → answer.reply ≡ Graph (explained state.version.schema) → answer.next ≡ None
+      → Tells state.version (is_create (Run asked)) (written_by state.version (Run asked) (run state.version asked).db number) (λ verdict. reply_outside world session verdict asked) (run state.version asked).db answer
+  tells-explain number asked answer is told stays =
+      subst (λ asked. Tells state.version (is_create (Run asked)) (written_by state.version (Run asked) (run state.version asked).db number) (λ verdict. reply_outside world session verdict asked) (run state.version asked).db answer) (sym is)
       (tells-left state.version (run state.version Explain).db _ (Graph (explained state.version.schema)) answer left-explain reply-explain told stays)
 
   -- who keeps a CREATE waiting

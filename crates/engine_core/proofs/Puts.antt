@@ -1,5 +1,5 @@
 -- What is left where something is prepared, by what the disk said of it.
-use Rattle.std.proofs.Common.{◌≡◌, ◌≢◌, ℕ, List, length, true, false, None, Some, inl, inr, refl, subst, sym}
+use Rattle.std.proofs.Common.{◌≡◌, ◌≢◌, ◌+◌, ℕ, List, true, false, None, Some, inl, inr, refl, subst, sym}
 use Rattle.std.specs.Prelude.{◌⊎◌, Bool, Option, is_some}
 use Rattle.own_base.specs.declared.number.Area.{Area}
 use Rattle.own_base.specs.declared.number.Area.TheVariants.{A, B}
@@ -7,7 +7,7 @@ use Rattle.own_model.specs.declared.history.Verdict.{Verdict}
 use Rattle.own_model.specs.declared.history.Verdict.TheVariants.{Took, DiskFault, NoRoom}
 use Rattle.own_model.specs.Db.{Db}
 use Rattle.store_disk.specs.declared.store_disk.StoreDisk.{StoreDisk}
-use Rattle.engine_core.specs.Answered.{IsPrepared, MayBeLeft, left, record_size}
+use Rattle.engine_core.specs.Answered.{IsPrepared, MayBeLeft, behind_by, is_anew, is_laid, left, size_of, write_size}
 use Rattle.engine_core.specs.Stored.{Carries, IsUp}
 use Rattle.engine_core.specs.declared.prepared.Prepared.{Prepared}
 use Rattle.engine_core.proofs.Carried.{carries-same}
@@ -30,15 +30,14 @@ module _ {D : Type 0} (holds : D → Area → List ℕ) (leaves : D → Area →
     (store : StoreDisk D) (db : Db) (next : Option Prepared) where
   -- where nothing is prepared the disk isn't asked
   pub carries-none : ((disk : D) (a b : List ℕ) → might_have_left disk (moment disk) a b → leaves disk A a × leaves disk B b) → IsUp holds leaves honest store db → next ≡ None
-      → Carries holds leaves moment might_have_left honest faults db (left db next) (is_some next) (is_some next) (record_size next) store Took store
+      → Carries holds leaves moment might_have_left honest faults db (left db next) (is_some next) (is_some next) (is_laid next) (write_size (store.commits + 1) next) store Took store
   carries-none only_now up none =
-      subst (λ next. Carries holds leaves moment might_have_left honest faults db (left db next) (is_some next) (is_some next) (record_size next) store Took store) (sym none)
+      subst (λ next. Carries holds leaves moment might_have_left honest faults db (left db next) (is_some next) (is_some next) (is_laid next) (write_size (store.commits + 1) next) store Took store) (sym none)
       (carries-same holds leaves moment might_have_left only_now honest faults store db db false false up refl refl refl)
 
-  -- else it is asked to take its record
-  pub carries-some : (prepared : Prepared) (bytes : List ℕ) (verdict : Verdict) (new : StoreDisk D) → next ≡ Some prepared → bytes ≡ prepared.«record»
-      → Carries holds leaves moment might_have_left honest faults db prepared.next true true (length bytes) store verdict new
-      → Carries holds leaves moment might_have_left honest faults db (left db next) (is_some next) (is_some next) (record_size next) store verdict new
-  carries-some prepared bytes verdict new is of_record carries =
-      subst (λ next. Carries holds leaves moment might_have_left honest faults db (left db next) (is_some next) (is_some next) (record_size next) store verdict new) (sym is)
-      (subst (λ bytes. Carries holds leaves moment might_have_left honest faults db prepared.next true true (length bytes) store verdict new) of_record carries)
+  -- else it is asked to take what that writes
+  pub carries-some : (prepared : Prepared) (verdict : Verdict) (new : StoreDisk D) → next ≡ Some prepared
+      → Carries holds leaves moment might_have_left honest faults db (behind_by db prepared.state) true true (is_anew prepared.state) (size_of (store.commits + 1) prepared.state prepared.bytes) store verdict new
+      → Carries holds leaves moment might_have_left honest faults db (left db next) (is_some next) (is_some next) (is_laid next) (write_size (store.commits + 1) next) store verdict new
+  carries-some prepared verdict new is carries =
+      subst (λ next. Carries holds leaves moment might_have_left honest faults db (left db next) (is_some next) (is_some next) (is_laid next) (write_size (store.commits + 1) next) store verdict new) (sym is) carries

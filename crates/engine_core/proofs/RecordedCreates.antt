@@ -32,6 +32,7 @@ use Rattle.commit_record.specs.Recorded.{Frames, create_commit}
 use Rattle.commit_record.proofs.Texts.{kept-text-of, short-create}
 use Rattle.run_model.specs.Run.{Outcome, add_view, create_table}
 use Rattle.history_model.specs.Reply.{create_reply}
+use Rattle.crash_model.specs.Room.{Appended}
 use Rattle.engine_core.specs.Answered.{IsRecorded, Tells}
 use Rattle.engine_core.specs.declared.answer.Answer.{Answer}
 use Rattle.engine_core.proofs.Commits.{tells-framed}
@@ -61,9 +62,9 @@ view-utf8 text bytes is = (payload-spelled (commit.CreateView text) is.payload i
 created-by : (db next : Db) (made : Outcome) (view : Bool) (text : List ℕ) (weighs : ℕ) (framed : Result (List ℕ) EncodeFault) (answer : Answer) → made ≡ record { db = next; reply = Done } → fault next ≡ None
     → weight next ≡ weighs → ((bytes : List ℕ) → IsFramed (create_commit view text) bytes → Follows db (create_commit view text) next) → ((count : ℕ) → framed ≡ Err (TooBig count) → ⊥)
     → Frames (create_commit view text) framed → IsRecorded next weighs Done framed answer
-    → Tells db true (create_commit view text) (λ verdict. create_reply verdict made) made.db answer
+    → Tells db true (Appended (create_commit view text)) (λ verdict. create_reply verdict made) made.db answer
 created-by db next made view text weighs framed answer made_is none weight_is follows never frames is =
-    subst (λ (made : Outcome). Tells db true (create_commit view text) (λ verdict. create_reply verdict made) made.db answer) (sym made_is)
+    subst (λ (made : Outcome). Tells db true (Appended (create_commit view text)) (λ verdict. create_reply verdict made) made.db answer) (sym made_is)
     (tells-framed db next true _ Done weighs (create_commit view text) framed answer refl (λ verdict. rw none refl) refl weight_is follows never frames is)
 
 module _ (reads_back : (most : ℕ) (statement : Statement) → IsWritten most statement → IsAnswer (canonical statement) (GivesStatement statement)) where
@@ -71,10 +72,10 @@ module _ (reads_back : (most : ℕ) (statement : Statement) → IsWritten most s
   pub tells-table : (db next : Db) (table : TableCreate) (text : List ℕ) (weighs : ℕ) (framed : Result (List ℕ) EncodeFault) (answer : Answer) → Sound db → weight db ≡ weighs
       → IsWritten STATEMENT_BYTES (statement_of (OfTable table)) → refusal_of db.schema (holds_rows db.rows) table ≡ None → text ≡ (text_of (OfTable table)).text → next ≡ create db table
       → Frames (create_commit false text) framed → IsRecorded next weighs Done framed answer
-      → Tells db true (commit.CreateTable (text_of (OfTable table)).text) (λ verdict. create_reply verdict (create_table db table)) (create_table db table).db answer
+      → Tells db true (Appended (commit.CreateTable (text_of (OfTable table)).text)) (λ verdict. create_reply verdict (create_table db table)) (create_table db table).db answer
   tells-table db next table text weighs framed answer sound weight_is written none text_is next_is frames is =
       let judged = judged-table db next table weighs sound weight_is written none next_is in
-      subst (λ text. Tells db true (commit.CreateTable text) (λ verdict. create_reply verdict (create_table db table)) (create_table db table).db answer) text_is
+      subst (λ text. Tells db true (Appended (commit.CreateTable text)) (λ verdict. create_reply verdict (create_table db table)) (create_table db table).db answer) text_is
       (created-by db next (create_table db table) false text weighs framed answer (made-table db next table none next_is) judged.0 judged.1 (λ bytes framed_is.
       let own = kept-text-of reads_back (OfTable table) written (subst IsUtf8 text_is (table-utf8 text bytes framed_is)) in
       let of_text = subst (λ text. IsTextOf (OfTable table) (record { view = false; text = text })) (sym text_is) own in
@@ -85,10 +86,10 @@ module _ (reads_back : (most : ℕ) (statement : Statement) → IsWritten most s
   pub tells-view : (db next : Db) (view : ViewCreate) (definition : ViewDef) (text : List ℕ) (weighs size : ℕ) (framed : Result (List ℕ) EncodeFault) (answer : Answer) → Sound db → weight db ≡ weighs
       → IsWritten STATEMENT_BYTES (statement_of (OfView view)) → bound_view db.schema view ≡ Ok definition → nat_lt STORE_WEIGHT (weighs + view_weight db definition) ≡ false
       → weighs + view_weight db definition ≡ size → text ≡ (text_of (OfView view)).text → next ≡ create_view db view → Frames (create_commit true text) framed → IsRecorded next size Done framed answer
-      → Tells db true (commit.CreateView (text_of (OfView view)).text) (λ verdict. create_reply verdict (add_view db view)) (add_view db view).db answer
+      → Tells db true (Appended (commit.CreateView (text_of (OfView view)).text)) (λ verdict. create_reply verdict (add_view db view)) (add_view db view).db answer
   tells-view db next view definition text weighs size framed answer sound weight_is written bound light size_is text_is next_is frames is =
       let judged = subst (λ (db : Db). (fault db ≡ None) × (weight db ≡ size)) (sym next_is) (judged-view db view definition weighs (Weighs size) sound weight_is bound (light, size_is)) in
-      subst (λ text. Tells db true (commit.CreateView text) (λ verdict. create_reply verdict (add_view db view)) (add_view db view).db answer) text_is
+      subst (λ text. Tells db true (Appended (commit.CreateView text)) (λ verdict. create_reply verdict (add_view db view)) (add_view db view).db answer) text_is
       (created-by db next (add_view db view) true text size framed answer (made-view db next view definition bound next_is) judged.0 judged.1 (λ bytes framed_is.
       let own = kept-text-of reads_back (OfView view) written (subst IsUtf8 text_is (view-utf8 text bytes framed_is)) in
       let of_text = subst (λ text. IsTextOf (OfView view) (record { view = true; text = text })) (sym text_is) own in

@@ -1,7 +1,8 @@
 -- The state that an engine keeps represents the world of its history.
-use Rattle.std.specs.Prelude.{◌≡◌, ℕ, None, Result, Ok, Err}
+use Rattle.std.specs.Prelude.{◌≡◌, ◌≢◌, ℕ, None, Result, Ok, Err}
 use Rattle.own_model.specs.declared.history.Entry.{Entry}
 use Rattle.own_model.specs.declared.history.Verdict.{Verdict}
+use Rattle.own_model.specs.declared.history.Verdict.TheVariants.{DiskFault}
 use Rattle.own_model.specs.declared.reply.Reply.{Reply}
 use Rattle.own_model.specs.Db.{Db}
 use Rattle.state_model.specs.Sound.{Sound}
@@ -41,10 +42,10 @@ IsUnmade base after history entry =
     RepresentsWorld after (world base history) × MayBeUnmadeFrom (world base history).flat.schema ((world base history).standing entry.session.0) entry.request
 
 -- What became of an entry, over this database: it was answered as in the world of the history with what the disk said, and the
--- state represents the world with it; or memory was refused.
+-- state represents the world with it, unless the disk failed; or memory was refused.
 abbrev pub Serves : {E : Type 0} → Db → State → History → Entry → Result (Verdict × Reply) E → Type 0
 Serves base after history entry (Ok told) =
-    (answer (world base history) (under told.0 entry) ≡ told.1) × RepresentsWorld after (happens (world base history) (under told.0 entry)) × (is_disk told.1 ≡ is_fault told.0)
+    (answer (world base history) (under told.0 entry) ≡ told.1) × (told.0 ≢ DiskFault → RepresentsWorld after (happens (world base history) (under told.0 entry))) × (is_disk told.1 ≡ is_fault told.0)
 Serves base after history entry (Err refused) = IsUnmade base after history entry
 
 -- the same of an entry that the disk isn't asked for

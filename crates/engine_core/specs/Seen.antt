@@ -11,12 +11,12 @@ use Rattle.own_model.specs.Db.{Db}
 use Rattle.outer_world.specs.FaultCount.{CountRose}
 use Rattle.outer_world.specs.LeavesOnly.{LeavesOnly}
 use Rattle.history_model.specs.AsksDisk.{asks_disk, under}
-use Rattle.history_model.specs.Commits.{is_commit}
+use Rattle.history_model.specs.Commits.{commits}
 use Rattle.history_model.specs.History.{History, flat, is_disk, reply, standing, world}
 use Rattle.history_model.specs.MayBeUnmade.{MayBeUnmadeFrom}
-use Rattle.history_model.specs.Reply.{answer}
+use Rattle.crash_model.specs.Alone.{IsAloneOn}
 use Rattle.crash_model.specs.LeftBy.{IsLeftBy}
-use Rattle.crash_model.specs.Room.{JournalEnd, bytes_written}
+use Rattle.crash_model.specs.Room.{JournalEnd, bytes_written, journal_behind, lays_anew}
 use Rattle.store_disk.specs.Kept.{HasRoomFor}
 use Rattle.store_disk.specs.declared.store_disk.StoreDisk.{StoreDisk}
 use Rattle.engine_core.specs.Stored.{IsLaidAnew, is_fault}
@@ -52,12 +52,18 @@ pub record Makes {D : Type 0} (before after : Seen D) (made : Entry) (place : �
   pub journal : after.journal ≡ before.journal
   pub spare : before.spare ≤ after.spare + 1
 
+-- Behind a history over a database that so many commits had made, and whose journal stood there, nothing but the flat database is on
+-- a disk.
+pub record IsAloneBehind {D : Type 0} (holds : D → Area → List ℕ) (leaves : D → Area → List ℕ → Type 0) (disk : D) (at : JournalEnd) (base : Db) (start : ℕ) (history : History) : Type 0 where
+  pub area : Area
+  pub alone : IsAloneOn holds leaves disk (flat base history) (start + length (commits base history)) (journal_behind at base start history).epoch area
+
 -- a crash leaves what the one history says, or the other
 abbrev pub IsLeftByEither : Db → ℕ → History → History → List ℕ → List ℕ → Type 0
 IsLeftByEither base start before after a b = IsLeftBy base start before a b ⊎ IsLeftBy base start after a b
 
 -- What it did to the disk, where this was its entry with the verdict that the disk took it.
-pub record Writes {D : Type 0} (holds : D → Area → List ℕ) (moment : D → ℕ) (might_have_left : D → ℕ → List ℕ → List ℕ → Type 0)
+pub record Writes {D : Type 0} (holds : D → Area → List ℕ) (leaves : D → Area → List ℕ → Type 0) (moment : D → ℕ) (might_have_left : D → ℕ → List ℕ → List ℕ → Type 0)
     (honest : D → Bool) (faults : D → ℕ) (before after : Seen D) (call : Entry) (verdict : Verdict) (told : Reply) : Type 0 where
   -- it tells a fault of the disk just where the verdict is one, and only where the disk's count of faults rose
   pub fault : is_disk told ≡ is_fault verdict
@@ -70,10 +76,9 @@ pub record Writes {D : Type 0} (holds : D → Area → List ℕ) (moment : D →
       × (HasRoomFor before.store.journal before.store.commits (bytes_written (world before.base before.history) call before.store.commits) → ⊥)
   pub roomy : asks_disk (world before.base before.history) call ≡ true → verdict ≢ NoRoom
       → HasRoomFor before.store.journal before.store.commits (bytes_written (world before.base before.history) call before.store.commits)
-  -- what asks the disk and is no commit, as a CHECKPOINT, lays the store anew
-  pub anew : asks_disk (world before.base before.history) call ≡ true
-      → is_commit (world before.base before.history) call (answer (world before.base before.history) call) ≡ false
-      → verdict ≡ Took → IsLaidAnew holds honest (flat before.base before.history) before.store after.store
+  -- a CHECKPOINT and a FORGET that the disk took have laid the store anew, with the flat database and nothing else
+  pub anew : asks_disk (world before.base before.history) call ≡ true → lays_anew call.request ≡ true → verdict ≡ Took
+      → IsLaidAnew holds leaves honest (flat after.base after.history) (bytes_written (world before.base before.history) call before.store.commits) before.store after.store
   -- a crash at any moment of the call leaves what the history before it says, or the history with it
   pub left : IsTrue (honest (disk_of before)) → LeavesOnly moment might_have_left (IsLeftByEither before.base before.start before.history after.history) (disk_of before) (disk_of after)
   pub honesty : honest (disk_of after) ≡ honest (disk_of before)
@@ -93,8 +98,8 @@ pub record LeavesUnmade {D : Type 0} (before after : Seen D) (unmade : Entry) : 
 
 -- What a call came to, by its entry as one that the disk took: it was made, as the disk said, or memory kept it from being
 -- made. It never comes to a look.
-abbrev pub Steps : {D S : Type 0} → (D → Area → List ℕ) → (D → ℕ) → (D → ℕ → List ℕ → List ℕ → Type 0) → (D → Bool) → (D → ℕ) → Seen D → Seen D → Entry → Step S → Type 0
-Steps holds moment might_have_left honest faults before after call (Answered place told) =
-    (verdict : Verdict) × Makes before after (under verdict call) place.0 told × Writes holds moment might_have_left honest faults before after call verdict told
-Steps holds moment might_have_left honest faults before after call (Look place shown bound) = ⊥
-Steps holds moment might_have_left honest faults before after call NoMemory = LeavesUnmade before after call
+abbrev pub Steps : {D S : Type 0} → (D → Area → List ℕ) → (D → Area → List ℕ → Type 0) → (D → ℕ) → (D → ℕ → List ℕ → List ℕ → Type 0) → (D → Bool) → (D → ℕ) → Seen D → Seen D → Entry → Step S → Type 0
+Steps holds leaves moment might_have_left honest faults before after call (Answered place told) =
+    (verdict : Verdict) × Makes before after (under verdict call) place.0 told × Writes holds leaves moment might_have_left honest faults before after call verdict told
+Steps holds leaves moment might_have_left honest faults before after call (Look place shown bound) = ⊥
+Steps holds leaves moment might_have_left honest faults before after call NoMemory = LeavesUnmade before after call

@@ -24,12 +24,12 @@ pub(crate) fn checkpoint<D: Disk>(
     requires sound { Sound version.now }
     requires store { IsUp D.holds D.leaves D.honest store.old version.now }
     ensures told { IfOk result (λ told. told.1 ≡ by_verdict told.0 Done) }
-    ensures carried { IfOk result (λ told. Carries D.holds D.leaves D.moment D.might_have_left D.honest D.faults version.now version.now true false (image_bytes version.now store.old.commits) store.old told.0 store.new) }
+    ensures carried { IfOk result (λ told. Carries D.holds D.leaves D.moment D.might_have_left D.honest D.faults version.now version.now true false true (image_bytes version.now store.old.commits) store.old told.0 store.new) }
     ensures unchanged { OnErr result (store.new ≡ store.old) }
 {
     let shown = Shown { version };
     let gated = encode(alloc, &shown, version.catalog().creates(), store.commits())?;
-    let verdict = lay(store, gated.items());
+    let verdict = lay(store, gated.items(), false);
     drop(gated);
     Ok((verdict, refused_by(verdict, Reply::Done)))
 }

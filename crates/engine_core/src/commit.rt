@@ -1,5 +1,6 @@
-ghost use Rattle.std.specs.Prelude.{◌≡◌, ◌≢◌, [], false, None, IfOk, OnErr};
+ghost use Rattle.std.specs.Prelude.{◌≡◌, ◌≢◌, ◌∷◌, [], false, None, IfOk, IfSome, IsTrue, OnErr, length};
 ghost use Rattle.move_model.specs.Moves.{AreMovesOf};
+ghost use Rattle.schema_model.specs.Lone.{is_lone};
 ghost use Rattle.state_model.specs.Net.{net};
 ghost use Rattle.state_model.specs.Put.{put};
 ghost use Rattle.state_model.specs.CommitRefusal as spec;
@@ -8,14 +9,15 @@ ghost use Rattle.state_model.specs.Weight.{weight};
 ghost use Rattle.disk_model.specs.declared.commit.Commit.TheVariants.{Changes};
 ghost use Rattle.disk_model.specs.PutOf.{puts_of};
 ghost use Rattle.commit_check.specs.Judged.{IsJudged};
+ghost use Rattle.crash_model.specs.Room.{Appended};
 ghost use Rattle.history_model.specs.Reply as spec_of;
 ghost use Rattle.history_model.specs.Reply.{committing};
-ghost use Rattle.engine_core.specs.Answered.{IsRecorded, Tells};
+ghost use Rattle.engine_core.specs.Answered.{IsOnlyOfLone, IsRecordedAs, Tells};
 
 use crate::answer::Answer;
-use crate::prepared::Prepared;
+use crate::prepared::{NextState, Prepared};
 use commit_check::Judged;
-use commit_judge::judge_by;
+use commit_judge::{judge_alone, judge_by};
 use commit_record::record_of_changes;
 use move_model::OwnerMove;
 use own_base::{Change, List};
@@ -56,30 +58,30 @@ fn is_refusal(reply: &Reply) -> bool
     matches!(reply, Reply::Refused(_))
 }
 
-/// The answer to a call that leads to a next version without a fault: with its record it is left; where that would be longer
+/// The answer to a call that leads to a next state without a fault: with its record it is left; where that would be longer
 /// than a record may be, the call is refused with its length.
 pub(crate) fn recorded(
     alloc: Global,
-    next: Next,
+    state: NextState,
     weighs: u64,
     framed: Result<List<u8>, EncodeFault>,
     reply: Reply,
 ) -> Result<Answer, AllocError>
-    ensures told { IfOk result (IsRecorded next weighs reply framed) }
+    ensures told { IfOk result (IsRecordedAs state weighs reply framed) }
     ensures nothing { IfOk result (λ answer. answer.erased ≡ []) }
 {
     match framed {
         Ok(framed) => Ok(Answer {
             reply,
             next: Some(Prepared {
-                next,
+                state,
                 weighs,
-                record: framed,
+                bytes: framed,
             }),
             erased: List::new(alloc),
         }),
         Err(fault) => {
-            drop(next);
+            drop(state);
             drop(reply);
             match fault {
                 EncodeFault::TooBig(bytes) => {
@@ -105,7 +107,7 @@ fn commit_beside(
     requires some { changes.now ≢ [] }
     requires well_formed { IsWellFormed (put version.now changes.now) }
     requires accepted { spec_of.is_refusal reply ≡ false }
-    ensures tells { IfOk result (Tells version.now false (Changes (puts_of (net version.now (put version.now changes.now)))) (λ verdict. committing verdict (spec_of.changes version.now (put version.now changes.now))
+    ensures tells { IfOk result (Tells version.now false (Appended (Changes (puts_of (net version.now (put version.now changes.now))))) (λ verdict. committing verdict (spec_of.changes version.now (put version.now changes.now))
         (spec.commit_refusal version.now (put version.now changes.now)) reply) (put version.now changes.now)) }
     ensures nothing { IfOk result (λ answer. answer.erased ≡ []) }
 {
@@ -114,7 +116,8 @@ fn commit_beside(
     drop(moves);
     match judged {
         Ok(Judged::Weighs(sum)) => {
-            recorded(alloc, next, sum, record_of_changes(alloc, changes), reply)
+            let framed = record_of_changes(alloc, changes);
+            recorded(alloc, NextState::Beside(next), sum, framed, reply)
         }
         Ok(Judged::Fault(why)) => {
             drop(next);
@@ -129,30 +132,94 @@ fn commit_beside(
     }
 }
 
+/// What is judged of the state to which one change leads, before it is made, where nothing is linked with its table.
+fn judged_alone(version: &Version, weighs: u64, change: &Change) -> Option<Judged>
+    requires sound { Sound version.now }
+    requires weighs { weight version.now ≡ weighs }
+    requires net { change.now ∷ [] ≡ net version.now (put version.now (change.now ∷ [])) }
+    requires well_formed { IsWellFormed (put version.now (change.now ∷ [])) }
+    ensures judged { IfSome result (IsJudged (put version.now (change.now ∷ []))) }
+    ensures lone { IfSome result (λ judged. IsTrue (is_lone version.now.schema change.now.name.table.0)) }
+{
+    judge_alone(&Shown { version }, weighs, change)
+}
+
+/// The only change of those that there are.
+fn only_change(changes: List<Change>) -> Change
+    requires { length changes ≡ 1 }
+    ensures { changes ≡ result ∷ [] }
+{
+    let mut items = changes.into_vec();
+    items.pop().unwrap()
+}
+
+/// The answer to a commit of one change alone, which is made in the version that stands once the disk has its record, by what
+/// was judged of that.
+fn commit_in_place(
+    alloc: Global,
+    version: &Version,
+    changes: List<Change>,
+    judged: Judged,
+    reply: Reply,
+) -> Result<Answer, AllocError>
+    requires sound { Sound version.now }
+    requires net { changes ≡ net version.now (put version.now changes) }
+    requires well_formed { IsWellFormed (put version.now changes) }
+    requires judged { IsJudged (put version.now changes) judged }
+    requires lone { IsOnlyOfLone version.now changes }
+    requires accepted { spec_of.is_refusal reply ≡ false }
+    ensures tells { IfOk result (Tells version.now false (Appended (Changes (puts_of (net version.now (put version.now changes))))) (λ verdict. committing verdict (spec_of.changes version.now (put version.now changes))
+        (spec.commit_refusal version.now (put version.now changes)) reply) (put version.now changes)) }
+    ensures nothing { IfOk result (λ answer. answer.erased ≡ []) }
+{
+    let _ = version;
+    match judged {
+        Judged::Weighs(sum) => {
+            let framed = record_of_changes(alloc, changes.items());
+            let change = only_change(changes);
+            recorded(alloc, NextState::InPlace(change), sum, framed, reply)
+        }
+        Judged::Fault(why) => {
+            drop(changes);
+            drop(reply);
+            Ok(Answer::told(alloc, Reply::Refused(why)))
+        }
+    }
+}
+
 /// The answer to a call that commits changes and is answered so where they are accepted. A refusal stays one. Without any
 /// change the state stays, and nothing refuses that.
 pub(crate) fn commit(
     alloc: Global,
     version: &Version,
     weighs: u64,
-    changes: &[Change],
+    changes: List<Change>,
     reply: Reply,
 ) -> Result<Answer, AllocError>
     requires sound { Sound version.now }
     requires weighs { weight version.now ≡ weighs }
-    requires net { changes.now ≡ net version.now (put version.now changes.now) }
-    requires well_formed { IsWellFormed (put version.now changes.now) }
-    ensures tells { IfOk result (Tells version.now false (Changes (puts_of (net version.now (put version.now changes.now)))) (λ verdict. committing verdict (spec_of.changes version.now (put version.now changes.now))
-        (spec.commit_refusal version.now (put version.now changes.now)) reply) (put version.now changes.now)) }
+    requires net { changes ≡ net version.now (put version.now changes) }
+    requires well_formed { IsWellFormed (put version.now changes) }
+    ensures tells { IfOk result (Tells version.now false (Appended (Changes (puts_of (net version.now (put version.now changes))))) (λ verdict. committing verdict (spec_of.changes version.now (put version.now changes))
+        (spec.commit_refusal version.now (put version.now changes)) reply) (put version.now changes)) }
     ensures nothing { IfOk result (λ answer. answer.erased ≡ []) }
-    ensures spared { OnErr result (changes.now ≢ []) }
-    ensures stays { IfOk result (λ answer. changes.now ≡ [] → answer.next ≡ None) }
+    ensures spared { OnErr result (changes ≢ []) }
+    ensures stays { IfOk result (λ answer. changes ≡ [] → answer.next ≡ None) }
 {
     if is_refusal(&reply) {
+        drop(changes);
         return Ok(Answer::told(alloc, reply));
     }
-    if changes.is_empty() {
+    if changes.items().is_empty() {
+        drop(changes);
         return Ok(Answer::told(alloc, reply));
     }
-    commit_beside(alloc, version, weighs, changes, reply)
+    if let [change] = changes.items() {
+        if let Some(judged) = judged_alone(version, weighs, change) {
+            return commit_in_place(alloc, version, changes, judged, reply);
+        }
+    }
+    let answer = commit_beside(alloc, version, weighs, changes.items(), reply);
+    drop(changes);
+    answer
 }

@@ -1,4 +1,4 @@
-ghost use Rattle.std.specs.Prelude.{◌≡◌, [], true, IfOk};
+ghost use Rattle.std.specs.Prelude.{◌≡◌, ℕ, [], true, IfOk};
 ghost use Rattle.own_model.specs.declared.limit.TheConstants.{STATEMENT_BYTES};
 ghost use Rattle.own_model.specs.declared.request.Request.TheVariants.{Run};
 ghost use Rattle.own_model.specs.declared.statement.Statement.TheVariants as statement_of;
@@ -9,12 +9,13 @@ ghost use Rattle.state_model.specs.Weight.{weight};
 ghost use Rattle.run_model.specs.Run as run;
 ghost use Rattle.history_model.specs.Reply.{create_reply};
 ghost use Rattle.disk_model.specs.declared.commit.Commit.TheVariants as commit_of;
-ghost use Rattle.crash_model.specs.Room.{commit_by};
+ghost use Rattle.crash_model.specs.Room.{Appended, written_by};
 ghost use Rattle.engine_core.specs.Answered.{Tells};
 ghost use Rattle.engine_core.specs.Asked.{IsCreate};
 
 use crate::answer::Answer;
 use crate::commit::recorded;
+use crate::prepared::NextState;
 use commit_check::{Judged, judge_view};
 use commit_record::record_of_create;
 use own_model::{CreateTable, CreateView, Reply, Statement};
@@ -37,7 +38,7 @@ fn create_table(
     requires weighs { weight version.now ≡ weighs }
     requires of { statement.now ≡ statement_of.CreateTable create.now }
     requires written { IsWritten STATEMENT_BYTES statement.now }
-    ensures tells { IfOk result (Tells version.now true (commit_of.CreateTable (text_of (OfTable create.now)).text) (λ verdict. create_reply verdict (run.create_table version.now create.now)) (run.create_table version.now create.now).db) }
+    ensures tells { IfOk result (Tells version.now true (Appended (commit_of.CreateTable (text_of (OfTable create.now)).text)) (λ verdict. create_reply verdict (run.create_table version.now create.now)) (run.create_table version.now create.now).db) }
     ensures nothing { IfOk result (λ answer. answer.erased ≡ []) }
 {
     let shown = Shown { version };
@@ -47,7 +48,7 @@ fn create_table(
                 canonical_text_reads_back();
                 let framed = record_of_create(alloc, false, &text);
                 let next = prepare_table(alloc, version, admitted, text)?;
-                recorded(alloc, next, weighs, framed, Reply::Done)
+                recorded(alloc, NextState::Beside(next), weighs, framed, Reply::Done)
             }
             Err(refused) => {
                 drop(admitted);
@@ -70,7 +71,7 @@ fn create_view(
     requires weighs { weight version.now ≡ weighs }
     requires of { statement.now ≡ statement_of.CreateView create.now }
     requires written { IsWritten STATEMENT_BYTES statement.now }
-    ensures tells { IfOk result (Tells version.now true (commit_of.CreateView (text_of (OfView create.now)).text) (λ verdict. create_reply verdict (run.add_view version.now create.now)) (run.add_view version.now create.now).db) }
+    ensures tells { IfOk result (Tells version.now true (Appended (commit_of.CreateView (text_of (OfView create.now)).text)) (λ verdict. create_reply verdict (run.add_view version.now create.now)) (run.add_view version.now create.now).db) }
     ensures nothing { IfOk result (λ answer. answer.erased ≡ []) }
 {
     let shown = Shown { version };
@@ -81,7 +82,7 @@ fn create_view(
                     canonical_text_reads_back();
                     let framed = record_of_create(alloc, true, &text);
                     let next = prepare_view(alloc, version, definition, text)?;
-                    recorded(alloc, next, sum, framed, Reply::Done)
+                    recorded(alloc, NextState::Beside(next), sum, framed, Reply::Done)
                 }
                 Judged::Fault(why) => {
                     drop(text);
@@ -110,7 +111,7 @@ pub(crate) fn create(
     requires weighs { weight version.now ≡ weighs }
     requires create { IsCreate statement.now }
     requires written { IsWritten STATEMENT_BYTES statement.now }
-    ensures tells { IfOk result (Tells version.now true (commit_by version.now (Run statement.now) (run.run version.now statement.now).db) (λ verdict. create_reply verdict (run.run version.now statement.now)) (run.run version.now statement.now).db) }
+    ensures tells { IfOk result (λ answer. (number : ℕ) → Tells version.now true (written_by version.now (Run statement.now) (run.run version.now statement.now).db number) (λ verdict. create_reply verdict (run.run version.now statement.now)) (run.run version.now statement.now).db answer) }
     ensures nothing { IfOk result (λ answer. answer.erased ≡ []) }
 {
     match statement {

@@ -1,4 +1,4 @@
-ghost use Rattle.std.specs.Prelude.{◌≡◌, ◌≢◌, ◌≤◌, ◌<◌, ◌^◌, ℕ, List, [], ◌-◌, ◌+◌, IsTrue, None, length, option_map, vec_len, IfErr, IfOk, OnErr};
+ghost use Rattle.std.specs.Prelude.{◌≡◌, ◌≢◌, ◌≤◌, ◌<◌, ◌^◌, ℕ, List, [], ◌-◌, ◌+◌, IsTrue, None, length, option_map, true, vec_len, IfErr, IfOk, OnErr};
 ghost use Rattle.std.specs.Vec.{vec_capacity};
 ghost use Rattle.own_base.specs.declared.number.Area.{Area};
 ghost use Rattle.own_base.specs.declared.number.Area.TheVariants.{A, B};
@@ -17,6 +17,7 @@ ghost use Rattle.history_model.specs.MayBeUnmade.{MayBeUnmadeFrom};
 ghost use Rattle.history_model.specs.Serial.{IsEntry, IsHistory, Serial};
 ghost use Rattle.disk_model.specs.Judged.{IsJudged};
 ghost use Rattle.disk_model.specs.JudgedArea as found;
+ghost use Rattle.crash_model.specs.Alone.{is_laid_behind};
 ghost use Rattle.crash_model.specs.LeftBy.{IsLeftBy};
 ghost use Rattle.crash_model.specs.Room.{IsNoRoomExact};
 ghost use Rattle.crash_model.specs.StoreIn.{IsStoreIn};
@@ -25,7 +26,7 @@ ghost use Rattle.crash_recover.specs.declared.open.OpenFault.TheVariants.{Damage
 ghost use Rattle.store_disk.specs.OpensAt.{OpensAt};
 ghost use Rattle.engine_core.specs.Made.{IsEndOf, IsMade};
 ghost use Rattle.engine_core.specs.RepresentsWorld.{RepresentsWorld};
-ghost use Rattle.engine_core.specs.Seen.{Steps, disk_of, entry};
+ghost use Rattle.engine_core.specs.Seen.{IsAloneBehind, Steps, disk_of, entry};
 ghost use Rattle.engine_core.specs.Stored.{IsUp};
 
 use crate::closed::Closed;
@@ -100,8 +101,7 @@ impl<D: Disk> Engine<D> {
         ensures time { IfOk result (λ engine. D.moment disk ≤ D.moment (disk_of engine)) }
         ensures time_err { IfErr result (λ back. D.moment disk ≤ D.moment back.1) }
 
-        // Damaged is told where what the disk holds is damaged, and then the disk is left as it was. `Memory` comes only
-        // where memory was refused.
+        // Damaged is told where what the disk holds is damaged, and then the disk is left as it was.
         ensures damaged { IfErr result (λ back. (area : Area) (offset : ℕ) → back.0 ≡ Damaged area offset
             → IsTrue (D.honest disk) → IsJudged (D.holds disk A) (D.holds disk B) (found.Damaged area offset)) }
         ensures kept_a { IfErr result (λ back. (area : Area) (offset : ℕ) → back.0 ≡ Damaged area offset → IsTrue (D.honest disk)
@@ -140,7 +140,7 @@ impl<D: Disk> Engine<D> {
         requires first { 1 ≤ session.0 }
         requires last { session.0 ≤ SESSIONS }
         requires readable { IsReadable request }
-        ensures steps { Steps D.holds D.moment D.might_have_left D.honest D.faults self.old self.new (entry session call request Took) result }
+        ensures steps { Steps D.holds D.leaves D.moment D.might_have_left D.honest D.faults self.old self.new (entry session call request Took) result }
         ensures serial { Serial self.new.base self.new.history }
         ensures count { self.new.store.commits ≡ self.new.start + length (commits self.new.base self.new.history) }
         ensures left { IsTrue (D.honest (disk_of self.new)) → (a b : List ℕ) → D.leaves (disk_of self.new) A a → D.leaves (disk_of self.new) B b
@@ -193,6 +193,9 @@ impl<D: Disk> Engine<D> {
             → IsLeftBy self.base self.start result.history a b }
         // The limit `room` was told just where a call needed more of it than there was.
         ensures exact { IsNoRoomExact self.journal self.base self.start result.history }
+        // Where the last call that wrote laid the store anew, as a CHECKPOINT and a FORGET do, nothing else is on the disk.
+        ensures alone { is_laid_behind self.base result.history ≡ true → IsTrue (D.honest result.disk)
+            → IsAloneBehind D.holds D.leaves result.disk self.journal self.base self.start result.history }
     {
         let Engine {
             alloc: _,
@@ -251,14 +254,14 @@ fn make<D: Disk>(
 ) -> Result<(Place, Reply), AllocError>
     requires entries { IsHistory history.old.items }
     requires begun { Sound state.old.opened }
-    requires represents { RepresentsWorld state.old (world state.old.opened history.old.items) }
+    requires represents { down.old ≡ None → RepresentsWorld state.old (world state.old.opened history.old.items) }
     requires down { (world state.old.opened history.old.items).down ≡ option_map (λ (place : Place). place.0) down.old }
     requires store { down.old ≡ None → IsUp D.holds D.leaves D.honest store.old state.old.version }
     requires is_entry { IsEntry entry }
     requires took { entry.verdict ≡ Took }
     ensures made { IfOk result (λ made. IsMade D.holds D.leaves D.moment D.might_have_left D.honest D.faults state.old.opened history.old.items history.new.items state.new
         store.old store.new down.old down.new entry made.0.0 made.1) }
-    ensures unmade { OnErr result ((history.new.items ≡ history.old.items) × RepresentsWorld state.new (world state.old.opened history.old.items) × (store.new ≡ store.old) × (down.new ≡ down.old)) }
+    ensures unmade { OnErr result ((history.new.items ≡ history.old.items) × (down.old ≡ None → RepresentsWorld state.new (world state.old.opened history.old.items)) × (store.new ≡ store.old) × (down.new ≡ down.old)) }
     ensures spared { OnErr result (0 < vec_capacity history.old - vec_len history.old
         → MayBeUnmadeFrom (world state.old.opened history.old.items).flat.schema ((world state.old.opened history.old.items).standing entry.session.0) entry.request) }
     ensures opened { state.new.opened ≡ state.old.opened }

@@ -107,16 +107,9 @@ fn serve_commit<D: Disk>(
         version: &state.version,
     };
     let changes = state.txns.changes(alloc, &shown, entry.session)?;
-    let answer = commit(
-        alloc,
-        &state.version,
-        state.weighs,
-        changes.items(),
-        Reply::Done,
-    );
-    drop(changes);
-    let answer = answer?;
-    let (verdict, reply) = install(state, store, Place(history.len() as u64), answer);
+    let answer = commit(alloc, &state.version, state.weighs, changes, Reply::Done)?;
+    let place = Place(history.len() as u64);
+    let (verdict, reply) = install(alloc, state, store, place, answer)?;
     if !is_fault(verdict) {
         state.txns.finish(entry.session);
     }

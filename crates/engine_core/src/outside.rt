@@ -10,8 +10,8 @@ ghost use Rattle.history_model.specs.History.{world};
 ghost use Rattle.history_model.specs.Reply.{reply_outside};
 ghost use Rattle.txn_core.specs.SessionStates.{state_by};
 ghost use Rattle.txn_core.specs.declared.session_state.SessionState.TheVariants.{Nothing};
-ghost use Rattle.crash_model.specs.Room.{commit_by};
-ghost use Rattle.engine_core.specs.Answered.{Erases, ErasesBound, Tells, bound_commit, bound_reply};
+ghost use Rattle.crash_model.specs.Room.{written_by};
+ghost use Rattle.engine_core.specs.Answered.{Erases, ErasesBound, Tells, bound_reply, bound_written};
 ghost use Rattle.engine_core.specs.Asked.{IsBound, IsCreate, IsMeant, RunsByItself};
 ghost use Rattle.engine_core.specs.RepresentsWorld.{IsEvent, Serves, RepresentsWorld};
 ghost use Rattle.engine_core.specs.Stored.{IsUp, Stores};
@@ -41,7 +41,7 @@ fn answer_meant(alloc: Global, asker: &Asker<'_>, bound: &Bound) -> Result<Answe
     requires stands { RepresentsWorld asker.now.state.now (world asker.now.state.now.opened asker.now.history.now) }
     requires meant { IsMeant asker.now.state.now.version.schema bound.now }
     requires well_formed { IsWellFormed (run_bound asker.now.state.now.version bound.now).db }
-    ensures tells { IfOk result (Tells asker.now.state.now.version false (bound_commit asker.now.state.now.version bound.now (run_bound asker.now.state.now.version bound.now).db) (bound_reply (world asker.now.state.now.opened asker.now.history.now) asker.now.state.now.version asker.now.session.0 bound.now) (run_bound asker.now.state.now.version bound.now).db) }
+    ensures tells { IfOk result (Tells asker.now.state.now.version false (bound_written asker.now.state.now.version asker.now.commits bound.now (run_bound asker.now.state.now.version bound.now).db) (bound_reply (world asker.now.state.now.opened asker.now.history.now) asker.now.state.now.version asker.now.session.0 bound.now) (run_bound asker.now.state.now.version bound.now).db) }
     ensures erases { IfOk result (ErasesBound asker.now.state.now.version bound.now) }
 {
     match bound {
@@ -59,7 +59,13 @@ fn answer_meant(alloc: Global, asker: &Asker<'_>, bound: &Bound) -> Result<Answe
             let reply = get_reply(alloc, &asker.state.version, subject)?;
             Ok(Answer::told(alloc, reply))
         }
-        Bound::Forget(subject) => forget(alloc, &asker.state.version, asker.state.weighs, subject),
+        Bound::Forget(subject) => forget(
+            alloc,
+            &asker.state.version,
+            asker.state.weighs,
+            asker.commits,
+            subject,
+        ),
         Bound::Explain => unreachable!(),
     }
 }
@@ -74,7 +80,7 @@ fn answer_by_meaning(
     requires stands { RepresentsWorld asker.now.state.now (world asker.now.state.now.opened asker.now.history.now) }
     requires written { IsWritten STATEMENT_BYTES statement.now }
     requires bound { IsBound statement.now }
-    ensures tells { IfOk result (Tells asker.now.state.now.version false (commit_by asker.now.state.now.version (Run statement.now) (run asker.now.state.now.version statement.now).db) (λ verdict. reply_outside (world asker.now.state.now.opened asker.now.history.now) asker.now.session.0 verdict statement.now) (run asker.now.state.now.version statement.now).db) }
+    ensures tells { IfOk result (Tells asker.now.state.now.version false (written_by asker.now.state.now.version (Run statement.now) (run asker.now.state.now.version statement.now).db asker.now.commits) (λ verdict. reply_outside (world asker.now.state.now.opened asker.now.history.now) asker.now.session.0 verdict statement.now) (run asker.now.state.now.version statement.now).db) }
     ensures erases { IfOk result (Erases asker.now.state.now.version (Run statement.now)) }
 {
     match bind(alloc, asker.state.version.catalog().schema(), statement) {
@@ -97,7 +103,7 @@ fn answer_to_create(
     requires stands { RepresentsWorld asker.now.state.now (world asker.now.state.now.opened asker.now.history.now) }
     requires written { IsWritten STATEMENT_BYTES statement.now }
     requires create { IsCreate statement.now }
-    ensures tells { IfOk result (Tells asker.now.state.now.version true (commit_by asker.now.state.now.version (Run statement.now) (run asker.now.state.now.version statement.now).db) (λ verdict. reply_outside (world asker.now.state.now.opened asker.now.history.now) asker.now.session.0 verdict statement.now) (run asker.now.state.now.version statement.now).db) }
+    ensures tells { IfOk result (Tells asker.now.state.now.version true (written_by asker.now.state.now.version (Run statement.now) (run asker.now.state.now.version statement.now).db asker.now.commits) (λ verdict. reply_outside (world asker.now.state.now.opened asker.now.history.now) asker.now.session.0 verdict statement.now) (run asker.now.state.now.version statement.now).db) }
     ensures erases { IfOk result (Erases asker.now.state.now.version (Run statement.now)) }
 {
     let state = asker.state;
@@ -113,7 +119,7 @@ fn answer(alloc: Global, asker: &Asker<'_>, statement: &Statement) -> Result<Ans
     requires stands { RepresentsWorld asker.now.state.now (world asker.now.state.now.opened asker.now.history.now) }
     requires written { IsWritten STATEMENT_BYTES statement.now }
     requires itself { RunsByItself statement.now }
-    ensures tells { IfOk result (Tells asker.now.state.now.version (is_create (Run statement.now)) (commit_by asker.now.state.now.version (Run statement.now) (run asker.now.state.now.version statement.now).db) (λ verdict. reply_outside (world asker.now.state.now.opened asker.now.history.now) asker.now.session.0 verdict statement.now) (run asker.now.state.now.version statement.now).db) }
+    ensures tells { IfOk result (Tells asker.now.state.now.version (is_create (Run statement.now)) (written_by asker.now.state.now.version (Run statement.now) (run asker.now.state.now.version statement.now).db asker.now.commits) (λ verdict. reply_outside (world asker.now.state.now.opened asker.now.history.now) asker.now.session.0 verdict statement.now) (run asker.now.state.now.version statement.now).db) }
     ensures erases { IfOk result (Erases asker.now.state.now.version (Run statement.now)) }
 {
     match statement {
@@ -160,9 +166,11 @@ pub(crate) fn serve_outside<D: Disk>(
                 state,
                 history,
                 session: entry.session,
+                commits: store.commits(),
             };
             let answer = answer(alloc, &asker, statement)?;
-            Ok(install(state, store, Place(history.len() as u64), answer))
+            let place = Place(history.len() as u64);
+            install(alloc, state, store, place, answer)
         }
     }
 }

@@ -1,4 +1,4 @@
-ghost use Rattle.std.specs.Prelude.{◌≡◌, ◌<◌, ◌^◌, IsTrue, count_by, false, length, map, not, IfOk};
+ghost use Rattle.std.specs.Prelude.{◌≡◌, ◌+◌, ◌<◌, ◌^◌, [], IsTrue, count_by, false, length, map, not, IfOk};
 ghost use Rattle.own_model.specs.declared.bound.Bound.TheVariants.{Forget};
 ghost use Rattle.own_model.specs.declared.reply.Reply.TheVariants.{Forgot};
 ghost use Rattle.move_model.specs.Moves.{AreMovesOf};
@@ -10,13 +10,14 @@ ghost use Rattle.state_model.specs.Weight.{weight};
 ghost use Rattle.run_model.specs.Run.{forget_subject, show_subject};
 ghost use Rattle.subject_erase.specs.Plan.{leaves_row};
 ghost use Rattle.history_model.specs.Reply.{forget_reply};
-ghost use Rattle.disk_model.specs.declared.commit.Commit.TheVariants as commit_of;
-ghost use Rattle.engine_core.specs.Answered.{ErasesBound, Tells};
+ghost use Rattle.check_image.specs.Gated.{IsGatedImage};
+ghost use Rattle.crash_model.specs.Room.{LaidAnew};
+ghost use Rattle.engine_core.specs.Answered.{ErasesBound, IsLaidBy, Tells};
 
 use crate::answer::Answer;
-use crate::commit::recorded;
+use crate::prepared::{NextState, Prepared};
 use change_weight::weight_by;
-use commit_record::record_of_forget;
+use check_image::encode;
 use move_model::OwnerMove;
 use own_base::{Change, List, MakeCopy, RowName, Subject};
 use own_model::{Reply, StoreView};
@@ -95,19 +96,61 @@ fn weight_left(
     weight_by(alloc, &before, &after, weighs, changes, moves)
 }
 
-/// The answer to a bound GDPR FORGET, which commits by itself: no constraint, limit or length refuses it, and none is asked. It names the rows
-/// that it removes or changes as erased.
+/// The image of a version to which a commit leads, behind so many of them, and a closed gate.
+fn image_of(alloc: Global, version: &Version, commits: u64) -> Result<List<u8>, AllocError>
+    requires sound { Sound version.now }
+    ensures { IfOk result (IsGatedImage version.now (commits + 1)) }
+{
+    let shown = Shown { version };
+    // Past the greatest number of commits that an image may have, the bytes are none, whichever of them is told.
+    let number = commits.saturating_add(1);
+    encode(alloc, &shown, version.catalog().creates(), number)
+}
+
+/// The answer to a call that leads to a next version and leaves it by its image.
+fn laid(
+    alloc: Global,
+    next: Next,
+    weighs: u64,
+    image: Result<List<u8>, AllocError>,
+    reply: Reply,
+) -> Result<Answer, AllocError>
+    ensures told { IfOk result (IsLaidBy next weighs reply image) }
+    ensures nothing { IfOk result (λ answer. answer.erased ≡ []) }
+{
+    match image {
+        Ok(image) => Ok(Answer {
+            reply,
+            next: Some(Prepared {
+                state: NextState::Anew(next),
+                weighs,
+                bytes: image,
+            }),
+            erased: List::new(alloc),
+        }),
+        Err(refused) => {
+            drop(next);
+            drop(reply);
+            Err(refused)
+        }
+    }
+}
+
+/// The answer to a bound GDPR FORGET, which commits by itself, behind so many commits: no constraint, limit or length refuses it,
+/// and none is asked. What it leaves is laid anew, so that nothing of what it erases stays on the disk. It names the rows that it
+/// removes or changes as erased.
 #[tactic(auto, unfolding(run_model::specs::Run::forget_subject))]
 pub(crate) fn forget(
     alloc: Global,
     version: &Version,
     weighs: u64,
+    commits: u64,
     subject: &Subject,
 ) -> Result<Answer, AllocError>
     requires sound { Sound version.now }
     requires weighs { weight version.now ≡ weighs }
     requires subject { IsTrue (is_subject version.now.schema subject.now.0.table.0) }
-    ensures tells { IfOk result (Tells version.now false (commit_of.Forget subject.now.0) (λ verdict. forget_reply verdict (forget_subject version.now subject.now.0)) (forget_subject version.now subject.now.0).db) }
+    ensures tells { IfOk result (Tells version.now false (LaidAnew (commits + 1)) (λ verdict. forget_reply verdict (forget_subject version.now subject.now.0)) (forget_subject version.now subject.now.0).db) }
     ensures erases { IfOk result (ErasesBound version.now (Forget subject.now)) }
 {
     let shown = Shown { version };
@@ -130,8 +173,8 @@ pub(crate) fn forget(
     drop(moves);
     match left {
         Ok(left) => {
-            let framed = record_of_forget(alloc, &subject.0);
-            Ok(recorded(alloc, next, left, framed, reply)?.erasing(names))
+            let image = image_of(alloc, next.version(), commits);
+            Ok(laid(alloc, next, left, image, reply)?.erasing(names))
         }
         Err(refused) => {
             drop(next);

@@ -13,6 +13,7 @@ ghost use Rattle.history_model.specs.Reply.{unless_held, write_reply};
 ghost use Rattle.write_eval.specs.Write.{IsWrite};
 ghost use Rattle.disk_model.specs.declared.commit.Commit.TheVariants.{Changes};
 ghost use Rattle.disk_model.specs.PutOf.{puts_of};
+ghost use Rattle.crash_model.specs.Room.{Appended};
 ghost use Rattle.engine_core.specs.Answered.{Tells};
 ghost use Rattle.engine_core.specs.RepresentsWorld.{RepresentsWorld};
 
@@ -22,7 +23,6 @@ use crate::commit::commit;
 use own_base::{Change, List};
 use own_model::{Bound, Refusal, Reply};
 use std::alloc::{AllocError, Global};
-use std::mem::drop;
 use store_version::Shown;
 
 /// What a bound write outside a transaction is answered, and what it changes; or why it is refused: another session stands in
@@ -54,16 +54,14 @@ pub(crate) fn write(alloc: Global, asker: &Asker<'_>, bound: &Bound) -> Result<A
     requires sound { Sound asker.now.state.now.version }
     requires stands { RepresentsWorld asker.now.state.now (world asker.now.state.now.opened asker.now.history.now) }
     requires well_formed { IsWellFormed (run_bound asker.now.state.now.version bound.now).db }
-    ensures tells { IfOk result (Tells asker.now.state.now.version false (Changes (puts_of (net asker.now.state.now.version (run_bound asker.now.state.now.version bound.now).db))) (λ verdict. unless_held (world asker.now.state.now.opened asker.now.history.now) (holder (world asker.now.state.now.opened asker.now.history.now) asker.now.session.0 (footprint_of asker.now.state.now.version.schema bound.now))
+    ensures tells { IfOk result (Tells asker.now.state.now.version false (Appended (Changes (puts_of (net asker.now.state.now.version (run_bound asker.now.state.now.version bound.now).db)))) (λ verdict. unless_held (world asker.now.state.now.opened asker.now.history.now) (holder (world asker.now.state.now.opened asker.now.history.now) asker.now.session.0 (footprint_of asker.now.state.now.version.schema bound.now))
         (write_reply verdict asker.now.state.now.version (run_bound asker.now.state.now.version bound.now))) (run_bound asker.now.state.now.version bound.now).db) }
     ensures nothing { IfOk result (λ answer. answer.erased ≡ []) }
 {
     match written(alloc, asker, bound) {
         Ok((reply, changes)) => {
             let state = asker.state;
-            let answer = commit(alloc, &state.version, state.weighs, changes.items(), reply);
-            drop(changes);
-            answer
+            commit(alloc, &state.version, state.weighs, changes, reply)
         }
         Err(why) => Answer::refused(alloc, why),
     }

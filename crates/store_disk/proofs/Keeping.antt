@@ -7,7 +7,6 @@ use Rattle.own_base.specs.declared.number.Area.{Area}
 use Rattle.own_model.specs.Db.{Db}
 use Rattle.own_model.specs.declared.limit.TheConstants.{JOURNAL_ROOM}
 use Rattle.state_model.specs.Sound.{Sound}
-use Rattle.crash_model.specs.StoreIn.{IsStoreIn}
 use Rattle.crash_model.proofs.StoreLemmas.{represented-store}
 use Rattle.commit_journal.specs.JournalState.{RepresentEither, Rests}
 use Rattle.commit_journal.specs.declared.journal.Journal.{Journal}
@@ -22,7 +21,6 @@ use Rattle.disk_model.specs.Records.{measured, payload_of}
 use Rattle.disk_model.specs.Spelling.{number_spelling}
 use Rattle.disk_model.specs.StoreOf.{AreFollowed, ArePayloads, IsStoreOf, IsStoredAs}
 use Rattle.disk_model.proofs.Numbers.{number4-spelled}
-use Rattle.disk_model.proofs.SoundAfter.{sound-followed}
 use Rattle.rec_codec.specs.Framed.{IsFramed}
 use Rattle.check_image.specs.Gated.{IsGatedImage, image_from}
 use Rattle.store_disk.specs.Kept.{IsEither, IsKept}
@@ -89,7 +87,7 @@ stored-more stored image commits commit framed are is = record {
 }
 
 -- the image in front of a closed gate
-image-between : (image gated : List ℕ) → gated ≡ image ++ 0 ∷ [] → image_of gated ≡ image
+pub image-between : (image gated : List ℕ) → gated ≡ image ++ 0 ∷ [] → image_of gated ≡ image
 image-between image gated is =
     let long : length gated - 1 ≡ length image = ap (λ (bytes : List ℕ). length bytes - 1) is ∙ ap (λ n. n - 1) (length-append image (0 ∷ [])) ∙ less_one (length image) in
     ap (λ n. take n gated) long ∙ ap (take (length image)) is ∙ take-append_seam image (0 ∷ [])
@@ -113,7 +111,7 @@ module _ {D : Type 0} (holds : D → Area → List ℕ) (leaves : D → Area →
 
   -- what a crash leaves on the way is the one store or the other
   pub either-left : (old : Journal D) (db after : Db) (number : ℕ) (commit : Commit) (framed : List ℕ) (kept : IsKept holds leaves old db number) → IsFramed commit framed → Follows db commit after
-      → (a b : List ℕ) → RepresentEither kept.stored (with_payload kept.stored (payload_of framed)) a b → IsEither db after number a b
+      → (a b : List ℕ) → RepresentEither kept.stored (with_payload kept.stored (payload_of framed)) a b → IsEither db number after (number + 1) a b
   either-left old db after number commit framed kept is follows a b (inl before) = inl (represented-store a b kept.stored kept.image kept.behind db number before kept.stored_as kept.store)
   either-left old db after number commit framed kept is follows a b (inr then) =
       inr (represented-store a b (with_payload kept.stored (payload_of framed)) kept.image (kept.behind ++ commit ∷ []) after (number + 1) then
@@ -124,9 +122,6 @@ module _ {D : Type 0} (holds : D → Area → List ℕ) (leaves : D → Area →
   -- the image in front of the gate is that of the database
   image-laid : (db : Db) (number : ℕ) (gated : List ℕ) → number ≤ JOURNAL_ROOM → IsGatedImage db number gated → IsImage (image_from db number) (image_of gated)
   image-laid db number gated few is = subst (IsImage (image_from db number)) (sym (image-between is.image gated is.parts)) (is.is_image few)
-
-  sound-kept : (journal : Journal D) (db : Db) (number : ℕ) → IsKept holds leaves journal db number → Sound db
-  sound-kept journal db number kept = sound-followed kept.store.begin kept.behind db kept.store.lawful.sound kept.store.followed
 
   laid-stored : (db : Db) (number epoch : ℕ) (gated : List ℕ) → number ≤ JOURNAL_ROOM → IsGatedImage db number gated → IsStoredAs (laid epoch gated) (image_from db number) []
   laid-stored db number epoch gated few is = record { is_image = image-laid db number gated few is; are_payloads = tt }
@@ -139,20 +134,21 @@ module _ {D : Type 0} (holds : D → Area → List ℕ) (leaves : D → Area →
     number_is = omega arith;
   }
 
-  pub kept-laid : ReadBack → (old new : Journal D) (db : Db) (number epoch : ℕ) (gated : List ℕ) → IsKept holds leaves old db number → number ≤ JOURNAL_ROOM → IsGatedImage db number gated
+  pub kept-laid : ReadBack → (new : Journal D) (db : Db) (number epoch : ℕ) (gated : List ℕ) → Sound db → number ≤ JOURNAL_ROOM → IsGatedImage db number gated
       → Rests holds leaves new (laid epoch gated) → IsKept holds leaves new db number
-  kept-laid reads_back old new db number epoch gated kept few is rests = record {
+  kept-laid reads_back new db number epoch gated sound few is rests = record {
     stored = laid epoch gated;
     image = image_from db number;
     behind = [];
     rests = rests;
     stored_as = laid-stored db number epoch gated few is;
-    store = laid-store reads_back db number gated (sound-kept old db number kept) few is;
+    store = laid-store reads_back db number gated sound few is;
   }
 
-  -- and a crash on the way leaves the same store
-  pub same-left : ReadBack → (old : Journal D) (db : Db) (number epoch : ℕ) (gated : List ℕ) (kept : IsKept holds leaves old db number) → number ≤ JOURNAL_ROOM → IsGatedImage db number gated
-      → (a b : List ℕ) → RepresentEither kept.stored (laid epoch gated) a b → IsStoreIn a b db number
-  same-left reads_back old db number epoch gated kept few is a b (inl before) = represented-store a b kept.stored kept.image kept.behind db number before kept.stored_as kept.store
-  same-left reads_back old db number epoch gated kept few is a b (inr then) =
-      represented-store a b (laid epoch gated) (image_from db number) [] db number then (laid-stored db number epoch gated few is) (laid-store reads_back db number gated (sound-kept old db number kept) few is)
+  -- and a crash on the way leaves the store that was there, or that one
+  pub either-laid : ReadBack → (old : Journal D) (db : Db) (commits : ℕ) (next : Db) (number epoch : ℕ) (gated : List ℕ) (kept : IsKept holds leaves old db commits) → Sound next → number ≤ JOURNAL_ROOM
+      → IsGatedImage next number gated → (a b : List ℕ) → RepresentEither kept.stored (laid epoch gated) a b → IsEither db commits next number a b
+  either-laid reads_back old db commits next number epoch gated kept sound few is a b (inl before) =
+      inl (represented-store a b kept.stored kept.image kept.behind db commits before kept.stored_as kept.store)
+  either-laid reads_back old db commits next number epoch gated kept sound few is a b (inr then) =
+      inr (represented-store a b (laid epoch gated) (image_from next number) [] next number then (laid-stored next number epoch gated few is) (laid-store reads_back next number gated sound few is))

@@ -1,4 +1,5 @@
 pub mod Lawful
 pub mod Keeping
+pub mod LaidAlone
 pub mod Opened
 pub mod LeftKept

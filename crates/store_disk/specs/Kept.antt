@@ -1,15 +1,14 @@
 -- What a journal keeps, as a database.
-use Rattle.std.specs.Prelude.{◌≡◌, ◌⊎◌, ◌+◌, ◌≤◌, ◌++◌, ◌∷◌, [], ℕ, List}
+use Rattle.std.specs.Prelude.{◌⊎◌, ◌+◌, ◌≤◌, ℕ, List}
 use Rattle.own_base.specs.declared.number.Area.{Area}
 use Rattle.own_model.specs.Db.{Db}
 use Rattle.own_model.specs.declared.limit.TheConstants.{JOURNAL_ROOM}
-use Rattle.outer_world.specs.OtherArea.{other_of}
 use Rattle.crash_model.specs.StoreIn.{IsStoreIn}
 use Rattle.commit_journal.specs.JournalState.{HasRoom, Rests}
 use Rattle.commit_journal.specs.declared.journal.Journal.{Journal}
 use Rattle.disk_model.specs.declared.commit.Commit.{Commit}
 use Rattle.disk_model.specs.declared.image.Image.{Image}
-use Rattle.disk_model.specs.Area.{Stored, in_front, laid}
+use Rattle.disk_model.specs.Area.{Stored}
 use Rattle.rec_codec.specs.Framed.{IsFramed}
 use Rattle.check_image.specs.Gated.{IsGatedImage}
 use Rattle.disk_model.specs.StoreOf.{IsStoreOf, IsStoredAs}
@@ -28,9 +27,9 @@ pub record IsSomeKept {D : Type 0} (holds : D → Area → List ℕ) (leaves : D
   pub db : Db
   pub kept : IsKept holds leaves journal db commits
 
--- two areas hold the store of the one database, or that of the other with a commit more
-abbrev pub IsEither : Db → Db → ℕ → List ℕ → List ℕ → Type 0
-IsEither before after commits a b = IsStoreIn a b before commits ⊎ IsStoreIn a b after (commits + 1)
+-- two areas hold the store of the one database, or that of the other, with the number of its commits
+abbrev pub IsEither : Db → ℕ → Db → ℕ → List ℕ → List ℕ → Type 0
+IsEither before commits after later a b = IsStoreIn a b before commits ⊎ IsStoreIn a b after later
 
 -- There is room for so many bytes, an epoch and a commit more.
 pub record HasRoomFor {D : Type 0} (journal : Journal D) (commits bytes : ℕ) : Type 0 where
@@ -46,8 +45,3 @@ pub record IsSomeFramed (framed : List ℕ) : Type 0 where
 pub record IsSomeGated (commits : ℕ) (gated : List ℕ) : Type 0 where
   pub db : Db
   pub is : IsGatedImage db commits gated
-
--- In the one area lies this image under this epoch, with a closed gate and nothing behind it; the other is one closed gate.
-pub record IsAlone {D : Type 0} (holds : D → Area → List ℕ) (disk : D) (area : Area) (epoch : ℕ) (gated : List ℕ) : Type 0 where
-  pub here : holds disk area ≡ in_front (laid epoch gated) ++ 0 ∷ []
-  pub beside : holds disk (other_of area) ≡ 0 ∷ []

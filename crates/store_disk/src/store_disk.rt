@@ -1,5 +1,6 @@
-ghost use Rattle.std.specs.Prelude.{◌≡◌, ◌+◌, ◌≤◌, ◌⊎◌, ◌↔◌, false, true, length, IsTrue, OnOk, OnErr};
+ghost use Rattle.std.specs.Prelude.{◌≡◌, ◌+◌, ◌≤◌, ◌↔◌, false, true, length, IsTrue, OnOk, OnErr};
 ghost use Rattle.own_model.specs.Db.{Db};
+ghost use Rattle.state_model.specs.Sound.{Sound};
 ghost use Rattle.outer_world.specs.FaultCount.{CountRose};
 ghost use Rattle.outer_world.specs.LeavesOnly.{LeavesOnly};
 ghost use Rattle.outer_world.specs.OtherArea.{other_of};
@@ -8,8 +9,8 @@ ghost use Rattle.disk_model.specs.Follows.{Follows};
 ghost use Rattle.commit_journal.specs.JournalState.{IsAt};
 ghost use Rattle.rec_codec.specs.Framed.{IsFramed};
 ghost use Rattle.check_image.specs.Gated.{IsGatedImage};
-ghost use Rattle.crash_model.specs.StoreIn.{IsStoreIn};
-ghost use Rattle.store_disk.specs.Kept.{HasRoomFor, IsAlone, IsEither, IsKept, IsSomeFramed, IsSomeGated, IsSomeKept};
+ghost use Rattle.crash_model.specs.Alone.{IsAloneOn};
+ghost use Rattle.store_disk.specs.Kept.{HasRoomFor, IsEither, IsKept, IsSomeFramed, IsSomeGated, IsSomeKept};
 
 use commit_journal::Journal;
 use outer_world::{Disk, Failed};
@@ -79,7 +80,7 @@ impl<D: Disk> StoreDisk<D> {
         ensures moments { (commit : Commit) (db after : Db) → IsTrue (D.honest self.old.journal.disk)
             → IsFramed commit framed.now → Follows db commit after
             → IsKept D.holds D.leaves self.old.journal db self.old.commits
-            → LeavesOnly D.moment D.might_have_left (IsEither db after self.old.commits) self.old.journal.disk self.new.journal.disk }
+            → LeavesOnly D.moment D.might_have_left (IsEither db self.old.commits after (self.old.commits + 1)) self.old.journal.disk self.new.journal.disk }
         ensures honesty { D.honest self.new.journal.disk ≡ D.honest self.old.journal.disk }
         ensures time { D.moment self.old.journal.disk ≤ D.moment self.new.journal.disk }
 
@@ -92,26 +93,29 @@ impl<D: Disk> StoreDisk<D> {
         Ok(())
     }
 
-    /// Lays the database anew, as its image with the number of its commits, so that no record is behind it. Takes no memory.
-    pub fn replace(&mut self, gated: &[u8]) -> Result<(), Failed>
+    /// Lays a database anew, as its image with the number of the commits that made it: the one that is kept, or one to which
+    /// a commit more leads. After `Ok` nothing else is on the disk, and a crash leaves nothing else. Takes no memory.
+    pub fn replace(&mut self, gated: &[u8], commits: u64) -> Result<(), Failed>
         requires sound { self.old.journal.failed ≡ false }
         requires room { HasRoomFor self.old.journal self.old.commits (length gated.now) }
-        requires gated { IsSomeGated self.old.commits gated.now }
+        requires most { commits ≤ self.old.commits + 1 }
+        requires gated { IsSomeGated commits gated.now }
         requires at_rest { IsTrue (D.honest self.old.journal.disk) → IsSomeKept D.holds D.leaves self.old.journal self.old.commits }
 
         ensures at { OnOk result (IsAt self.new.journal (other_of self.old.journal.area) (self.old.journal.epoch + 1) (16 + length gated.now)) }
-        ensures commits { self.new.commits ≡ self.old.commits }
+        ensures commits { OnOk result (self.new.commits ≡ commits) }
+        ensures no_more { OnErr result (self.new.commits ≡ self.old.commits) }
         ensures failed { OnErr result (self.new.journal.failed ≡ true) }
-        ensures kept { OnOk result ((db : Db) → IsTrue (D.honest self.old.journal.disk)
-            → IsGatedImage db self.old.commits gated.now
+        ensures kept { OnOk result ((next : Db) → IsTrue (D.honest self.old.journal.disk)
+            → Sound next → IsGatedImage next commits gated.now
+            → IsKept D.holds D.leaves self.new.journal next commits) }
+        ensures alone { OnOk result ((next : Db) → IsTrue (D.honest self.old.journal.disk)
+            → IsGatedImage next commits gated.now
+            → IsAloneOn D.holds D.leaves self.new.journal.disk next commits (self.old.journal.epoch + 1) (other_of self.old.journal.area)) }
+        ensures moments { (db next : Db) → IsTrue (D.honest self.old.journal.disk)
+            → Sound next → IsGatedImage next commits gated.now
             → IsKept D.holds D.leaves self.old.journal db self.old.commits
-            → IsKept D.holds D.leaves self.new.journal db self.old.commits) }
-        ensures alone { OnOk result (IsTrue (D.honest self.old.journal.disk)
-            → IsAlone D.holds self.new.journal.disk (other_of self.old.journal.area) (self.old.journal.epoch + 1) gated.now) }
-        ensures moments { (db : Db) → IsTrue (D.honest self.old.journal.disk)
-            → IsGatedImage db self.old.commits gated.now
-            → IsKept D.holds D.leaves self.old.journal db self.old.commits
-            → LeavesOnly D.moment D.might_have_left (λ a b. IsStoreIn a b db self.old.commits) self.old.journal.disk self.new.journal.disk }
+            → LeavesOnly D.moment D.might_have_left (IsEither db self.old.commits next commits) self.old.journal.disk self.new.journal.disk }
         ensures honesty { D.honest self.new.journal.disk ≡ D.honest self.old.journal.disk }
         ensures time { D.moment self.old.journal.disk ≤ D.moment self.new.journal.disk }
 
@@ -121,7 +125,9 @@ impl<D: Disk> StoreDisk<D> {
     {
         // A sound database is lawful as its image, since the texts of its creates read back.
         canonical_text_reads_back();
-        self.journal.replace(gated)
+        self.journal.replace(gated)?;
+        self.commits = commits;
+        Ok(())
     }
 
     /// Lends the disk, for its count of faults and its moment. Takes no memory.

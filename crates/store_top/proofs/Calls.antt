@@ -78,10 +78,10 @@ no_fault Took none = λ is. cc
 no_fault DiskFault none = λ is. cc
 no_fault NoRoom none = λ is. cc
 
-module _ {D : Type 0} (holds : D → Area → List ℕ) (moment : D → ℕ) (might : D → ℕ → List ℕ → List ℕ → Type 0) (honest : D → Bool) (faults : D → ℕ) where
+module _ {D : Type 0} (holds : D → Area → List ℕ) (leaves : D → Area → List ℕ → Type 0) (moment : D → ℕ) (might : D → ℕ → List ℕ → List ℕ → Type 0) (honest : D → Bool) (faults : D → ℕ) where
   -- what a call that was made did to the disk,
   pub moves-made : (before after : Seen D) (call made : Entry) (verdict : Verdict) (place : ℕ) (told : Reply) → Makes before after made place told
-      → Writes holds moment might honest faults before after call verdict told
+      → Writes holds leaves moment might honest faults before after call verdict told
       → MovesDiskOnce moment might honest faults before.base before.start before.history after.history (disk_of before) (disk_of after)
   moves-made before after call made verdict place told makes writes =
       let fails : fails_at before.base after.history (length before.history) ≡ is_fault verdict = sym (fails-made before after made place told makes) ∙ writes.fault in
@@ -97,9 +97,9 @@ module _ {D : Type 0} (holds : D → Area → List ℕ) (moment : D → ℕ) (mi
   -- and one that wasn't left it
   pub moves-unmade : (before after : Seen D) (unmade : Entry) → LeavesUnmade before after unmade
       → MovesDiskOnce moment might honest faults before.base before.start before.history after.history (disk_of before) (disk_of after)
-  moves-unmade before after unmade leaves =
-      let same : disk_of after ≡ disk_of before = ap (λ store. store.journal.disk) leaves.store in
-      let none = fails-unmade before after unmade leaves in
+  moves-unmade before after unmade unmade_is =
+      let same : disk_of after ≡ disk_of before = ap (λ store. store.journal.disk) unmade_is.store in
+      let none = fails-unmade before after unmade unmade_is in
       record {
         honesty = ap honest same;
         time = rw same (omega arith);

@@ -1,3 +1,4 @@
+mod Complete
 pub mod Calls
 pub mod Failures
 pub mod Moves

@@ -1,5 +1,5 @@
 -- What a run did to its disk, by how it ended.
-use Rattle.std.proofs.Common.{◌≡◌, ℕ, ◌≤◌, List, Bool, IsTrue, inl, inr, refl, ap, sym, subst, ◌∙◌, arith}
+use Rattle.std.proofs.Common.{◌≡◌, ℕ, ◌≤◌, List, Bool, true, IsTrue, inl, inr, refl, ap, sym, subst, ◌∙◌, arith}
 use Rattle.std.specs.Prelude.{◌≢◌, ◌⊎◌, Option, None, Some}
 use Rattle.own_base.specs.declared.number.Area.{Area}
 use Rattle.own_base.specs.declared.number.Area.TheVariants.{A, B}
@@ -12,7 +12,9 @@ use Rattle.own_model.specs.Db.{Db}
 use Rattle.history_model.specs.History.{History}
 use Rattle.disk_model.specs.Judged.{IsJudged}
 use Rattle.disk_model.specs.JudgedArea as found
+use Rattle.crash_model.specs.Alone.{is_laid_behind}
 use Rattle.crash_model.specs.LeftBy.{IsLeftBy, IsLeftOf}
+use Rattle.engine_core.specs.Seen.{IsAloneBehind}
 use Rattle.crash_model.specs.Room.{IsNoRoomExact, JournalEnd}
 use Rattle.crash_model.specs.StoreIn.{IsStoreIn}
 use Rattle.crash_recover.specs.Opening.{IsLeft}
@@ -94,7 +96,8 @@ module _ {D : Type 0} (holds : D → Area → List ℕ) (leaves : D → Area →
       (store : IsTrue (honest old) → IsStoreIn (holds old A) (holds old B) base start) (honesty : honest mid ≡ honest old) (time : moment old ≤ moment mid) (steady : faults mid ≡ faults old)
       (moments : IsTrue (honest old) → LeavesOnly moment might (IsLeft holds leaves old) old mid) (moves : MovesDisk moment might honest faults base start history mid new)
       (left : IsTrue (honest new) → (a b : List ℕ) → leaves new A a → leaves new B b → IsLeftBy base start history a b)
-      (area : Area) (journal : JournalEnd) (opens : IsTrue (honest old) → OpensAt (holds old A) (holds old B) area journal.epoch journal.end) (exact : IsNoRoomExact journal base start history) where
+      (area : Area) (journal : JournalEnd) (opens : IsTrue (honest old) → OpensAt (holds old A) (holds old B) area journal.epoch journal.end) (exact : IsNoRoomExact journal base start history)
+      (alone : is_laid_behind base history ≡ true → IsTrue (honest new) → IsAloneBehind holds leaves new journal base start history) where
     abbrev Either : List ℕ → List ℕ → Type 0
     Either a b = IsLeft holds leaves old a b ⊎ IsLeftOf base start history a b
 
@@ -110,6 +113,7 @@ module _ {D : Type 0} (holds : D → Area → List ℕ) (leaves : D → Area →
       journal = journal;
       opens = opens can;
       exact = exact;
+      alone = λ laid. alone laid (subst IsTrue (sym (moves.honesty ∙ honesty)) can);
     }
 
     rose_since : HasFailed base history → CountRose (faults old) (faults new)

@@ -1,3 +1,4 @@
+pub mod Complete
 pub mod OnDisk
 pub mod Ran
 pub mod Status

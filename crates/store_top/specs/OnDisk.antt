@@ -1,5 +1,5 @@
 -- What a run in mode step did to its disk.
-use Rattle.std.specs.Prelude.{◌≡◌, ◌≢◌, ◌⊎◌, ◌≤◌, ℕ, List, Bool, IsTrue, Option, None, Some}
+use Rattle.std.specs.Prelude.{◌≡◌, ◌≢◌, ◌⊎◌, ◌≤◌, ℕ, List, Bool, true, IsTrue, Option, None, Some}
 use Rattle.outer_world.specs.FaultCount.{CountRose}
 use Rattle.outer_world.specs.LeavesOnly.{LeavesOnly}
 use Rattle.outer_world.specs.Stays.{Stays}
@@ -9,11 +9,13 @@ use Rattle.own_model.specs.Db.{Db}
 use Rattle.history_model.specs.History.{History}
 use Rattle.disk_model.specs.Judged.{IsJudged}
 use Rattle.disk_model.specs.JudgedArea as found
+use Rattle.crash_model.specs.Alone.{is_laid_behind}
 use Rattle.crash_model.specs.LeftBy.{IsLeftBy, IsLeftOf}
 use Rattle.crash_model.specs.Room.{IsNoRoomExact, JournalEnd}
 use Rattle.crash_model.specs.StoreIn.{IsStoreIn}
 use Rattle.crash_recover.specs.Opening.{IsLeft}
 use Rattle.store_disk.specs.OpensAt.{OpensAt}
+use Rattle.engine_core.specs.Seen.{IsAloneBehind}
 use Rattle.store_top.specs.declared.served.TopFault.{TopFault}
 use Rattle.store_top.specs.declared.served.TopFault.TheVariants.{Disk, Damaged}
 use Rattle.store_top.specs.Steps.{HasFailed}
@@ -40,6 +42,9 @@ pub record IsServedOn {D : Type 0} (holds : D → Area → List ℕ) (leaves : D
   pub journal : JournalEnd
   pub opens : OpensAt (holds old A) (holds old B) area journal.epoch journal.end
   pub exact : IsNoRoomExact journal base start history
+  -- Where the last call that wrote to the disk laid the store anew, as a CHECKPOINT and an erasure do, and none behind it failed to
+  -- write, nothing but the flat database is on the disk, for what reads give and for every crash.
+  pub alone : is_laid_behind base history ≡ true → IsAloneBehind holds leaves new journal base start history
 
 -- What a run did to its disk, by the database that was opened, by the history of the calls that it made and by its fault.
 pub record OnDisk {D : Type 0} (holds : D → Area → List ℕ) (leaves : D → Area → List ℕ → Type 0) (moment : D → ℕ) (might_have_left : D → ℕ → List ℕ → List ℕ → Type 0)

@@ -1,4 +1,4 @@
-ghost use Rattle.std.specs.Prelude.{◌≡◌, ◌≢◌, ◌⊎◌, ◌+◌, ◌≤◌, ℕ, List, [], map, IfErr, IfOk, IsTrue, Ok, Some, None, string_bytes, vec_len};
+ghost use Rattle.std.specs.Prelude.{◌≡◌, ◌≢◌, ◌⊎◌, ◌+◌, ◌≤◌, ℕ, List, [], map, IfErr, IfOk, IsTrue, Ok, Some, None, string_bytes, true, vec_len};
 ghost use Rattle.own_base.specs.declared.number.Area.TheVariants.{A, B};
 ghost use Rattle.own_model.specs.declared.script.ScriptCall.{ScriptCall};
 ghost use Rattle.own_model.specs.Db.{Db};
@@ -7,11 +7,14 @@ ghost use Rattle.script_model.specs.Numbered.{AreNumbered};
 ghost use Rattle.script_model.specs.Script.{IsScript};
 ghost use Rattle.sql_reader.specs.InputFaults.{IsFaultOf};
 ghost use Rattle.history_model.specs.Serial.{Serial};
+ghost use Rattle.crash_model.specs.Alone.{is_laid_behind};
 ghost use Rattle.crash_model.specs.LeftBy.{IsLeftBy};
 ghost use Rattle.crash_model.specs.Room.{IsNoRoomExact};
 ghost use Rattle.crash_model.specs.StoreIn.{IsStoreIn};
-ghost use Rattle.engine_core.specs.Seen.{disk_of};
+ghost use Rattle.engine_core.specs.Seen.{IsAloneBehind, disk_of};
 ghost use Rattle.store_words.specs.Words.{mode_of};
+ghost use Rattle.outer_world.specs.FaultCount.{CountRose};
+ghost use Rattle.store_top.specs.Complete.{IsLawfulInput, IsServedOrRefused, IsWholeDisk};
 ghost use Rattle.store_top.specs.OnDisk.{OnDisk};
 ghost use Rattle.store_top.specs.Ran.{LastFault, Ran};
 ghost use Rattle.store_top.specs.Status.{status_of, unopened};
@@ -115,6 +118,8 @@ fn serve_engine<W: Sink, D: Disk>(
     ensures left { IsTrue (D.honest result.disk) → (a b : List ℕ) → D.leaves result.disk A a → D.leaves result.disk B b
         → IsLeftBy engine.base engine.start result.history a b }
     ensures exact { IsNoRoomExact engine.journal engine.base engine.start result.history }
+    ensures alone { is_laid_behind engine.base result.history ≡ true → IsTrue (D.honest result.disk)
+        → IsAloneBehind D.holds D.leaves result.disk engine.journal engine.base engine.start result.history }
 {
     let mut engine = engine;
     let fault = match serve_calls(&mut engine, alloc, calls, sink) {
@@ -224,6 +229,12 @@ pub fn step<R: Source, W: Sink, D: Disk>(
     // What became of the disk, which is touched only once the input was read to its end and has calls.
     ensures order { (result.disk ≡ disk) ⊎ ReadsScript (R.remaining source.old) (R.remaining source.new) }
     ensures on_disk { OnDisk D.holds D.leaves D.moment D.might_have_left D.honest D.faults disk result.disk result.opened result.history result.fault }
+
+    // A run that no fault of the source, the sink or the disk disturbs, of a lawful input, over an honest disk on which nothing
+    // is damaged, comes to its end, unless memory is refused. Then no call was answered with a fault of the disk, by `on_disk`.
+    ensures complete { (CountRose (R.faults source.old) (R.faults source.new) → ⊥) → (CountRose (W.faults sink.old) (W.faults sink.new) → ⊥)
+        → (CountRose (D.faults disk) (D.faults result.disk) → ⊥) → IsLawfulInput (R.remaining source.old) (R.remaining source.new) → IsWholeDisk D.holds D.honest disk
+        → IsServedOrRefused result.fault }
 {
     served(serve_source(alloc, source, sink, disk))
 }
@@ -254,6 +265,12 @@ pub fn run<Rt: Threads + Wait + Sync, R: Source, W: Sink, D: Disk + Send, G: Gat
     // What became of the disk, which is touched only once the input was read to its end and has calls.
     ensures order { (result.disk ≡ disk) ⊎ ReadsScript (R.remaining source.old) (R.remaining source.new) }
     ensures on_disk { OnDisk D.holds D.leaves D.moment D.might_have_left D.honest D.faults disk result.disk result.opened result.history result.fault }
+
+    // A run that no fault of the source, the sink or the disk disturbs, of a lawful input, over an honest disk on which nothing
+    // is damaged, comes to its end, unless memory is refused. Then no call was answered with a fault of the disk, by `on_disk`.
+    ensures complete { mode_of (map string_bytes words.now) ≢ None → (CountRose (R.faults source.old) (R.faults source.new) → ⊥) → (CountRose (W.faults sink.old) (W.faults sink.new) → ⊥)
+        → (CountRose (D.faults disk) (D.faults result.disk) → ⊥) → IsLawfulInput (R.remaining source.old) (R.remaining source.new) → IsWholeDisk D.holds D.honest disk
+        → IsServedOrRefused result.fault }
 {
     match mode_of(alloc, words) {
         Ok(Some(Mode::Step)) => step(alloc, source, sink, disk),

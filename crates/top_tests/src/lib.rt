@@ -4,6 +4,8 @@
 #[cfg(test)]
 mod disks;
 #[cfg(test)]
+mod erasures;
+#[cfg(test)]
 mod runs;
 #[cfg(test)]
 mod stops;

@@ -1,6 +1,6 @@
 //! Runs whose disk stops at some call, a crash after it, and openings that are stopped too.
 use crate::disks::told;
-use outer_world::{FuseDisk, MemDisk, MemSink, MemSource};
+use outer_world::{Disk, FuseDisk, MemDisk, MemSink, MemSource};
 use own_model::Verdict;
 use std::alloc::Global;
 use std::mem::drop;
@@ -27,12 +27,18 @@ const STATES: [&str; 6] = [
     "0 3 0 1.1 rows 1\n  2\n1 1.2 rows 1\n  8|2\n2 1.3 end\n",
 ];
 
-/// A run of the script whose disk passes so many calls: whether it ended without a fault, how many of its calls were answered
-/// before the disk failed, and what a crash leaves that keeps all that was written or nothing that wasn't synced.
-fn stopped(alloc: Global, calls: u32, keeps: bool) -> Result<(bool, usize, MemDisk), Fail> {
+/// How a run of the script ended over a disk: whether without a fault, how many of its calls were answered before the disk
+/// failed, and the disk.
+struct Ended<D> {
+    whole: bool,
+    answered: usize,
+    disk: D,
+}
+
+/// A run of the script over a disk.
+fn ended<D: Disk + Drop>(alloc: Global, disk: D) -> Result<Ended<D>, Fail> {
     let mut source = MemSource::new(alloc, SCRIPT.as_bytes(), &[])?;
     let mut sink = MemSink::new(alloc, &[])?;
-    let disk = FuseDisk::new(MemDisk::new(alloc, &[])?, calls);
     let Served {
         status,
         fault,
@@ -48,7 +54,40 @@ fn stopped(alloc: Global, calls: u32, keeps: bool) -> Result<(bool, usize, MemDi
         .take_while(|entry| !matches!(entry.verdict, Verdict::DiskFault))
         .count();
     drop(history);
-    Ok((status == 0, answered, disk.inner().crash(keeps)))
+    Ok(Ended {
+        whole: status == 0,
+        answered,
+        disk,
+    })
+}
+
+/// The same, of a disk that passes so many calls and fails each later one, or fails that one alone; and what a crash leaves of
+/// it that keeps all that was written or nothing that wasn't synced.
+fn crashed(alloc: Global, calls: u32, alone: bool, keeps: bool) -> Result<Ended<MemDisk>, Fail> {
+    if alone {
+        let Ended {
+            whole,
+            answered,
+            disk,
+        } = ended(alloc, MemDisk::new(alloc, &[calls])?)?;
+        let disk = disk.crash(keeps);
+        return Ok(Ended {
+            whole,
+            answered,
+            disk,
+        });
+    }
+    let Ended {
+        whole,
+        answered,
+        disk,
+    } = ended(alloc, FuseDisk::new(MemDisk::new(alloc, &[])?, calls))?;
+    let disk = disk.inner().crash(keeps);
+    Ok(Ended {
+        whole,
+        answered,
+        disk,
+    })
 }
 
 /// Opens what a crash left, with a fuse that passes no call of the disk, then one, and so on, and a crash after each: until
@@ -68,25 +107,34 @@ fn opened(rt: &(impl Abort + AllocGlobal), left: MemDisk, keeps: bool) -> Result
 
 /// Looks at what is there after a run whose disk passed so many calls: the commits that were answered, or with them the one
 /// at which the disk failed. Tells whether the run ended without a fault.
-fn check_stop(rt: &(impl Abort + AllocGlobal), calls: u32, keeps: bool) -> Result<bool, Fail> {
-    let (whole, answered, left) = stopped(rt.alloc(), calls, keeps)?;
+fn check_stop(
+    rt: &(impl Abort + AllocGlobal),
+    calls: u32,
+    alone: bool,
+    keeps: bool,
+) -> Result<bool, Fail> {
+    let Ended {
+        whole,
+        answered,
+        disk,
+    } = crashed(rt.alloc(), calls, alone, keeps)?;
     let made = COMMITS.iter().filter(|place| **place < answered).count();
     let late = made + COMMITS.iter().filter(|place| **place == answered).count();
-    let disk = opened(rt, left, keeps)?;
+    let disk = opened(rt, disk, keeps)?;
     let (seen, disk) = told(rt.alloc(), LOOK, disk)?;
     drop(disk);
     let states = [STATES.get(made).copied(), STATES.get(late).copied()];
     assert!(rt;
         states.contains(&Some(seen.as_str())),
-        "{calls} {keeps}: {seen}"
+        "{calls} {alone} {keeps}: {seen}"
     );
     Ok(whole)
 }
 
 /// Stops runs at each call of the disk, up to the first that ends without a stop; tells whether there is one.
-fn check_stops(rt: &(impl Abort + AllocGlobal), keeps: bool) -> Result<bool, Fail> {
+fn check_stops(rt: &(impl Abort + AllocGlobal), alone: bool, keeps: bool) -> Result<bool, Fail> {
     for calls in 0..256 {
-        if check_stop(rt, calls, keeps)? {
+        if check_stop(rt, calls, alone, keeps)? {
             return Ok(true);
         }
     }
@@ -96,7 +144,15 @@ fn check_stops(rt: &(impl Abort + AllocGlobal), keeps: bool) -> Result<bool, Fai
 #[test]
 fn what_was_answered_is_there_wherever_the_disk_stops(rt: HostRuntime) -> Result<(), Fail> {
     for keeps in [false, true] {
-        assert!(rt; check_stops(&rt, keeps)?);
+        assert!(rt; check_stops(&rt, false, keeps)?);
+    }
+    Ok(())
+}
+
+#[test]
+fn what_was_answered_is_there_whichever_call_fails(rt: HostRuntime) -> Result<(), Fail> {
+    for keeps in [false, true] {
+        assert!(rt; check_stops(&rt, true, keeps)?);
     }
     Ok(())
 }

@@ -38,8 +38,8 @@ returns-in-Ok-Weighs-clause-tells c =
       some = c.requires.some;
     } in
     IfOk-weaker c.recorded.result _ _ (λ answer is.
-    tells-changed db after c.args.reply c.requires.accepted list net_is weighs c.record_of_changes.result answer judged.1 (c.record_of_changes.ensures db after net_is)
-    (subst (λ (next : Db). IsRecorded next weighs c.args.reply c.record_of_changes.result answer) c.in_ok-next.ensures.next is))
+    tells-changed db after c.args.reply c.requires.accepted list net_is weighs c.record_of_changes-framed.result answer judged.1 (c.record_of_changes-framed.ensures db after net_is)
+    (subst (λ (next : Db). IsRecorded next weighs c.args.reply c.record_of_changes-framed.result answer) c.in_ok-next.ensures.next is))
     c.recorded.ensures.told
 
 -- and with one by it

@@ -15,7 +15,7 @@ returns-in-Some-clause-made g c =
     let D = g.D.Disk in
     made-down D.holds D.leaves D.moment D.might_have_left D.honest D.faults c.args.state.now.opened c.args.history.now.items c.push_reserved.new.self.items c.args.state.now c.args.store.now c.args.store.now
     c.args.down.now c.args.down.now c.args.entry c.len.result (search rules) c.requires.down c.in-Some.failed c.in-Some.is c.requires.took
-    (c.push_reserved.ensures.items ∙ ap (λ (items : History). items ++ c.args.entry ∷ []) c.reserve.ensures.items) c.requires.represents refl refl
+    (c.push_reserved.ensures.items ∙ ap (λ (items : History). items ++ c.args.entry ∷ []) c.reserve.ensures.items) refl refl
 
 -- or the call was served, and the place is where the disk failed, if it did
 pub returns-after-is_fault-clause-made : goal.returns-after-is_fault-clause-made

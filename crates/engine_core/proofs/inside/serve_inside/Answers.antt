@@ -9,7 +9,7 @@ use Rattle.history_model.specs.Reply.{answer}
 use Rattle.engine_core.specs.Stored.{IsUp}
 use Rattle.history_model.specs.Commits.{is_commit, is_create}
 use Rattle.txn_core.proofs.Statements.{none_moved}
-use Rattle.engine_core.proofs.Carried.{carries-same, kind-unasked}
+use Rattle.engine_core.proofs.Carried.{carries-same}
 use Rattle.engine_core.proofs.Decided.{event-under, serves-alone, serves-took, stores-alone}
 use Rattle.engine_core.proofs.OutsideReplies.{takes-place}
 use Rattle.engine_core.proofs.PromptEvents.{serves-inside, serves-rollback}
@@ -58,14 +58,11 @@ returns-in_ok-serve_stated-in_default g c =
     record {
       served = serves-took c.args.state.now.opened c.serve_stated.new.state c.args.history.now c.args.entry.now c.in_ok-serve_stated-in_default.field-0 c.requires.took c.requires.event.up
           c.in_ok-serve_stated-in_default.ensures.served;
-      stored = (
-        kind-unasked now c.args.entry.now (unasked-stated c.args.history.now c.args.entry.now c.args.state.now c.requires.event c.requires.open c.args.statement.now c.requires.asks takes),
-        carries-same D.holds D.leaves D.moment D.might_have_left g.met.D.Disk.only_now D.honest D.faults c.args.store.now now.flat (happens now c.args.entry.now).flat
-            (asks_disk now c.args.entry.now) (is_commit now c.args.entry.now (answer now c.args.entry.now))
-            (subst (λ db. IsUp D.holds D.leaves D.honest c.args.store.now db) c.requires.event.stands.flat c.requires.store)
-            (calm-stated c.args.history.now c.args.entry.now c.args.state.now c.requires.event c.requires.open c.args.statement.now c.requires.asks takes)
-            (unasked-stated c.args.history.now c.args.entry.now c.args.state.now c.requires.event c.requires.open c.args.statement.now c.requires.asks takes)
-            (uncommitted-stated c.args.history.now c.args.entry.now c.args.state.now c.requires.event c.requires.open c.args.statement.now c.requires.asks takes),
-      );
+      stored = carries-same D.holds D.leaves D.moment D.might_have_left g.met.D.Disk.only_now D.honest D.faults c.args.store.now now.flat (happens now c.args.entry.now).flat
+          (asks_disk now c.args.entry.now) (is_commit now c.args.entry.now (answer now c.args.entry.now))
+          (subst (λ db. IsUp D.holds D.leaves D.honest c.args.store.now db) c.requires.event.stands.flat c.requires.store)
+          (calm-stated c.args.history.now c.args.entry.now c.args.state.now c.requires.event c.requires.open c.args.statement.now c.requires.asks takes)
+          (unasked-stated c.args.history.now c.args.entry.now c.args.state.now c.requires.event c.requires.open c.args.statement.now c.requires.asks takes)
+          (uncommitted-stated c.args.history.now c.args.entry.now c.args.state.now c.requires.event c.requires.open c.args.statement.now c.requires.asks takes);
       opened = c.serve_stated.ensures.opened;
     }

@@ -7,8 +7,8 @@ use Rattle.readable_model.proofs.Within.{statement_within}
 use Rattle.run_model.specs.Run.{Outcome}
 use Rattle.run_model.proofs.KeptRuns.{kept-run}
 use Rattle.history_model.specs.History.{world}
-use Rattle.engine_core.proofs.BoundStatements.{commit-as_bound, erases-as_bound, erases-refused, meant-bound, run-bound}
-use Rattle.engine_core.proofs.Commits.{tells-alike, tells-committing, tells-refused}
+use Rattle.engine_core.proofs.BoundStatements.{written-as_bound, erases-as_bound, erases-refused, meant-bound, run-bound}
+use Rattle.engine_core.proofs.Commits.{tells-alike, tells-writing, tells-refused}
 use Rattle.engine_core.proofs.OutsideReplies.{reply-meant_in, reply-refused_in}
 use Rattle.engine_core.proofs.outside.answer_by_meaning.Goals as goal
 
@@ -38,7 +38,7 @@ returns-in-Ok-clause-tells c =
     rw (run-bound state.version asked c.in-Ok.bound c.requires.bound is)
     (IfOk-weaker c.answer_meant-answer.result _ _ (λ answer tells. tells-alike state.version false _ _ _ answer
     (λ verdict. reply-meant_in state (world c.args.asker.now.state.now.opened c.args.asker.now.history.now) c.requires.stands c.args.asker.now.session.0 verdict asked c.in-Ok.bound c.requires.bound is)
-    (tells-committing state.version false answer (commit-as_bound state.version _ asked c.in-Ok.bound c.requires.bound is) tells))
+    (tells-writing state.version false answer (written-as_bound state.version _ c.args.asker.now.commits asked c.in-Ok.bound c.requires.bound is) tells))
     c.answer_meant-answer.ensures.tells)
 
 pub returns-in-Ok-clause-erases : goal.returns-in-Ok-clause-erases

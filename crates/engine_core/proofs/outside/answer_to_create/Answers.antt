@@ -24,8 +24,8 @@ returns-in-Some-clause-erases c =
 pub returns-in-None-clause-tells : goal.returns-in-None-clause-tells
 returns-in-None-clause-tells c =
     let state = c.args.asker.now.state.now in
-    IfOk-weaker c.create.result _ _ (λ answer. tells-alike state.version true _ _ _ answer
-    (λ verdict. reply-create state (world c.args.asker.now.state.now.opened c.args.asker.now.history.now) c.requires.stands c.args.asker.now.session.0 verdict c.args.statement.now c.requires.create c.lowest_other.result c.in-None.is c.lowest_other.ensures))
+    IfOk-weaker c.create.result _ _ (λ answer tells. tells-alike state.version true _ _ _ answer
+    (λ verdict. reply-create state (world c.args.asker.now.state.now.opened c.args.asker.now.history.now) c.requires.stands c.args.asker.now.session.0 verdict c.args.statement.now c.requires.create c.lowest_other.result c.in-None.is c.lowest_other.ensures) (tells c.args.asker.now.commits))
     c.create.ensures.tells
 
 pub returns-in-None-clause-erases : goal.returns-in-None-clause-erases

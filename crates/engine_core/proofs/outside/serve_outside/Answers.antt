@@ -1,4 +1,4 @@
-use Rattle.std.proofs.Common.{◌∙◌, ap, inl, inr, refl}
+use Rattle.std.proofs.Common.{◌∙◌, ◌+◌, ap, inl, inr, refl, subst}
 use Rattle.own_model.specs.declared.refusal.Refusal.TheVariants as refusal
 use Rattle.own_model.specs.declared.reply.Reply.TheVariants.{Done, Refused}
 use Rattle.own_model.specs.declared.request.Request.TheVariants.{Run}
@@ -8,8 +8,11 @@ use Rattle.history_model.specs.Commits.{is_create}
 use Rattle.txn_core.proofs.Statements.{none_moved}
 use Rattle.engine_core.proofs.CheckpointEvents.{serves-checkpoint, stores-checkpoint}
 use Rattle.engine_core.proofs.Decided.{event-under, serves-alone, stores-alone}
-use Rattle.engine_core.proofs.InstalledEvents.{serves-installed, stores-installed}
+use Rattle.engine_core.proofs.InstalledEvents.{numbered-by, serves-result, stores-result}
 use Rattle.engine_core.proofs.OpenStates.{sound-event, written-event}
+use Rattle.engine_core.proofs.Sizes.{numbered-as}
+use Rattle.engine_core.specs.Answered.{IsNumbered}
+use Rattle.run_model.specs.Run.{run}
 use Rattle.engine_core.proofs.OutsideReplies.{runs-itself}
 use Rattle.engine_core.proofs.PromptEvents.{serves-begin, serves-commit_outside, serves-rollback_outside}
 use Rattle.engine_core.proofs.outside.serve_outside.Goals as goal
@@ -76,17 +79,32 @@ answer-requires g c = record {
   itself = runs-itself c.args.statement.now c.in_default.not-Checkpoint c.in_default.not-Begin c.in_default.not-Commit c.in_default.not-Rollback;
 }
 
+-- an image that is prepared has a commit more than there are
+pub install-requires : goal.install-requires
+install-requires g c =
+    let asked = c.args.statement.now in
+    let itself = runs-itself asked c.in_default.not-Checkpoint c.in_default.not-Begin c.in_default.not-Commit c.in_default.not-Rollback in
+    let tells = c.in_ok-answer-in_default.ensures.tells in
+    record {
+      sound = sound-event c.args.history.now c.args.entry.now c.args.state.now c.requires.event;
+      weighs = c.requires.event.stands.weighs;
+      may = tells.may;
+      numbered = subst (λ number. IsNumbered (number + 1) c.in_ok-answer-in_default.answer.next) c.commits.ensures
+          (numbered-as _ c.in_ok-answer-in_default.answer.next _ tells.writes (numbered-by asked itself c.args.state.now.version (run c.args.state.now.version asked).db c.commits.result));
+      store = c.requires.store;
+    }
+
 pub returns-in_ok-answer-in_default-clause-served : goal.returns-in_ok-answer-in_default-clause-served
 returns-in_ok-answer-in_default-clause-served g c =
-    serves-installed c.args.history.now c.args.entry.now c.args.state.now c.install.new.state c.requires.event _ refl c.args.statement.now c.requires.asks
+    serves-result c.args.history.now c.args.entry.now c.args.state.now c.install.new.state c.requires.event _ refl c.args.statement.now c.requires.asks
     (runs-itself c.args.statement.now c.in_default.not-Checkpoint c.in_default.not-Begin c.in_default.not-Commit c.in_default.not-Rollback) c.requires.outside
-    c.in_ok-answer-in_default.answer c.in_ok-answer-in_default.ensures.tells c.in_ok-answer-in_default.ensures.erases c.install.result
-    c.install.ensures.told c.install.ensures.version c.install.ensures.weighs c.install.ensures.doomed c.install.ensures.unchanged c.install.ensures.asked
+    c.in_ok-answer-in_default.answer _ c.in_ok-answer-in_default.ensures.tells c.in_ok-answer-in_default.ensures.erases c.install.result
+    c.install.ensures.told c.install.ensures.version c.install.ensures.weighs c.install.ensures.doomed c.install.ensures.unchanged c.install.ensures.asked c.install.ensures.state_kept
 
 pub returns-in_ok-answer-in_default-clause-stored : goal.returns-in_ok-answer-in_default-clause-stored
 returns-in_ok-answer-in_default-clause-stored g c =
     let D = g.D.Disk in
-    stores-installed c.args.history.now c.args.entry.now c.args.state.now c.install.new.state c.requires.event _ refl c.args.statement.now c.requires.asks
+    stores-result c.args.history.now c.args.entry.now c.args.state.now c.install.new.state c.requires.event _ refl c.args.statement.now c.requires.asks
     (runs-itself c.args.statement.now c.in_default.not-Checkpoint c.in_default.not-Begin c.in_default.not-Commit c.in_default.not-Rollback) c.requires.outside
-    c.in_ok-answer-in_default.answer c.in_ok-answer-in_default.ensures.tells c.requires.took
-    D.holds D.leaves D.moment D.might_have_left D.honest D.faults c.args.store.now c.install.new.store c.install.result.0 c.install.ensures.carried
+    c.in_ok-answer-in_default.answer _ c.in_ok-answer-in_default.ensures.tells c.requires.took
+    D.holds D.leaves D.moment D.might_have_left D.honest D.faults c.args.store.now c.install.new.store c.commits.ensures c.install.result c.install.ensures.carried c.install.ensures.store_kept

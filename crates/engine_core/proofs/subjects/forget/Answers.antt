@@ -1,10 +1,12 @@
-use Rattle.std.proofs.Common.{◌∙◌, List, false, ap, subst, sym}
+use Rattle.std.proofs.Common.{◌+◌, ◌∙◌, List, false, ap, subst, sym}
 use Rattle.own_base.specs.declared.change.Change.{Change}
 use Rattle.move_model.specs.declared.owner_move.OwnerMove.{OwnerMove}
 use Rattle.move_model.specs.Moves.{AreMovesOf}
+use Rattle.std.specs.Prelude.{IfOk}
 use Rattle.state_model.specs.Put.{put}
+use Rattle.state_model.specs.Sound.{Sound}
+use Rattle.check_image.specs.Gated.{IsGatedImage}
 use Rattle.state_model.proofs.CreatedSchema.{owner_schema-created, within-created}
-use Rattle.commit_record.proofs.Named.{there-short}
 use Rattle.engine_core.proofs.Erased.{erases-forgotten, forgot-accepted, tells-erasing}
 use Rattle.engine_core.proofs.Forgotten.{erased-sound, few-erased, lent-there, planned-next, tells-forgotten}
 use Rattle.engine_core.proofs.subjects.forget.Goals as goal
@@ -45,12 +47,14 @@ weight_left-left-requires c =
       moves = subst (λ (list : List OwnerMove). AreMovesOf db (put db c.items-4.result.now) list) (sym c.items-5.ensures) moves;
     }
 
--- the name of a row that is there is short
-pub record_of_forget-framed-requires : goal.record_of_forget-framed-requires
-record_of_forget-framed-requires c =
+-- what is laid anew is sound
+pub image_of-image-requires : goal.image_of-image-requires
+image_of-image-requires c =
     let db = c.args.version.now in
     let subject = c.args.subject.now.0 in
-    there-short db subject c.requires.sound (lent-there db subject c.row.result c.row.ensures c.if-is_none.ensures)
+    let next = c.in_ok-next.next in
+    let is = planned-next db next subject c.items-2.result.now c.in_ok-changes.changes c.in_ok-next.ensures.next c.items-2.ensures c.in_ok-changes.ensures.put in
+    record { sound = subst Sound (sym c.version.ensures) (erased-sound db next subject c.requires.subject c.requires.sound is) }
 
 -- it is told with its counts
 told : goal.returns-in-Ok-clause-tells
@@ -62,9 +66,10 @@ told c =
     let sound = erased-sound db next subject c.requires.subject c.requires.sound is in
     let there = lent-there db subject c.row.result c.row.ensures c.if-is_none.ensures in
     let counted = rw c.items-3.ensures at c.forgotten-reply.ensures in
-    tells-erasing db false _ _ c.in_ok-recorded-in-Ok.field-0 c.erasing.result c.erasing.ensures.reply c.erasing.ensures.next
-    (tells-forgotten db next subject c.in_ok-changes.changes c.forgotten-reply.result c.in-Ok.left c.record_of_forget-framed.result c.in_ok-recorded-in-Ok.field-0 c.requires.subject c.requires.sound sound there is
-    c.in-Ok.ensures c.in_ok-changes.ensures.plan counted c.record_of_forget-framed.ensures.framed c.record_of_forget-framed.ensures.never c.in_ok-recorded-in-Ok.ensures.told)
+    tells-erasing db false _ _ c.in_ok-laid-in-Ok.field-0 c.erasing.result c.erasing.ensures.reply c.erasing.ensures.next
+    (tells-forgotten db next subject c.in_ok-changes.changes c.forgotten-reply.result c.in-Ok.left (c.args.commits + 1) c.in_ok-laid-in-Ok.field-0 c.requires.sound sound there is
+    c.in-Ok.ensures c.in_ok-changes.ensures.plan counted c.image_of-image.result
+    (subst (λ db. IfOk c.image_of-image.result (IsGatedImage db (c.args.commits + 1))) c.version.ensures c.image_of-image.ensures) c.in_ok-laid-in-Ok.ensures.told)
 
 pub returns-in-Ok-clause-tells : goal.returns-in-Ok-clause-tells
 returns-in-Ok-clause-tells c = told c

@@ -16,3 +16,7 @@ returns-clause-left g c = rw (c.serve_calls.ensures.base, c.serve_calls.ensures.
 -- from where its journal stood then
 pub returns-clause-exact : goal.returns-clause-exact
 returns-clause-exact g c = rw (c.serve_calls.ensures.journal, c.serve_calls.ensures.base, c.serve_calls.ensures.start) at c.close-opened.ensures.exact
+
+-- and laid anew over it
+pub returns-clause-alone : goal.returns-clause-alone
+returns-clause-alone g c = rw (c.serve_calls.ensures.journal, c.serve_calls.ensures.base, c.serve_calls.ensures.start) at c.close-opened.ensures.alone

@@ -21,5 +21,5 @@ returns-in-Ok-clause-on_disk g c =
     on_disk-served D.holds D.leaves D.moment D.might_have_left g.met.D.Disk.only_now D.honest D.faults c.args.disk c.serve_engine.result.disk
     c.serve_engine.result.opened c.serve_engine.result.history (disk_of c.in-Ok.engine) c.in-Ok.engine.base c.in-Ok.engine.start served.opened
     opened.base opened.honesty opened.time opened.steady opened.moments served.moves served.left
-    c.in-Ok.engine.store.journal.area c.in-Ok.engine.journal opened.start served.exact
+    c.in-Ok.engine.store.journal.area c.in-Ok.engine.journal opened.start served.exact served.alone
     c.args.calls.items (sink.written c.args.sink.now) (sink.written c.serve_engine.new.sink) _ c.serve_engine.result.fault served.served

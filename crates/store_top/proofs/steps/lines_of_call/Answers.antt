@@ -5,7 +5,7 @@ use Rattle.store_top.proofs.steps.lines_of_call.Goals as goal
 pub returns-in_err-text-in-NoMemory-clause-moves : goal.returns-in_err-text-in-NoMemory-clause-moves
 returns-in_err-text-in-NoMemory-clause-moves g c =
     let D = g.D.Disk in
-    moves-unmade D.holds D.moment D.might_have_left D.honest D.faults c.args.engine.now c.step.new.self _ c.in-NoMemory.ensures.steps
+    moves-unmade D.holds D.leaves D.moment D.might_have_left D.honest D.faults c.args.engine.now c.step.new.self _ c.in-NoMemory.ensures.steps
 
 pub returns-in_ok-text-in-NoMemory-clause-failed : goal.returns-in_ok-text-in-NoMemory-clause-failed
 returns-in_ok-text-in-NoMemory-clause-failed g c = sym (fails-unmade c.args.engine.now c.step.new.self _ c.in-NoMemory.ensures.steps)
@@ -13,4 +13,4 @@ returns-in_ok-text-in-NoMemory-clause-failed g c = sym (fails-unmade c.args.engi
 pub returns-in_ok-text-in-NoMemory-clause-moves : goal.returns-in_ok-text-in-NoMemory-clause-moves
 returns-in_ok-text-in-NoMemory-clause-moves g c =
     let D = g.D.Disk in
-    moves-unmade D.holds D.moment D.might_have_left D.honest D.faults c.args.engine.now c.step.new.self _ c.in-NoMemory.ensures.steps
+    moves-unmade D.holds D.leaves D.moment D.might_have_left D.honest D.faults c.args.engine.now c.step.new.self _ c.in-NoMemory.ensures.steps

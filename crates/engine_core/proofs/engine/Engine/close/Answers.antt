@@ -1,4 +1,5 @@
 use Rattle.history_model.proofs.EveryHistory.{serial-history}
+use Rattle.engine_core.proofs.EngineStands.{alone-behind}
 use Rattle.engine_core.proofs.engine.Engine.close.Goals as goal
 
 pub returns-clause-serial : goal.returns-clause-serial
@@ -9,3 +10,11 @@ returns-clause-exact g c = rw c.from_vec.ensures (rw (← c.self.view_is) c.self
 
 pub returns-clause-left : goal.returns-clause-left
 returns-clause-left g c = rw (c.from_vec.ensures, c.close.ensures) (rw (← c.self.view_is) c.self.invariant.left)
+
+pub returns-clause-alone : goal.returns-clause-alone
+returns-clause-alone g c =
+    let D = g.D.Disk in
+    let inside = c.self.inside in
+    rw (c.from_vec.ensures, c.close.ensures) (rw (← c.self.view_is)
+    (alone-behind D.holds D.leaves D.moment D.might_have_left D.honest D.faults g.met.D.Disk.only_now g.met.D.Disk.now_counts inside.start (record { epoch = inside.epoch; end = inside.end }) inside.state inside.store inside.down
+    inside.history.items c.self.invariant))

@@ -22,7 +22,7 @@ make-requires-clause-store g c none = record {
   kept = λ honest.
       let D = g.D.Disk in
       let store = c.self.inside.store in
-      subst (λ db. IsKept D.holds D.leaves store.journal db store.commits) (flat-world _ _ ∙ sym c.self.invariant.represents.flat) (c.self.invariant.kept none honest);
+      subst (λ db. IsKept D.holds D.leaves store.journal db store.commits) (flat-world _ _ ∙ sym (c.self.invariant.represents none).flat) (c.self.invariant.kept none honest);
 }
 
 pub invariant_of-self : goal.invariant_of-self
@@ -44,7 +44,7 @@ returns-clause-steps g c =
     let spare_after = vec_capacity now.history - vec_len now.history in
     let before : Seen g.row.D.Denot = record { base = was.state.opened; start = was.start; journal = record { epoch = was.epoch; end = was.end }; history = was.history.items; spare = spare; store = was.store } in
     let after : Db → Seen g.row.D.Denot = λ base. record { base = base; start = was.start; journal = record { epoch = was.epoch; end = was.end }; history = now.history.items; spare = spare_after; store = now.store } in
-    let steps : Step NoLook → Type 0 = λ step. Steps D.holds D.moment D.might_have_left D.honest D.faults before (after was.state.opened) call step in
+    let steps : Step NoLook → Type 0 = λ step. Steps D.holds D.leaves D.moment D.might_have_left D.honest D.faults before (after was.state.opened) call step in
     let told : steps c.match-make.result =
     elim c.match-make.branch [
       | in-Ok w ↦ subst steps (sym w.result-is) (
@@ -58,8 +58,8 @@ returns-clause-steps g c =
           (leaves-of was.state.opened was.start _ was.history.items now.history.items spare spare_after was.store now.store call w.in-Err.ensures.unmade.0 w.in-Err.ensures.room_left w.in-Err.ensures.unmade.2
           w.in-Err.ensures.spared)
     ] in
-    subst (λ seen. Steps D.holds D.moment D.might_have_left D.honest D.faults seen (after now.state.opened) call c.match-make.result) c.self.view_is
-    (subst (λ base. Steps D.holds D.moment D.might_have_left D.honest D.faults before (after base) call c.match-make.result) (sym c.make.ensures.opened) told)
+    subst (λ seen. Steps D.holds D.leaves D.moment D.might_have_left D.honest D.faults seen (after now.state.opened) call c.match-make.result) c.self.view_is
+    (subst (λ base. Steps D.holds D.leaves D.moment D.might_have_left D.honest D.faults before (after base) call c.match-make.result) (sym c.make.ensures.opened) told)
 
 pub returns-clause-serial : goal.returns-clause-serial
 returns-clause-serial g c = let stands = invariant_of-self g c in serial-history c.make.new.state.opened c.make.new.history.items stands.begun stands.entries

@@ -1,3 +1,4 @@
+use Rattle.std.proofs.Common.{◌+◌}
 use Rattle.outer_world.proofs.Moments.{weaker}
 use Rattle.store_disk.specs.Kept.{IsEither}
 use Rattle.store_disk.proofs.Keeping.{either-left, kept-appended, record-framed}
@@ -10,7 +11,7 @@ pub returns-in_err-append-clause-moments : goal.returns-in_err-append-clause-mom
 returns-in_err-append-clause-moments g c commit db after honest is follows kept =
     let D = g.D.Disk in
     let old = c.args.self.now.journal in
-    weaker D.leaves D.moment D.might_have_left g.met.D.Disk.only_now old.disk c.append.new.self.disk _ (IsEither db after c.args.self.now.commits)
+    weaker D.leaves D.moment D.might_have_left g.met.D.Disk.only_now old.disk c.append.new.self.disk _ (IsEither db c.args.self.now.commits after (c.args.self.now.commits + 1))
     (either-left D.holds D.leaves old db after c.args.self.now.commits commit c.args.framed.now kept is follows) (c.append.ensures.moments kept.stored honest kept.rests)
 
 pub returns-clause-kept : goal.returns-clause-kept
@@ -23,5 +24,5 @@ pub returns-clause-moments : goal.returns-clause-moments
 returns-clause-moments g c commit db after honest is follows kept =
     let D = g.D.Disk in
     let old = c.args.self.now.journal in
-    weaker D.leaves D.moment D.might_have_left g.met.D.Disk.only_now old.disk c.append.new.self.disk _ (IsEither db after c.args.self.now.commits)
+    weaker D.leaves D.moment D.might_have_left g.met.D.Disk.only_now old.disk c.append.new.self.disk _ (IsEither db c.args.self.now.commits after (c.args.self.now.commits + 1))
     (either-left D.holds D.leaves old db after c.args.self.now.commits commit c.args.framed.now kept is follows) (c.append.ensures.moments kept.stored honest kept.rests)

@@ -1,0 +1,17 @@
+use Rattle.std.proofs.Common.{subst, sym}
+use Rattle.outer_world.specs.FaultCount.{CountRose}
+use Rattle.store_top.specs.Complete.{IsServedOrRefused}
+use Rattle.store_top.proofs.Complete.{complete}
+use Rattle.store_top.proofs.running.step.Goals as goal
+
+-- what nothing disturbs is served
+pub returns-clause-complete : goal.returns-clause-complete
+returns-clause-complete g c reads writes rose lawful whole =
+    let R = g.R.Source in
+    let W = g.W.Sink in
+    let D = g.D.Disk in
+    let ended = c.serve_source.result in
+    let did = c.serve_source.ensures in
+    subst IsServedOrRefused (sym c.served.ensures.fault)
+    (complete R.remaining R.faults R.fails W.written W.faults W.fails D.holds D.leaves D.moment D.might_have_left D.honest D.faults c.args.source.now c.serve_source.new.source c.args.sink.now c.serve_source.new.sink
+    c.args.disk ended.disk ended.opened ended.history reads writes (λ risen. rose (subst (λ disk. CountRose (D.faults c.args.disk) (D.faults disk)) (sym c.served.ensures.disk) risen)) lawful whole ended.fault did.lawful did.ran did.on_disk)
