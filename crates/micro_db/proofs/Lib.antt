@@ -1,0 +1,10 @@
+pub mod AlikeLemmas
+pub mod AmongLemmas
+pub mod ByLemmas
+pub mod CreateLemmas
+pub mod FiledLemmas
+pub mod KeptLemmas
+pub mod LookedLemmas
+pub mod RenewLemmas
+pub mod StandingSame
+pub mod UnderLemmas

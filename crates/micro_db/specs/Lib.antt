@@ -1,0 +1,9 @@
+pub mod Before
+pub mod CopyOf
+pub mod Filed
+pub mod FiledOrder
+pub mod Kept
+pub mod LeadsOn
+pub mod Looked
+pub mod Renewed
+pub mod Uppers

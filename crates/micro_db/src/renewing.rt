@@ -1,0 +1,116 @@
+ghost use Rattle.std.specs.Prelude.{◌≡◌, IfOk, OnOk};
+ghost use Rattle.schema_model.specs.OwnerSchema.{IsOwnerSchema};
+ghost use Rattle.shelf_model.specs.At.{copy_at, seen_at};
+ghost use Rattle.micro_db.specs.Renewed.{ForSomeOf, IsMoveAt, IsOf, IsReachedAt, Renews};
+
+use crate::copying::copy_of;
+use crate::micro::MicroDb;
+use crate::rows::is_there;
+use crate::standing::{owns, reaches};
+use link_model::Linked;
+use move_model::OwnerMove;
+use own_base::{MakeCopy, RowName, Subject};
+use shelf_model::Shelved;
+use std::alloc::{AllocError, Global};
+
+/// The copy of a row that is there, where the subject owns it.
+fn copy_at<N: Linked>(
+    alloc: Global,
+    after: &N,
+    subject: &Subject,
+    name: &RowName,
+) -> Result<Option<Shelved>, AllocError>
+    requires { IsOwnerSchema (N.db after.now).schema }
+    ensures { IfOk result (λ copy. copy ≡ copy_at (N.db after.now) subject.now.0 name.now) }
+{
+    if owns(after, subject, name) {
+        copy_of(alloc, after, subject, name)
+    } else {
+        Ok(None)
+    }
+}
+
+/// The name of a row that is there, where the subject reaches it and doesn't own it.
+fn seen_at<N: Linked>(
+    alloc: Global,
+    after: &N,
+    subject: &Subject,
+    name: &RowName,
+) -> Result<Option<RowName>, AllocError>
+    requires { IsOwnerSchema (N.db after.now).schema }
+    ensures { IfOk result (λ seen. seen ≡ seen_at (N.db after.now) subject.now.0 name.now) }
+{
+    if is_there(after, name) && reaches(after, subject, name) && !owns(after, subject, name) {
+        Ok(Some(name.copy(alloc)?))
+    } else {
+        Ok(None)
+    }
+}
+
+impl MicroDb {
+    /// Makes right what is kept of a row for a subject.
+    fn renew<N: Linked>(
+        &mut self,
+        alloc: Global,
+        after: &N,
+        subject: &Subject,
+        name: &RowName,
+    ) -> Result<(), AllocError>
+        requires { IsOwnerSchema (N.db after.now).schema }
+        ensures { OnOk result (Renews (N.db after.now) (IsOf subject.now name.now) self.old self.new) }
+    {
+        let copy = copy_at(alloc, after, subject, name)?;
+        let seen = seen_at(alloc, after, subject, name)?;
+        self.shelves.put(alloc, subject, name, copy)?;
+        self.seen.put(alloc, subject, name, seen)?;
+        Ok(())
+    }
+
+    /// Makes right what is kept where a subject stands otherwise to a row than before.
+    pub(crate) fn renew_moved<N: Linked>(
+        &mut self,
+        alloc: Global,
+        after: &N,
+        moves: &[OwnerMove],
+    ) -> Result<(), AllocError>
+        requires { IsOwnerSchema (N.db after.now).schema }
+        ensures { OnOk result (Renews (N.db after.now) (ForSomeOf IsMoveAt moves.now) self.old self.new) }
+    {
+        for moved in moves {
+            self.renew(alloc, after, &moved.subject, &moved.name)?;
+        }
+        Ok(())
+    }
+
+    /// Makes right what is kept of a row for the subjects that reach it.
+    fn renew_row<N: Linked>(
+        &mut self,
+        alloc: Global,
+        after: &N,
+        name: &RowName,
+    ) -> Result<(), AllocError>
+        requires { IsOwnerSchema (N.db after.now).schema }
+        ensures { OnOk result (Renews (N.db after.now) (IsReachedAt (N.db after.now) name.now) self.old self.new) }
+    {
+        for subject in after.reach(name) {
+            self.renew(alloc, after, subject, name)?;
+        }
+        Ok(())
+    }
+
+    /// Makes right what is kept of these rows for the subjects that reach them.
+    pub(crate) fn renew_rows<N: Linked>(
+        &mut self,
+        alloc: Global,
+        after: &N,
+        names: &[RowName],
+    ) -> Result<(), AllocError>
+        requires { IsOwnerSchema (N.db after.now).schema }
+        ensures { OnOk result (Renews (N.db after.now) (ForSomeOf (IsReachedAt (N.db after.now)) names.now) self.old self.new) }
+    {
+        for name in names {
+            self.renew_row(alloc, after, name)?;
+        }
+        Ok(())
+    }
+}

@@ -1,0 +1,4 @@
+pub mod At
+pub mod IsCopy
+pub mod Seen
+pub mod Shelf
