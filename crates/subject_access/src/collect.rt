@@ -13,7 +13,7 @@ ghost use Rattle.subject_model.specs.Named.{rows_in};
 ghost use Rattle.subject_model.specs.Owners.{reach};
 
 use crate::access::Access;
-use crate::got_row::add_row;
+use crate::shown_row::add_row;
 use own_base::{List, MakeCopy, Subject, TableNo};
 use own_model::{GotRow, Refusal, Reply, Schema, StoreView, TableDef};
 use owner_graph::{Graph, graph_of};

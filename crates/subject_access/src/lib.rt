@@ -4,6 +4,7 @@
 mod access;
 mod cells;
 mod collect;
-mod got_row;
+mod shown_row;
 
 pub use collect::{collect_by_graph, collect_flat, no_subject};
+pub use shown_row::got_row;

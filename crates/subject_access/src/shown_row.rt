@@ -18,7 +18,7 @@ use owner_sets::is_named;
 use std::alloc::{AllocError, Global};
 
 /// A row of a table as a subject is shown it that reaches it by these edges.
-fn got_row(
+pub fn got_row(
     alloc: Global,
     edges: &[Edge],
     own: bool,

@@ -6,7 +6,7 @@ use Rattle.subject_model.specs.Get.{got_row}
 use Rattle.subject_model.specs.Named.{NamedRow, name_of}
 use Rattle.subject_model.specs.Owners.{reaches}
 use Rattle.subject_access.proofs.ShownLemmas.{among-reached, got-made, shown-other, shown-reached}
-use Rattle.subject_access.proofs.got_row.add_row.Goals as goal
+use Rattle.subject_access.proofs.shown_row.add_row.Goals as goal
 
 -- the subject reaches the row, and it is shown
 pub returns-in_ok-add : goal.returns-in_ok-add
