@@ -1,0 +1,14 @@
+pub mod AllTold
+pub mod ErasedNames
+pub mod HoldersLemmas
+pub mod Locally
+pub mod LostLemmas
+pub mod Outside
+pub mod ReferringLemmas
+pub mod Removing
+pub mod ShelfPlaces
+pub mod SoughtLemmas
+pub mod Steps
+pub mod Strikes
+pub mod ToldLemmas
+pub mod UpperLemmas
