@@ -1,0 +1,13 @@
+pub mod Calling
+pub mod Closing
+pub mod Ending
+pub mod EndsGiven
+pub mod Faults
+pub mod Finishing
+pub mod Lasting
+pub mod Parts
+pub mod Plain
+pub mod Scanning
+pub mod Scripts
+pub mod Starting
+pub mod Taking
