@@ -36,7 +36,7 @@ struct Ended<D> {
 }
 
 /// A run of the script over a disk.
-fn ended<D: Disk + Drop>(alloc: Global, disk: D) -> Result<Ended<D>, Fail> {
+fn run_over<D: Disk + Drop>(alloc: Global, disk: D) -> Result<Ended<D>, Fail> {
     let mut source = MemSource::new(alloc, SCRIPT.as_bytes(), &[])?;
     let mut sink = MemSink::new(alloc, &[])?;
     let Served {
@@ -69,7 +69,7 @@ fn crashed(alloc: Global, calls: u32, alone: bool, keeps: bool) -> Result<Ended<
             whole,
             answered,
             disk,
-        } = ended(alloc, MemDisk::new(alloc, &[calls])?)?;
+        } = run_over(alloc, MemDisk::new(alloc, &[calls])?)?;
         let disk = disk.crash(keeps);
         return Ok(Ended {
             whole,
@@ -81,7 +81,7 @@ fn crashed(alloc: Global, calls: u32, alone: bool, keeps: bool) -> Result<Ended<
         whole,
         answered,
         disk,
-    } = ended(alloc, FuseDisk::new(MemDisk::new(alloc, &[])?, calls))?;
+    } = run_over(alloc, FuseDisk::new(MemDisk::new(alloc, &[])?, calls))?;
     let disk = disk.inner().crash(keeps);
     Ok(Ended {
         whole,
