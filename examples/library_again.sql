@@ -21,8 +21,8 @@ UPDATE books SET pieces = pieces + 1 WHERE id = 2;
 GDPR GET readers 1;
 GDPR FORGET readers 1;
 
--- Her name and her loan still stand in the file, in front of the record of that. CHECKPOINT writes the store anew, as it is
--- now, and leaves them out. What is answered is the same before and after it.
+-- The store was written anew for that, and neither her name nor her loan stands in the folder any more. CHECKPOINT writes the
+-- store anew too, when no one is forgotten. What is answered is the same before and after it.
 SELECT * FROM lent;
 CHECKPOINT;
 SELECT * FROM lent;
