@@ -1,0 +1,41 @@
+ghost use Rattle.std.specs.Prelude.{◌≡◌, option_map};
+ghost use Rattle.grammar_model.specs.Readable.{IsReadable};
+ghost use Rattle.script_model.specs.Split.{IsOfASession};
+ghost use Rattle.shell_session.specs.Answered.{IsAnswered};
+
+use engine_core::{Engine, Step};
+use outer_world::Disk;
+use own_base::Place;
+use own_model::{Refusal, Reply, ScriptCall};
+
+/// What a call was answered, and at which place of the history; without one memory kept it from being made.
+#[derive(Drop)]
+pub(crate) struct Answer {
+    pub(crate) place: Option<Place>,
+    pub(crate) reply: Reply,
+}
+
+/// Makes a call.
+pub(crate) fn make_call<D: Disk>(engine: &mut Engine<D>, call: ScriptCall) -> Answer
+    requires readable { IsReadable call.request }
+    requires session { IsOfASession call }
+    ensures answers { IsAnswered engine.old.base engine.old.history engine.new.history call (option_map (λ place. place.0) result.place) result.reply }
+    ensures base { engine.new.base ≡ engine.old.base }
+{
+    let ScriptCall {
+        session,
+        call: number,
+        request,
+    } = call;
+    match engine.step(session, number, request) {
+        Step::Answered(place, reply) => Answer {
+            place: Some(place),
+            reply,
+        },
+        Step::Look(..) => unreachable!(),
+        Step::NoMemory => Answer {
+            place: None,
+            reply: Reply::Refused(Refusal::Memory),
+        },
+    }
+}

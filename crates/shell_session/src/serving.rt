@@ -1,0 +1,263 @@
+ghost use Rattle.std.specs.Prelude.{◌≡◌, ◌≢◌, IsTrue, Err, OnOk, option_map};
+ghost use Rattle.std.specs.List.{AllByRecursion};
+ghost use Rattle.outer_world.specs.FaultCount.{CountRose};
+ghost use Rattle.grammar_model.specs.Readable.{IsReadable};
+ghost use Rattle.script_model.specs.Split.{IsOfASession};
+ghost use Rattle.call_stream.specs.Taken.{IsRead, IsSound};
+ghost use Rattle.shell_session.specs.Told.{HasWritten, IsTold, told_text};
+
+use crate::answering::{Answer, make_call};
+use crate::book::Book;
+use crate::ending::{ShellFault, stopped};
+use crate::manner::{Form, Manner};
+use crate::marking::mark;
+use crate::naming::{add_made, reply_columns};
+use crate::notes::Notes;
+use crate::telling::tell;
+use call_stream::{CallStream, StreamCall, StreamEnd};
+use engine_core::Engine;
+use outer_world::{Disk, Sink};
+use own_base::{List, Name, SessionNo};
+use own_model::{Entry, Reply, ScriptCall};
+use reply_json::Told;
+use std::alloc::{AllocError, Global};
+use std::mem::drop;
+
+/// A call as it was asked for: its session and number, the line of the input on which its text begins, and the text.
+#[derive(Clone, Copy)]
+struct Asked<'a> {
+    session: SessionNo,
+    number: u32,
+    line: u64,
+    text: &'a [u8],
+}
+
+/// The entry of a call that was made, which is the last one.
+fn entry_of<'a, D: Disk>(engine: &'a Engine<D>, answer: &Answer) -> Option<&'a Entry> {
+    match answer.place {
+        Some(_) => engine.history().last(),
+        None => None,
+    }
+}
+
+/// The names of the columns of a reply, where they are told; and the tables that the call made are known by name from now on.
+fn columns_told(
+    book: &mut Book,
+    alloc: Global,
+    form: Form,
+    made: Option<&Entry>,
+    reply: &Reply,
+) -> Result<List<Name>, AllocError> {
+    match form {
+        Form::Json => {
+            add_made(&mut book.tables, alloc, made, reply)?;
+            reply_columns(alloc, book.tables.items(), made, reply)
+        }
+        Form::Lines => Ok(List::new(alloc)),
+    }
+}
+
+/// Writes what a call was answered.
+fn tell_answer<W: Sink, D: Disk>(
+    engine: &Engine<D>,
+    book: &mut Book,
+    alloc: Global,
+    form: Form,
+    asked: Asked<'_>,
+    answer: &Answer,
+    sink: &mut W,
+) -> Result<(), ShellFault>
+    ensures written { (columns : _) × (tables : _) × HasWritten result (W.written sink.old) (W.written sink.new)
+        (told_text form (option_map (λ place. place.0) answer.now.place) asked.entry.session.0 asked.entry.number asked.entry.line columns tables answer.now.reply) }
+    ensures fault { result ≡ Err ShellFault.Write → CountRose (W.faults sink.old) (W.faults sink.new) }
+    ensures steady { result ≢ Err ShellFault.Write → W.faults sink.new ≡ W.faults sink.old }
+    ensures unread { result ≢ Err ShellFault.Read }
+    ensures lawful { result ≢ Err ShellFault.Refused }
+{
+    let made = entry_of(engine, answer);
+    let Ok(columns) = columns_told(book, alloc, form, made, &answer.reply) else {
+        return Err(ShellFault::Memory);
+    };
+    let told = Told {
+        place: answer.place,
+        session: asked.session,
+        call: asked.number,
+        line: asked.line,
+        columns: columns.items(),
+        tables: book.tables.items(),
+    };
+    let written = tell(alloc, form, &told, &answer.reply, sink);
+    drop(columns);
+    written
+}
+
+/// Makes a call, writes its reply, and shows somebody at a terminal where its text stops being a statement. It fails with
+/// `Refused` where the shell is to end with a refusal and this is one.
+fn serve_call<W: Sink, N: Notes, D: Disk>(
+    engine: &mut Engine<D>,
+    book: &mut Book,
+    alloc: Global,
+    manner: Manner,
+    call: ScriptCall,
+    line: u64,
+    text: &[u8],
+    sink: &mut W,
+    notes: &mut N,
+) -> Result<(), ShellFault>
+    requires readable { IsReadable call.request }
+    requires session { IsOfASession call }
+    ensures base { engine.new.base ≡ engine.old.base }
+    ensures told { IsTold manner.form engine.old.base engine.old.history engine.new.history call line result (W.written sink.old) (W.written sink.new) }
+    ensures fault { result ≡ Err ShellFault.Write → CountRose (W.faults sink.old) (W.faults sink.new) }
+    ensures steady { result ≢ Err ShellFault.Write → W.faults sink.new ≡ W.faults sink.old }
+    ensures unread { result ≢ Err ShellFault.Read }
+    ensures refused { result ≡ Err ShellFault.Refused → IsTrue manner.stops }
+{
+    let asked = Asked {
+        session: call.session,
+        number: call.call,
+        line,
+        text,
+    };
+    let answer = make_call(engine, call);
+    let told = tell_answer(engine, book, alloc, manner.form, asked, &answer, sink);
+    book.note(text.len(), entry_of(engine, &answer), &answer.reply);
+    if manner.prompts {
+        mark(alloc, text, &answer.reply, notes);
+    }
+    let refused = matches!(answer.reply, Reply::Refused(_));
+    drop(answer);
+    if manner.stops && refused && told.is_ok() {
+        return Err(ShellFault::Refused);
+    }
+    told
+}
+
+/// Serves a call that was read.
+fn serve_read<W: Sink, N: Notes, D: Disk>(
+    engine: &mut Engine<D>,
+    book: &mut Book,
+    alloc: Global,
+    manner: Manner,
+    read: StreamCall,
+    sink: &mut W,
+    notes: &mut N,
+) -> Result<(), ShellFault>
+    requires readable { IsReadable read.call.request }
+    requires session { IsOfASession read.call }
+    ensures base { engine.new.base ≡ engine.old.base }
+    ensures told { IsTold manner.form engine.old.base engine.old.history engine.new.history read.call read.line result (W.written sink.old) (W.written sink.new) }
+    ensures fault { result ≡ Err ShellFault.Write → CountRose (W.faults sink.old) (W.faults sink.new) }
+    ensures steady { result ≢ Err ShellFault.Write → W.faults sink.new ≡ W.faults sink.old }
+    ensures unread { result ≢ Err ShellFault.Read }
+    ensures refused { result ≡ Err ShellFault.Refused → IsTrue manner.stops }
+{
+    let StreamCall { call, line, text } = read;
+    let served = serve_call(
+        engine,
+        book,
+        alloc,
+        manner,
+        call,
+        line,
+        text.bytes(),
+        sink,
+        notes,
+    );
+    drop(text);
+    served
+}
+
+/// Serves the calls that the bytes so far close.
+pub(crate) fn serve_closed<W: Sink, N: Notes, D: Disk>(
+    stream: &mut CallStream,
+    engine: &mut Engine<D>,
+    book: &mut Book,
+    alloc: Global,
+    manner: Manner,
+    sink: &mut W,
+    notes: &mut N,
+) -> Result<(), ShellFault>
+    requires { IsSound stream.old }
+    ensures sound { IsSound stream.new }
+    ensures read { OnOk result (IsRead stream.new) }
+    ensures base { engine.new.base ≡ engine.old.base }
+    ensures fault { result ≡ Err ShellFault.Write → CountRose (W.faults sink.old) (W.faults sink.new) }
+    ensures steady { result ≢ Err ShellFault.Write → W.faults sink.new ≡ W.faults sink.old }
+    ensures unread { result ≢ Err ShellFault.Read }
+    ensures refused { result ≡ Err ShellFault.Refused → IsTrue manner.stops }
+{
+    for _ in 0..u64::MAX {
+        match stream.next() {
+            Ok(Some(read)) => match serve_read(engine, book, alloc, manner, read, sink, notes) {
+                Ok(()) => {}
+                Err(fault) => return Err(fault),
+            },
+            Ok(None) => return Ok(()),
+            Err(fault) => return Err(stopped(fault)),
+        }
+    }
+    Err(ShellFault::Memory)
+}
+
+/// Serves the Ends of the sessions.
+fn serve_ends<W: Sink, N: Notes, D: Disk>(
+    ends: Vec<ScriptCall>,
+    engine: &mut Engine<D>,
+    book: &mut Book,
+    alloc: Global,
+    manner: Manner,
+    sink: &mut W,
+    notes: &mut N,
+) -> Result<(), ShellFault>
+    requires readable { AllByRecursion (λ call. IsReadable call.request) ends.items }
+    requires sessions { AllByRecursion IsOfASession ends.items }
+    ensures base { engine.new.base ≡ engine.old.base }
+    ensures fault { result ≡ Err ShellFault.Write → CountRose (W.faults sink.old) (W.faults sink.new) }
+    ensures steady { result ≢ Err ShellFault.Write → W.faults sink.new ≡ W.faults sink.old }
+    ensures unread { result ≢ Err ShellFault.Read }
+    ensures refused { result ≡ Err ShellFault.Refused → IsTrue manner.stops }
+{
+    for call in ends {
+        match serve_call(engine, book, alloc, manner, call, 0, &[], sink, notes) {
+            Ok(()) => {}
+            Err(fault) => return Err(fault),
+        }
+    }
+    Ok(())
+}
+
+/// Serves what the end of the input leaves: the call whose text it leaves open, and the Ends.
+pub(crate) fn serve_end<W: Sink, N: Notes, D: Disk>(
+    stream: CallStream,
+    engine: &mut Engine<D>,
+    book: &mut Book,
+    alloc: Global,
+    manner: Manner,
+    sink: &mut W,
+    notes: &mut N,
+) -> Result<(), ShellFault>
+    requires sound { IsSound stream }
+    requires read { IsRead stream }
+    ensures base { engine.new.base ≡ engine.old.base }
+    ensures fault { result ≡ Err ShellFault.Write → CountRose (W.faults sink.old) (W.faults sink.new) }
+    ensures steady { result ≢ Err ShellFault.Write → W.faults sink.new ≡ W.faults sink.old }
+    ensures unread { result ≢ Err ShellFault.Read }
+    ensures refused { result ≡ Err ShellFault.Refused → IsTrue manner.stops }
+{
+    let StreamEnd { open_call, ends } = match stream.finish() {
+        Ok(end) => end,
+        Err(fault) => return Err(stopped(fault)),
+    };
+    let served = match open_call {
+        Some(read) => serve_read(engine, book, alloc, manner, read, sink, notes),
+        None => Ok(()),
+    };
+    match served {
+        Ok(()) => serve_ends(ends.into_vec(), engine, book, alloc, manner, sink, notes),
+        Err(fault) => {
+            drop(ends);
+            Err(fault)
+        }
+    }
+}
