@@ -1,4 +1,4 @@
-use outer_world::{Disk, FileDisk, MemDisk};
+use outer_world::{Disk, FileDisk, RamDisk};
 
 /// A disk that may be opened again in the same run: what it keeps of what was done to it is let go, and not what it holds.
 pub trait Keeps: Disk {
@@ -11,9 +11,8 @@ impl Keeps for FileDisk {
     }
 }
 
-impl Keeps for MemDisk {
-    /// A disk in memory has a record of its calls, which grows with each. After a crash that kept all it has none.
-    fn settled(self) -> MemDisk {
-        self.crash(true)
+impl Keeps for RamDisk {
+    fn settled(self) -> RamDisk {
+        self
     }
 }
