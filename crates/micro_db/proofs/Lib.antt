@@ -1,9 +1,11 @@
 pub mod AlikeLemmas
 pub mod AmongLemmas
+pub mod BareLemmas
 pub mod ByLemmas
 pub mod CreateLemmas
 pub mod FiledLemmas
 pub mod KeptLemmas
+pub mod LoneLemmas
 pub mod LookedLemmas
 pub mod RenewLemmas
 pub mod StandingSame

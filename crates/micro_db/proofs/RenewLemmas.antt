@@ -23,7 +23,7 @@ use Rattle.link_model.specs.Whose.{reach_at}
 use Rattle.move_model.specs.declared.owner_move.OwnerMove.{OwnerMove}
 use Rattle.move_model.specs.declared.owner_move.Standing.{Standing}
 use Rattle.move_model.specs.declared.owner_move.Standing.TheVariants.{Nothing, Reaches, Owns}
-use Rattle.move_model.specs.Moves.{IsMoveOf}
+use Rattle.move_model.specs.Moves.{AreMovesOf, IsMoveOf}
 use Rattle.move_model.specs.Standing.{standing}
 use Rattle.move_model.proofs.StandingLemmas.{is_listed, listed_contains, not_listed}
 use Rattle.shelf_model.specs.declared.shelved.Shelved.{Shelved}
@@ -157,6 +157,17 @@ same_alike Owns = refl
 
 alike_differ : (one other : Standing) → alike one other ≡ false → one ≢ other
 alike_differ one other apart same = let never : true ≡ false = sym (same_alike one) ∙ (ap (alike one) same ∙ apart) in cc
+
+-- where nothing moves each subject stands to each row as before
+pub stands-still : (before after : Db) → AreMovesOf before after [] → (subject : Subject) (name : RowName) → standing before subject.0 name ≡ standing after subject.0 name
+stands-still before after none subject name = by (alike (standing before subject.0 name) (standing after subject.0 name)) refl
+  where
+    by : (b : Bool) → alike (standing before subject.0 name) (standing after subject.0 name) ≡ b → standing before subject.0 name ≡ standing after subject.0 name
+    by true same = alike_same _ _ same
+    by false other =
+        let moved : OwnerMove = record { name = name; subject = subject; before = standing before subject.0 name; after = standing after subject.0 name } in
+        let its : IsMoveOf before after moved = record { was = refl; is = refl; differ = alike_differ _ _ other } in
+        absurd (contains_none moved ((none.told moved).1 its))
 
 module _ (before after : Db) (moves : List OwnerMove) (changes : List Change) (names : List RowName) (old new : MicroDb) (is : IsBefore before after moves changes old) (also : IsOrdered after) (owner : IsOwnerSchema after.schema) (looked : AreLookedAt after moves changes names) where
   owner_before : IsOwnerSchema before.schema

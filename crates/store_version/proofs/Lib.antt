@@ -1,4 +1,5 @@
 mod CreatedOwners
+mod CreatedShelves
 mod Indexed
 mod LoneChange
 mod NamedRows

@@ -9,7 +9,7 @@ ghost use Rattle.annot_schema.specs.Created.{IsAdmissible};
 ghost use Rattle.ref_index.specs.Tells.{Tell};
 ghost use Rattle.store_version.specs.Added.{db_viewed, db_with};
 
-use crate::shown_rows::ShownRows;
+use crate::shown_owned::ShownOwned;
 use crate::version::{Next, Version};
 use annot_schema::Admitted;
 use move_model::OwnerMove;
@@ -30,13 +30,13 @@ pub fn prepare(
     ensures next { IfOk result (λ both. both.0 ≡ put version.now changes.now) }
     ensures moves { IfOk result (λ both. AreMovesOf version.now (put version.now changes.now) both.1) }
 {
-    let rows = version.rows.after(alloc, changes)?;
-    let left = ShownRows { rows: &rows };
-    let (owners, moves) = version
-        .owners
-        .after(alloc, rows.graph(), &left, &left, changes)?;
+    let (owned, moves) = version.owned.after(alloc, changes)?;
+    let left = ShownOwned { owned: &owned };
+    let micro = version
+        .micro
+        .with_moves(alloc, &left, moves.items(), changes)?;
     let next = Next {
-        version: Version { rows, owners },
+        version: Version { owned, micro },
     };
     Ok((next, moves))
 }
@@ -52,10 +52,10 @@ pub fn prepare_table(
     requires ordered { IsOrdered version.now }
     ensures { IfOk result (λ next. next ≡ db_with version.now admitted text) }
 {
-    let rows = version.rows.with_table(alloc, admitted, text)?;
-    let owners = version.owners.copy(alloc)?;
+    let owned = version.owned.with_table(alloc, admitted, text)?;
+    let micro = version.micro.copy(alloc)?;
     Ok(Next {
-        version: Version { rows, owners },
+        version: Version { owned, micro },
     })
 }
 
@@ -69,10 +69,10 @@ pub fn prepare_view(
     requires { length version.now.schema.views < VIEWS }
     ensures { IfOk result (λ next. next ≡ db_viewed version.now definition text) }
 {
-    let rows = version.rows.with_view(alloc, definition, text)?;
-    let owners = version.owners.copy(alloc)?;
+    let owned = version.owned.with_view(alloc, definition, text)?;
+    let micro = version.micro.copy(alloc)?;
     Ok(Next {
-        version: Version { rows, owners },
+        version: Version { owned, micro },
     })
 }
 
@@ -84,7 +84,8 @@ pub fn publish(version: &mut Version, next: Next)
 }
 
 /// Makes one change of a row of a lone table, which tells the row as it is, in the version itself: in place, where nobody
-/// shares the rows that it falls among. Whose each row is stays. After `AllocError` the version is as it was.
+/// shares the rows that it falls among. Whose each row is stays, and what is kept of each subject. After `AllocError` the
+/// version is as it was.
 pub fn publish_change(
     alloc: Global,
     version: &mut Version,
@@ -97,5 +98,5 @@ pub fn publish_change(
     ensures changed { OnOk result (version.new ≡ put version.old (change.now ∷ [])) }
     ensures unchanged { OnErr result (version.new ≡ version.old) }
 {
-    version.rows.change(alloc, change)
+    version.owned.change(alloc, change)
 }

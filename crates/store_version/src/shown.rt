@@ -6,8 +6,10 @@ use crate::version::Version;
 use link_model::{Linked, Referring};
 use own_base::{ColNo, Key, Row, RowName, Subject, TableNo};
 use own_model::{Schema, StoreView};
+use shelf_model::{Shelved, Shelves};
 
-/// A version, lent, whose rows' keys rise in each table: its rows, who holds what in them, and whose they are.
+/// A version, lent, whose rows' keys rise in each table: its rows, who holds what in them, whose they are, and copies of each
+/// data subject's rows.
 #[derive(Drop)]
 pub struct Shown<'a> {
     pub version: &'a Version,
@@ -62,4 +64,24 @@ impl<'a> Linked for Shown<'a> {
     }
 
     ghost one = { λ shown. refl };
+}
+
+impl<'a> Shelves for Shown<'a> {
+    ghost shelved = { λ shown. shown.version.now };
+
+    fn shelf_count(&self, subject: &Subject) -> u64 {
+        self.version.micro().shelf_count(subject)
+    }
+
+    fn shelf_from(&self, subject: &Subject, at: u64) -> &[(Subject, Shelved)] {
+        self.version.micro().shelf_from(subject, at)
+    }
+
+    fn seen_count(&self, subject: &Subject) -> u64 {
+        self.version.micro().seen_count(subject)
+    }
+
+    fn seen_from(&self, subject: &Subject, at: u64) -> &[(Subject, RowName)] {
+        self.version.micro().seen_from(subject, at)
+    }
 }

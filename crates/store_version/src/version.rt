@@ -2,21 +2,24 @@ ghost use Rattle.std.specs.Prelude.{◌≡◌, length, IfOk};
 ghost use Rattle.own_model.specs.Db.{empty};
 ghost use Rattle.owner_graph.specs.Graph.{IsGraphOf};
 ghost use Rattle.link_model.specs.Whose.{owners_at, reach_at};
+ghost use Rattle.micro_db.specs.Kept.{StandsFor};
 
+use crate::owned::OwnedRows;
 use crate::rows::Rows;
 use annot_schema::Catalog;
+use micro_db::MicroDb;
 use own_base::{MakeCopy, RowName, Subject};
 use own_model::Schema;
 use owner_graph::Graph;
-use owner_index::OwnerIndex;
 use std::alloc::{AllocError, Global};
 use std::marker::Model;
 
-/// The state of a store, which contracts see as the database: its rows, and whose each row is.
+/// The state of a store, which contracts see as the database: its rows, whose each row is, and for each data subject copies
+/// of its rows.
 #[derive(Drop)]
 pub struct Version {
-    pub(crate) rows: Rows,
-    pub(crate) owners: OwnerIndex,
+    pub(crate) owned: OwnedRows,
+    pub(crate) micro: MicroDb,
 }
 
 impl Model for Version {
@@ -28,11 +31,11 @@ impl Model for Version {
 
     ghost coded = { Prim.hlevel (codes, cond.the_row.coded) };
 
-    ghost view = { λ version. version.rows };
+    ghost view = { λ version. version.owned };
 
-    ghost use Rattle.owner_index.specs.Held.{StandsFor};
+    ghost use Rattle.micro_db.specs.Kept.{StandsFor};
 
-    ghost invariant = { λ version. StandsFor version.rows version.owners };
+    ghost invariant = { λ version. StandsFor version.owned version.micro };
 }
 
 /// A version that is prepared, and may take the place of the one that it was prepared from.
@@ -58,10 +61,10 @@ impl Version {
     pub fn new(alloc: Global) -> Result<Version, AllocError>
         ensures { IfOk result (λ version. version ≡ empty) }
     {
-        let rows = Rows::new(alloc)?;
+        let owned = OwnedRows::new(alloc)?;
         Ok(Version {
-            rows,
-            owners: OwnerIndex::new(),
+            owned,
+            micro: MicroDb::new(),
         })
     }
 
@@ -70,51 +73,58 @@ impl Version {
         ensures schema { result.now.schema ≡ self.now.schema }
         ensures creates { result.now.creates ≡ self.now.creates }
     {
-        self.rows.catalog()
+        self.rows().catalog()
     }
 
     /// Lends the graph of the schema's edges, which the catalog keeps. Takes no memory.
     pub fn graph(&self) -> &Graph
         ensures { IsGraphOf (length self.now.schema.tables) self.now.schema.edges result.now }
     {
-        self.rows.graph()
+        self.rows().graph()
     }
 
     /// Lends the schema. Takes no memory.
     pub fn schema(&self) -> &Schema
         ensures { result.now ≡ self.now.schema }
     {
-        self.rows.schema()
+        self.rows().schema()
     }
 
     /// Lends the rows. Takes no memory.
     pub(crate) fn rows(&self) -> &Rows
         ensures { result.now ≡ self.now }
     {
-        &self.rows
+        self.owned.rows()
     }
 
     /// Lends the subjects that own a row. Takes no memory.
     pub(crate) fn owners(&self, name: &RowName) -> &[Subject]
         ensures { result.now ≡ owners_at self.now name.now }
     {
-        self.owners.owners(name)
+        self.owned.owners(name)
     }
 
     /// Lends the subjects that reach it. Takes no memory.
     pub(crate) fn reach(&self, name: &RowName) -> &[Subject]
         ensures { result.now ≡ reach_at self.now name.now }
     {
-        self.owners.reach(name)
+        self.owned.reach(name)
+    }
+
+    /// Lends what is kept of each data subject. Takes no memory.
+    pub(crate) fn micro(&self) -> &MicroDb
+        ensures { StandsFor self.now result.now }
+    {
+        &self.micro
     }
 }
 
 impl MakeCopy for Version {
     /// The version itself, whose parts both share. It takes memory for a list of as many parts as there are tables.
     fn copy(&self, alloc: Global) -> Result<Version, AllocError> {
-        let rows = self.rows.copied(alloc)?;
-        let owners = self.owners.copy(alloc)?;
-        Ok(Version { rows, owners })
+        let owned = self.owned.copied(alloc)?;
+        let micro = self.micro.copy(alloc)?;
+        Ok(Version { owned, micro })
     }
 }
 
