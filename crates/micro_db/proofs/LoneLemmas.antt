@@ -1,6 +1,6 @@
 -- Changes of lone tables leave what is kept of each row.
 use Rattle.std.proofs.Common.{◌≡◌, ℕ, List, [], ◌∷◌, Bool, true, false, not, inl, inr, refl, ap, sym, ◌∙◌, subst, eq-eqb}
-use Rattle.std.specs.Prelude.{◌&&◌, Contains, IsTrue}
+use Rattle.std.specs.Prelude.{Contains, IsTrue}
 use Rattle.std.specs.List.{list_any}
 use Rattle.std.proofs.lemmas.Bool.{and_parts, or_left, or_right}
 use Rattle.own_base.specs.declared.change.Change.{Change}
@@ -9,7 +9,7 @@ use Rattle.own_base.specs.declared.row_name.Subject.{Subject}
 use Rattle.own_model.specs.declared.schema.Edge.{Edge}
 use Rattle.own_model.specs.declared.schema.Schema.{Schema}
 use Rattle.own_model.specs.Db.{Db, IsOrdered}
-use Rattle.owner_model.specs.Joins.{Joins, row_of}
+use Rattle.owner_model.specs.Joins.{Joins}
 use Rattle.schema_model.specs.Lone.{are_lone, is_lone, touches}
 use Rattle.schema_model.specs.OwnerSchema.{IsOwnerSchema}
 use Rattle.schema_model.specs.Tables.{is_subject}

@@ -1,11 +1,10 @@
 -- What is held for a database is so for it with a table or a view more, and nothing is held at first.
-use Rattle.std.proofs.Common.{◌≡◌, ℕ, List, [], ◌++◌, ap, refl, sym}
+use Rattle.std.proofs.Common.{ℕ, List, [], ap, refl, sym}
 use Rattle.own_model.specs.declared.schema.ViewDef.{ViewDef}
 use Rattle.own_model.specs.declared.schema.Schema.{Schema}
 use Rattle.own_model.specs.Db.{Db, IsOrdered, empty}
 use Rattle.own_model.specs.Stored.{row_named}
 use Rattle.schema_model.specs.OwnerSchema.{IsOwnerSchema}
-use Rattle.schema_model.specs.WithTable.{with_table}
 use Rattle.schema_model.proofs.OwnerSchemaLemmas.{owner_schema-empty, owner_schema-with_table}
 use Rattle.state_model.specs.Create.{create}
 use Rattle.annot_schema.specs.Created.{IsAdmissible}

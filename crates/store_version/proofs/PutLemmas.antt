@@ -1,5 +1,5 @@
 -- A database into which changes are put that tell what stood there.
-use Rattle.std.proofs.Common.{◌≡◌, ◌∙◌, ℕ, ◌+◌, zero, suc, List, [], ◌∷◌, Bool, true, false, cond, Option, Some, refl, sym, ap, subst, arith, map, eq-eqb}
+use Rattle.std.proofs.Common.{◌≡◌, ◌∙◌, ℕ, ◌+◌, suc, List, [], ◌∷◌, Bool, true, false, cond, Option, Some, refl, sym, ap, subst, arith, eq-eqb}
 use Rattle.std.specs.Prelude.{◌&&◌, ◌==◌, filter, slice_get}
 use Rattle.std.specs.List.{AllByRecursion as Each, IsDistinct, list_any}
 use Rattle.std.specs.Ordering.{is_eq}

@@ -1,4 +1,4 @@
-use Rattle.std.proofs.Common.{List, [], subst, sym}
+use Rattle.std.proofs.Common.{List, subst, sym}
 use Rattle.own_model.specs.Db.{empty}
 use Rattle.owner_index.specs.declared.entry.Entry.{Entry}
 use Rattle.owner_index.specs.Held.{StandsFor}
