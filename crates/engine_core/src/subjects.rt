@@ -21,13 +21,15 @@ use check_image::encode;
 use move_model::OwnerMove;
 use own_base::{Change, List, MakeCopy, RowName, Subject};
 use own_model::{Reply, StoreView};
+use shelf_access::{collect, sights_of};
+use shelf_erase::erase_changes;
 use std::alloc::{AllocError, Global};
 use std::mem::drop;
 use store_version::{Next, Shown, Version, prepare};
-use subject_access::{collect_by_graph, no_subject};
-use subject_erase::erase_changes;
+use subject_access::no_subject;
 
-/// The reply to a bound GDPR GET.
+/// The reply to a bound GDPR GET: from the subject's shelf, and the rows that it sees beside that.
+#[tactic(auto, unfolding(run_model::specs::Run::show_subject))]
 pub(crate) fn get_reply(
     alloc: Global,
     version: &Version,
@@ -38,7 +40,12 @@ pub(crate) fn get_reply(
     ensures { IfOk result (λ reply. reply ≡ (show_subject version.now subject.now.0).reply) }
 {
     let shown = Shown { version };
-    collect_by_graph(alloc, &shown, version.graph(), subject)
+    if shown.row(&subject.0).is_none() {
+        let why = no_subject(alloc, version.schema(), subject)?;
+        return Ok(Reply::Refused(why));
+    }
+    let seen = sights_of(alloc, &shown, subject)?;
+    collect(alloc, version.schema(), &shown, seen.items(), subject)
 }
 
 /// The reply to a GDPR FORGET that makes these changes: how many rows they remove, and how many they change.

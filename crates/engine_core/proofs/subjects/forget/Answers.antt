@@ -6,16 +6,10 @@ use Rattle.std.specs.Prelude.{IfOk}
 use Rattle.state_model.specs.Put.{put}
 use Rattle.state_model.specs.Sound.{Sound}
 use Rattle.check_image.specs.Gated.{IsGatedImage}
-use Rattle.state_model.proofs.CreatedSchema.{owner_schema-created, within-created}
+use Rattle.state_model.proofs.CreatedSchema.{owner_schema-created}
 use Rattle.engine_core.proofs.Erased.{erases-forgotten, forgot-accepted, tells-erasing}
 use Rattle.engine_core.proofs.Forgotten.{erased-sound, few-erased, lent-there, planned-next, tells-forgotten}
 use Rattle.engine_core.proofs.subjects.forget.Goals as goal
-
-pub erase_changes-requires-clause-limits : goal.erase_changes-requires-clause-limits
-erase_changes-requires-clause-limits c = within-created c.args.version.now c.requires.sound.well_formed.created
-
-pub erase_changes-requires-clause-owner : goal.erase_changes-requires-clause-owner
-erase_changes-requires-clause-owner c = owner_schema-created c.args.version.now c.requires.sound.well_formed.created
 
 pub prepare-requires : goal.prepare-requires
 prepare-requires c = record {
