@@ -1,3 +1,7 @@
+ghost use Rattle.std.specs.Prelude.{◌≡◌, [], IfOk, OnErr};
+ghost use Rattle.shell_session.specs.Life.{Opening, is_checkpoint, opening_of};
+ghost use Rattle.shell_session.specs.Served.{IsSilent};
+
 use crate::answering::make_call;
 use crate::book::Book;
 use crate::keeping::Keeps;
@@ -8,7 +12,7 @@ use crash_recover::OpenFault;
 use engine_core::{Closed, Engine};
 use outer_world::Disk;
 use own_base::List;
-use own_model::Reply;
+use own_model::{Reply, Request, Statement};
 use reply_json::TableNames;
 use std::alloc::Global;
 use std::mem::drop;
@@ -68,7 +72,9 @@ pub(crate) fn open<D: Keeps>(
     alloc: Global,
     form: Form,
     disk: D,
-) -> Result<Opened<D>, (OpenFault, D)> {
+) -> Result<Opened<D>, (OpenFault, D)>
+    ensures { IfOk result (λ opened. opened.engine.history ≡ []) }
+{
     let (names, disk) = names_told(alloc, form, disk)?;
     let Ok(book) = Book::new(alloc, names) else {
         return Err((OpenFault::Memory, disk));
@@ -82,8 +88,20 @@ pub(crate) fn open<D: Keeps>(
     }
 }
 
+/// Whether a CHECKPOINT is asked for.
+fn is_checkpoint(request: &Request) -> bool
+    ensures { result ≡ is_checkpoint request.now }
+{
+    match request {
+        Request::Run(statement) => matches!(statement.get(), Statement::Checkpoint),
+        _ => false,
+    }
+}
+
 /// Makes a CHECKPOINT, which has a place and is told to nobody. It answers whether it was done.
-fn lay_anew<D: Keeps>(alloc: Global, opened: &mut Opened<D>) -> bool {
+fn lay_anew<D: Keeps>(alloc: Global, opened: &mut Opened<D>) -> bool
+    ensures { IsSilent (opening_of opened.old.engine) (opening_of opened.new.engine) }
+{
     let mut words = CallStream::new(alloc);
     if words.push(b"CHECKPOINT;").is_err() {
         return false;
@@ -91,6 +109,9 @@ fn lay_anew<D: Keeps>(alloc: Global, opened: &mut Opened<D>) -> bool {
     let Ok(Some(read)) = words.next() else {
         return false;
     };
+    if !is_checkpoint(&read.call.request) {
+        return false;
+    }
     let answer = make_call(&mut opened.engine, read.call);
     opened.book.note(0, None, &answer.reply);
     let done = matches!(answer.reply, Reply::Done);
@@ -103,7 +124,10 @@ fn lay_anew<D: Keeps>(alloc: Global, opened: &mut Opened<D>) -> bool {
 pub(crate) fn renewed<D: Keeps>(
     alloc: Global,
     opened: Opened<D>,
-) -> Result<Opened<D>, (OpenFault, D)> {
+) -> Result<Opened<D>, (OpenFault, D)>
+    ensures ok { IfOk result (λ next. IsSilent (opening_of opened.engine) (opening_of next.engine)) }
+    ensures err { OnErr result ((last : Opening) × IsSilent (opening_of opened.engine) last) }
+{
     let mut opened = opened;
     if !opened.book.is_due() {
         return Ok(opened);

@@ -1,6 +1,8 @@
-ghost use Rattle.std.specs.Prelude.{◌≡◌, ◌≢◌, ◌⊎◌, IsTrue, Err, Some, None, OnOk};
+ghost use Rattle.std.specs.Prelude.{◌≡◌, ◌≢◌, ◌<◌, ◌⊎◌, [], IsTrue, IfOk, Err, Some, None, OnOk, length};
 ghost use Rattle.outer_world.specs.FaultCount.{CountRose};
 ghost use Rattle.call_stream.specs.Taken.{IsRead, IsSound};
+ghost use Rattle.shell_session.specs.Life.{Opening, opening_of};
+ghost use Rattle.shell_session.specs.Served.{HasLived, IsUnserved, Lives, ServesEnd, ServesPiece};
 ghost use Rattle.shell_session.specs.Status.{status_of};
 
 use crate::ending::{Left, ShellFault, ended, stopped, unopened};
@@ -10,7 +12,7 @@ use crate::marking::{greet, prompt};
 use crate::notes::Notes;
 use crate::opening::{Opened, disk_left, open, renewed};
 use crate::serving::{serve_closed, serve_end};
-use call_stream::CallStream;
+use call_stream::{CallStream, StreamFault};
 use outer_world::{Failed, Sink, Source};
 use std::alloc::{AllocError, Global};
 use std::mem::drop;
@@ -19,7 +21,9 @@ use std::mem::drop;
 const PIECE: usize = 65_536;
 
 /// Room for what one read gives.
-fn new_piece(alloc: Global) -> Result<Vec<u8>, AllocError> {
+fn new_piece(alloc: Global) -> Result<Vec<u8>, AllocError>
+    ensures { IfOk result (λ piece. 0 < length piece.items) }
+{
     let mut piece = Vec::new(alloc);
     piece.resize(PIECE, 0)?;
     Ok(piece)
@@ -36,7 +40,11 @@ fn serve_piece<R: Source, W: Sink, N: Notes, D: Keeps>(
     sink: &mut W,
     notes: &mut N,
 ) -> Result<bool, ShellFault>
-    requires { IsSound stream.old }
+    requires sound { IsSound stream.old }
+    requires room { 0 < length piece.old }
+    ensures serves { ServesPiece manner.form (opening_of opened.old.engine) (opening_of opened.new.engine) stream.old stream.new result
+        (R.remaining source.old) (R.remaining source.new) (W.written sink.old) (W.written sink.new) }
+    ensures room { length piece.new ≡ length piece.old }
     ensures sound { IsSound stream.new }
     ensures read { IsRead stream.old → OnOk result (IsRead stream.new) }
     ensures fault { result ≡ Err ShellFault.Write → CountRose (W.faults sink.old) (W.faults sink.new) }
@@ -98,6 +106,7 @@ fn finished<W: Sink, N: Notes, D: Keeps>(
 ) -> Left<D>
     requires sound { IsSound stream }
     requires read { IsRead stream }
+    ensures serves { (last : Opening) × ServesEnd manner.form (opening_of opened.engine) last stream result.fault (W.written sink.old) (W.written sink.new) }
     ensures status { result.status ≡ status_of result.fault }
     ensures unread { result.fault ≢ Some ShellFault.Read }
     ensures write_fault { result.fault ≡ Some ShellFault.Write → CountRose (W.faults sink.old) (W.faults sink.new) }
@@ -130,6 +139,9 @@ fn serve_pieces<R: Source, W: Sink, N: Notes, D: Keeps>(
     sink: &mut W,
     notes: &mut N,
 ) -> Left<D>
+    requires room { 0 < length piece.old }
+    requires fresh { opened.engine.history ≡ [] }
+    ensures lived { HasLived manner.form result.fault (R.remaining source.old) (R.remaining source.new) (W.written sink.old) (W.written sink.new) }
     ensures status { result.status ≡ status_of result.fault }
     ensures read_fault { result.fault ≡ Some ShellFault.Read → CountRose (R.faults source.old) (R.faults source.new) }
     ensures read_steady { result.fault ≢ Some ShellFault.Read → R.faults source.new ≡ R.faults source.old }
@@ -159,7 +171,7 @@ fn serve_pieces<R: Source, W: Sink, N: Notes, D: Keeps>(
             Err((fault, disk)) => return ended(Some(unopened(fault)), disk),
         };
     }
-    finished(stream, opened, alloc, manner, sink, notes)
+    closed(opened, Some(ShellFault::Input(StreamFault::TooLong)))
 }
 
 /// Serves an input of calls over the store of a disk, as it comes: opens the store, and makes each call as soon as its text is
@@ -172,6 +184,9 @@ pub fn serve_shell<R: Source, W: Sink, N: Notes, D: Keeps>(
     disk: D,
     manner: Manner,
 ) -> Left<D>
+    // What it read, made and wrote: each call of the input once, in its order, as far as it was served; or no store was opened.
+    ensures served { HasLived manner.form result.fault (R.remaining source.old) (R.remaining source.new) (W.written sink.old) (W.written sink.new)
+        ⊎ IsUnserved result.fault source.old source.new sink.old sink.new }
     ensures status { result.status ≡ status_of result.fault }
 
     // A fault of the source or the sink comes only where its count of faults rose, and a refusal ends it only where that was asked.
