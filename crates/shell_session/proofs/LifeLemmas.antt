@@ -14,9 +14,11 @@ use Rattle.call_stream.specs.declared.call.StreamEnd.{StreamEnd}
 use Rattle.call_stream.specs.declared.fault.StreamFault.{StreamFault}
 use Rattle.call_stream.specs.declared.fault.StreamFault.TheVariants as stream
 use Rattle.call_stream.specs.declared.stream.CallStream.{CallStream}
+use Rattle.crash_recover.specs.declared.open.OpenFault.{OpenFault}
+use Rattle.crash_recover.specs.declared.open.OpenFault.TheVariants as opening
 use Rattle.shell_session.specs.Life.{Called, Event, Happen, Laid, Opening, Renewed, calls_of, text_of, texts_of}
 use Rattle.shell_session.specs.Served.{AreTold, IsToldBefore, IsToldInPart, ServesCall, ServesCalls, ServesClosed, ServesEnd, fault_of}
-use Rattle.shell_session.specs.Status.{stop_of}
+use Rattle.shell_session.specs.Status.{stop_of, unopened}
 use Rattle.shell_session.specs.Told.{HasWritten}
 use Rattle.shell_session.specs.declared.ending.ShellFault.{ShellFault}
 use Rattle.shell_session.specs.declared.ending.ShellFault.TheVariants.{Read, Write, Disk, Damaged, Input, Memory, Refused}
@@ -143,7 +145,7 @@ closed-more form before mid after first middle last call line result old half ne
       let more = gives bytes here.0 (calls ++ calls_of so_far.events) here.1 in
       let joined : (calls ++ calls_of so_far.events) ++ call ∷ [] ≡ calls ++ calls_of (so_far.events ++ Called one.telling ∷ []) =
       append_assoc calls (calls_of so_far.events) (call ∷ []) ∙ ap (λ last_call. calls ++ (calls_of so_far.events ++ last_call ∷ [])) (sym one.of_call)
-          ∙ ap (λ all. calls ++ all) (sym (calls-append so_far.events (Called one.telling ∷ []))) in
+      ∙ ap (λ all. calls ++ all) (sym (calls-append so_far.events (Called one.telling ∷ []))) in
       (more.0, subst (HasTaken last bytes more.0) joined more.1);
 }
 
@@ -222,7 +224,7 @@ calls-both form before mid after first second fault old half new one two = recor
   calls_are =
       let all : first ≡ calls_of one.events = one.calls_are ∙ ap (λ unmade. calls_of one.events ++ unmade) (one.whole refl) ∙ append-nil (calls_of one.events) in
       ap (λ calls. calls ++ second) all ∙ ap (λ calls. calls_of one.events ++ calls) two.calls_are ∙ sym (append_assoc (calls_of one.events) (calls_of two.events) two.unmade)
-          ∙ ap (λ calls. calls ++ two.unmade) (sym (calls-append one.events two.events));
+      ∙ ap (λ calls. calls ++ two.unmade) (sym (calls-append one.events two.events));
   whole = two.whole;
 }
 
@@ -279,3 +281,9 @@ plain-readable (call ∷ calls) plain = (plain.0.0, plain-readable calls plain.1
 pub plain-sessions : (calls : List ScriptCall) → AllByRecursion IsPlainCall calls → AllByRecursion IsOfASession calls
 plain-sessions [] plain = tt
 plain-sessions (call ∷ calls) plain = (plain.0.1, plain-sessions calls plain.1)
+
+-- nor is why a store isn't opened
+pub unopened-other : (why : OpenFault) → Some (unopened why) ≢ Some Write
+unopened-other opening.DiskFault is = cc
+unopened-other (opening.Damaged area offset) is = cc
+unopened-other opening.Memory is = cc

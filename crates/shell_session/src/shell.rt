@@ -12,6 +12,7 @@ use crate::marking::{greet, prompt};
 use crate::notes::Notes;
 use crate::opening::{Opened, disk_left, open, renewed};
 use crate::serving::{serve_closed, serve_end};
+use call_stream::laws::{calls_are_given, given_calls_stay};
 use call_stream::{CallStream, StreamFault};
 use outer_world::{Failed, Sink, Source};
 use std::alloc::{AllocError, Global};
@@ -63,8 +64,9 @@ fn serve_piece<R: Source, W: Sink, N: Notes, D: Keeps>(
     if count == 0 {
         return Ok(false);
     }
-    if let Err(fault) = stream.push(&piece[..count]) {
-        return Err(stopped(fault));
+    match stream.push(&piece[..count]) {
+        Ok(()) => {}
+        Err(fault) => return Err(stopped(fault)),
     }
     let served = serve_closed(
         stream,
@@ -149,6 +151,8 @@ fn serve_pieces<R: Source, W: Sink, N: Notes, D: Keeps>(
     ensures write_steady { result.fault ≢ Some ShellFault.Write → W.faults sink.new ≡ W.faults sink.old }
     ensures refused { result.fault ≡ Some ShellFault.Refused → IsTrue manner.stops }
 {
+    calls_are_given();
+    given_calls_stay();
     let mut opened = opened;
     let mut stream = CallStream::new(alloc);
     for _ in 0..u64::MAX {
