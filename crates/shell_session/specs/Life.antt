@@ -7,22 +7,25 @@ use Rattle.own_model.specs.declared.script.ScriptCall.{ScriptCall}
 use Rattle.own_model.specs.declared.statement.Statement.TheVariants.{Checkpoint}
 use Rattle.own_model.specs.Db.{Db}
 use Rattle.history_model.specs.History.{History}
-use Rattle.engine_core.specs.Seen.{Seen}
+use Rattle.crash_model.specs.LeftBy.{IsLeftBy}
+use Rattle.crash_model.specs.StoreIn.{IsStoreIn}
+use Rattle.engine_core.specs.Seen.{Seen, disk_of}
 use Rattle.reply_json.specs.declared.columns.TableNames.{TableNames}
 use Rattle.shell_session.specs.Answered.{IsAnswered}
 use Rattle.shell_session.specs.Told.{told_text}
 use Rattle.shell_session.specs.declared.manner.Form.{Form}
 
--- An opening of the store: the database that it was opened with, how many commits had made that, and the history of the calls
--- made since.
+-- An opening of the store: whether what its disk tells of its bytes is so, the database that it was opened with, how many commits
+-- had made that, and the history of the calls made since.
 pub record Opening : Type 0 where
+  pub honest : Bool
   pub base : Db
   pub start : ℕ
   pub history : History
 
 -- the opening of an engine
-abbrev pub opening_of : {D : Type 0} → Seen D → Opening
-opening_of seen = record { base = seen.base; start = seen.start; history = seen.history }
+abbrev pub opening_of : {D : Type 0} → (D → Bool) → Seen D → Opening
+opening_of honest seen = record { honest = honest (disk_of seen); base = seen.base; start = seen.start; history = seen.history }
 
 -- A call of the input and the line on which its text begins, 0 for an End; at which place it was made, if it was, and what it was
 -- answered; and the names of columns that are known for the telling of it.
@@ -47,13 +50,23 @@ is_checkpoint request = false
 
 -- a call over an opening: what was opened stays, and the history is that which the answer tells of
 pub record IsCalled (before after : Opening) (call : ScriptCall) (place : Option ℕ) (told : Reply) : Type 0 where
+  pub honest : after.honest ≡ before.honest
   pub base : after.base ≡ before.base
   pub start : after.start ≡ before.start
   pub answered : IsAnswered before.base before.history after.history call place told
 
--- the store is opened anew, and no call is made yet
+-- Two areas hold what the history of the one opening left, and the store that was opened then. They hold one store at most.
+pub record IsHeldBetween (before after : Opening) : Type 0 where
+  pub a : List ℕ
+  pub b : List ℕ
+  pub left : IsLeftBy before.base before.start before.history a b
+  pub opened : IsStoreIn a b after.base after.start
+
+-- The store is opened anew, and no call is made yet; of an honest disk with what the history before it left there.
 pub record IsRenewed (before after : Opening) : Type 0 where
   pub fresh : after.history ≡ []
+  pub honest : after.honest ≡ before.honest
+  pub held : IsTrue before.honest → IsHeldBetween before after
 
 -- an event leads from one state of a life to the next
 abbrev pub Happens : Opening → Event → Opening → Type 0

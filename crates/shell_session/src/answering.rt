@@ -19,7 +19,7 @@ pub(crate) struct Answer {
 pub(crate) fn make_call<D: Disk>(engine: &mut Engine<D>, call: ScriptCall) -> Answer
     requires readable { IsReadable call.request }
     requires session { IsOfASession call }
-    ensures called { IsCalled (opening_of engine.old) (opening_of engine.new) call (option_map (λ place. place.0) result.place) result.reply }
+    ensures called { IsCalled (opening_of D.honest engine.old) (opening_of D.honest engine.new) call (option_map (λ place. place.0) result.place) result.reply }
 {
     let ScriptCall {
         session,

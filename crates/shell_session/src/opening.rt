@@ -1,4 +1,7 @@
-ghost use Rattle.std.specs.Prelude.{◌≡◌, [], IfOk, OnErr};
+ghost use Rattle.std.specs.Prelude.{◌≡◌, ℕ, [], IfOk, IsTrue, List as Seq, OnErr};
+ghost use Rattle.own_base.specs.declared.number.Area.TheVariants.{A, B};
+ghost use Rattle.crash_model.specs.LeftBy.{IsLeftBy};
+ghost use Rattle.engine_core.specs.Seen.{disk_of};
 ghost use Rattle.shell_session.specs.Life.{Opening, is_checkpoint, opening_of};
 ghost use Rattle.shell_session.specs.Served.{IsSilent};
 
@@ -27,7 +30,10 @@ pub(crate) struct Opened<D: Keeps> {
 }
 
 /// Closes a store, and gives its disk back alone.
-pub(crate) fn disk_left<D: Disk>(engine: Engine<D>) -> D {
+pub(crate) fn disk_left<D: Disk>(engine: Engine<D>) -> D
+    ensures disk { result ≡ disk_of engine }
+    ensures left { IsTrue (D.honest result) → (a b : Seq ℕ) → D.leaves result A a → D.leaves result B b → IsLeftBy engine.base engine.start engine.history a b }
+{
     let Closed {
         opened,
         history,
@@ -100,7 +106,7 @@ fn is_checkpoint(request: &Request) -> bool
 
 /// Makes a CHECKPOINT, which has a place and is told to nobody. It answers whether it was done.
 fn lay_anew<D: Keeps>(alloc: Global, opened: &mut Opened<D>) -> bool
-    ensures { IsSilent (opening_of opened.old.engine) (opening_of opened.new.engine) }
+    ensures { IsSilent (opening_of D.honest opened.old.engine) (opening_of D.honest opened.new.engine) }
 {
     let mut words = CallStream::new(alloc);
     if words.push(b"CHECKPOINT;").is_err() {
@@ -125,8 +131,8 @@ pub(crate) fn renewed<D: Keeps>(
     alloc: Global,
     opened: Opened<D>,
 ) -> Result<Opened<D>, (OpenFault, D)>
-    ensures ok { IfOk result (λ next. IsSilent (opening_of opened.engine) (opening_of next.engine)) }
-    ensures err { OnErr result ((last : Opening) × IsSilent (opening_of opened.engine) last) }
+    ensures ok { IfOk result (λ next. IsSilent (opening_of D.honest opened.engine) (opening_of D.honest next.engine)) }
+    ensures err { OnErr result ((last : Opening) × IsSilent (opening_of D.honest opened.engine) last) }
 {
     let mut opened = opened;
     if !opened.book.is_due() {

@@ -108,7 +108,7 @@ fn serve_call<W: Sink, N: Notes, D: Disk>(
 ) -> Result<(), ShellFault>
     requires readable { IsReadable call.request }
     requires session { IsOfASession call }
-    ensures serves { ServesCall manner.form (opening_of engine.old) (opening_of engine.new) call line result (W.written sink.old) (W.written sink.new) }
+    ensures serves { ServesCall manner.form (opening_of D.honest engine.old) (opening_of D.honest engine.new) call line result (W.written sink.old) (W.written sink.new) }
     ensures fault { result ≡ Err ShellFault.Write → CountRose (W.faults sink.old) (W.faults sink.new) }
     ensures steady { result ≢ Err ShellFault.Write → W.faults sink.new ≡ W.faults sink.old }
     ensures unread { result ≢ Err ShellFault.Read }
@@ -146,7 +146,7 @@ fn serve_read<W: Sink, N: Notes, D: Disk>(
 ) -> Result<(), ShellFault>
     requires readable { IsReadable read.call.request }
     requires session { IsOfASession read.call }
-    ensures serves { ServesCall manner.form (opening_of engine.old) (opening_of engine.new) read.call read.line result (W.written sink.old) (W.written sink.new) }
+    ensures serves { ServesCall manner.form (opening_of D.honest engine.old) (opening_of D.honest engine.new) read.call read.line result (W.written sink.old) (W.written sink.new) }
     ensures fault { result ≡ Err ShellFault.Write → CountRose (W.faults sink.old) (W.faults sink.new) }
     ensures steady { result ≢ Err ShellFault.Write → W.faults sink.new ≡ W.faults sink.old }
     ensures unread { result ≢ Err ShellFault.Read }
@@ -181,7 +181,7 @@ pub(crate) fn serve_closed<W: Sink, N: Notes, D: Disk>(
     requires { IsSound stream.old }
     ensures sound { IsSound stream.new }
     ensures read { OnOk result (IsRead stream.new) }
-    ensures serves { ServesClosed manner.form (opening_of engine.old) (opening_of engine.new) stream.old stream.new (fault_of result) (W.written sink.old) (W.written sink.new) }
+    ensures serves { ServesClosed manner.form (opening_of D.honest engine.old) (opening_of D.honest engine.new) stream.old stream.new (fault_of result) (W.written sink.old) (W.written sink.new) }
     ensures fault { result ≡ Err ShellFault.Write → CountRose (W.faults sink.old) (W.faults sink.new) }
     ensures steady { result ≢ Err ShellFault.Write → W.faults sink.new ≡ W.faults sink.old }
     ensures unread { result ≢ Err ShellFault.Read }
@@ -211,7 +211,7 @@ fn serve_open<W: Sink, N: Notes, D: Disk>(
     notes: &mut N,
 ) -> Result<(), ShellFault>
     requires { IsPlain open_call }
-    ensures serves { ServesCalls manner.form (opening_of engine.old) (opening_of engine.new) (open_calls open_call) (fault_of result) (W.written sink.old) (W.written sink.new) }
+    ensures serves { ServesCalls manner.form (opening_of D.honest engine.old) (opening_of D.honest engine.new) (open_calls open_call) (fault_of result) (W.written sink.old) (W.written sink.new) }
     ensures fault { result ≡ Err ShellFault.Write → CountRose (W.faults sink.old) (W.faults sink.new) }
     ensures steady { result ≢ Err ShellFault.Write → W.faults sink.new ≡ W.faults sink.old }
     ensures unread { result ≢ Err ShellFault.Read }
@@ -235,7 +235,7 @@ fn serve_ends<W: Sink, N: Notes, D: Disk>(
 ) -> Result<(), ShellFault>
     requires readable { AllByRecursion (λ call. IsReadable call.request) ends.items }
     requires sessions { AllByRecursion IsOfASession ends.items }
-    ensures serves { ServesCalls manner.form (opening_of engine.old) (opening_of engine.new) ends.items (fault_of result) (W.written sink.old) (W.written sink.new) }
+    ensures serves { ServesCalls manner.form (opening_of D.honest engine.old) (opening_of D.honest engine.new) ends.items (fault_of result) (W.written sink.old) (W.written sink.new) }
     ensures fault { result ≡ Err ShellFault.Write → CountRose (W.faults sink.old) (W.faults sink.new) }
     ensures steady { result ≢ Err ShellFault.Write → W.faults sink.new ≡ W.faults sink.old }
     ensures unread { result ≢ Err ShellFault.Read }
@@ -262,7 +262,7 @@ pub(crate) fn serve_end<W: Sink, N: Notes, D: Disk>(
 ) -> Result<(), ShellFault>
     requires sound { IsSound stream }
     requires read { IsRead stream }
-    ensures serves { ServesEnd manner.form (opening_of engine.old) (opening_of engine.new) stream (fault_of result) (W.written sink.old) (W.written sink.new) }
+    ensures serves { ServesEnd manner.form (opening_of D.honest engine.old) (opening_of D.honest engine.new) stream (fault_of result) (W.written sink.old) (W.written sink.new) }
     ensures fault { result ≡ Err ShellFault.Write → CountRose (W.faults sink.old) (W.faults sink.new) }
     ensures steady { result ≢ Err ShellFault.Write → W.faults sink.new ≡ W.faults sink.old }
     ensures unread { result ≢ Err ShellFault.Read }

@@ -43,7 +43,7 @@ fn serve_piece<R: Source, W: Sink, N: Notes, D: Keeps>(
 ) -> Result<bool, ShellFault>
     requires sound { IsSound stream.old }
     requires room { 0 < length piece.old }
-    ensures serves { ServesPiece manner.form (opening_of opened.old.engine) (opening_of opened.new.engine) stream.old stream.new result
+    ensures serves { ServesPiece manner.form (opening_of D.honest opened.old.engine) (opening_of D.honest opened.new.engine) stream.old stream.new result
         (R.remaining source.old) (R.remaining source.new) (W.written sink.old) (W.written sink.new) }
     ensures room { length piece.new ≡ length piece.old }
     ensures sound { IsSound stream.new }
@@ -108,7 +108,7 @@ fn finished<W: Sink, N: Notes, D: Keeps>(
 ) -> Left<D>
     requires sound { IsSound stream }
     requires read { IsRead stream }
-    ensures serves { (last : Opening) × ServesEnd manner.form (opening_of opened.engine) last stream result.fault (W.written sink.old) (W.written sink.new) }
+    ensures serves { (last : Opening) × ServesEnd manner.form (opening_of D.honest opened.engine) last stream result.fault (W.written sink.old) (W.written sink.new) }
     ensures status { result.status ≡ status_of result.fault }
     ensures unread { result.fault ≢ Some ShellFault.Read }
     ensures write_fault { result.fault ≡ Some ShellFault.Write → CountRose (W.faults sink.old) (W.faults sink.new) }

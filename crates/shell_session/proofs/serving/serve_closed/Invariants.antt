@@ -9,6 +9,6 @@ use Rattle.shell_session.proofs.serving.serve_closed.Given as goal
 abbrev pub invariant-loop : goal.invariant-loop
 invariant-loop g l = record {
   sound : IsSound l.stream;
-  serves : ServesClosed l.fn.manner.form (opening_of l.fn.engine) (opening_of l.engine) l.fn.stream l.stream None (g.W.Sink.written l.fn.sink) (g.W.Sink.written l.sink);
+  serves : ServesClosed l.fn.manner.form (opening_of g.D.Disk.honest l.fn.engine) (opening_of g.D.Disk.honest l.engine) l.fn.stream l.stream None (g.W.Sink.written l.fn.sink) (g.W.Sink.written l.sink);
   steady : g.W.Sink.faults l.sink ≡ g.W.Sink.faults l.fn.sink;
 }

@@ -11,7 +11,7 @@ use Rattle.shell_session.proofs.serving.serve_ends.Given as goal
 abbrev pub invariant-loop-call : goal.invariant-loop-call
 invariant-loop-call g l = record {
   whole : l.yielded ++ into_iter_items l.call-iterator ≡ l.fn.ends.items;
-  serves : HasServed l.fn.manner.form (opening_of l.fn.engine) (opening_of l.engine) l.yielded (g.W.Sink.written l.fn.sink) (g.W.Sink.written l.sink);
+  serves : HasServed l.fn.manner.form (opening_of g.D.Disk.honest l.fn.engine) (opening_of g.D.Disk.honest l.engine) l.yielded (g.W.Sink.written l.fn.sink) (g.W.Sink.written l.sink);
   steady : g.W.Sink.faults l.sink ≡ g.W.Sink.faults l.fn.sink;
   readable : AllByRecursion (λ call. IsReadable call.request) (into_iter_items l.call-iterator);
   sessions : AllByRecursion IsOfASession (into_iter_items l.call-iterator);

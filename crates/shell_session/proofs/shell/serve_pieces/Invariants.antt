@@ -10,7 +10,7 @@ invariant-loop g l = record {
   room : 0 < length l.piece;
   sound : IsSound l.stream;
   read : IsRead l.stream;
-  lives : LivesOn l.fn.manner.form (opening_of l.fn.opened.engine) (opening_of l.opened.engine) l.stream (g.R.Source.remaining l.fn.source) (g.R.Source.remaining l.source)
+  lives : LivesOn l.fn.manner.form (opening_of g.D.Disk.honest l.fn.opened.engine) (opening_of g.D.Disk.honest l.opened.engine) l.stream (g.R.Source.remaining l.fn.source) (g.R.Source.remaining l.source)
       (g.W.Sink.written l.fn.sink) (g.W.Sink.written l.sink);
   read_steady : g.R.Source.faults l.source ≡ g.R.Source.faults l.fn.source;
   write_steady : g.W.Sink.faults l.sink ≡ g.W.Sink.faults l.fn.sink;
