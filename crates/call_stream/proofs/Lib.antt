@@ -3,6 +3,7 @@ pub mod Closing
 pub mod Ending
 pub mod EndsGiven
 pub mod Faults
+pub mod Firsts
 pub mod Finishing
 pub mod Lasting
 pub mod Parts

@@ -1,3 +1,5 @@
 pub mod Answered
+pub mod Life
+pub mod Served
 pub mod Status
 pub mod Told

@@ -1,7 +1,7 @@
-ghost use Rattle.std.specs.Prelude.{◌≡◌, option_map};
+ghost use Rattle.std.specs.Prelude.{option_map};
 ghost use Rattle.grammar_model.specs.Readable.{IsReadable};
 ghost use Rattle.script_model.specs.Split.{IsOfASession};
-ghost use Rattle.shell_session.specs.Answered.{IsAnswered};
+ghost use Rattle.shell_session.specs.Life.{IsCalled, opening_of};
 
 use engine_core::{Engine, Step};
 use outer_world::Disk;
@@ -19,8 +19,7 @@ pub(crate) struct Answer {
 pub(crate) fn make_call<D: Disk>(engine: &mut Engine<D>, call: ScriptCall) -> Answer
     requires readable { IsReadable call.request }
     requires session { IsOfASession call }
-    ensures answers { IsAnswered engine.old.base engine.old.history engine.new.history call (option_map (λ place. place.0) result.place) result.reply }
-    ensures base { engine.new.base ≡ engine.old.base }
+    ensures called { IsCalled (opening_of D.honest engine.old) (opening_of D.honest engine.new) call (option_map (λ place. place.0) result.place) result.reply }
 {
     let ScriptCall {
         session,

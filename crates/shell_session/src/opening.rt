@@ -1,3 +1,10 @@
+ghost use Rattle.std.specs.Prelude.{◌≡◌, ℕ, [], IfOk, IsTrue, List as Seq, OnErr};
+ghost use Rattle.own_base.specs.declared.number.Area.TheVariants.{A, B};
+ghost use Rattle.crash_model.specs.LeftBy.{IsLeftBy};
+ghost use Rattle.engine_core.specs.Seen.{disk_of};
+ghost use Rattle.shell_session.specs.Life.{Opening, is_checkpoint, opening_of};
+ghost use Rattle.shell_session.specs.Served.{IsSilent};
+
 use crate::answering::make_call;
 use crate::book::Book;
 use crate::manner::Form;
@@ -7,7 +14,7 @@ use crash_recover::OpenFault;
 use engine_core::{Closed, Engine};
 use outer_world::Disk;
 use own_base::List;
-use own_model::Reply;
+use own_model::{Reply, Request, Statement};
 use reply_json::TableNames;
 use std::alloc::Global;
 use std::mem::drop;
@@ -22,7 +29,10 @@ pub(crate) struct Opened<D: Disk> {
 }
 
 /// Closes a store, and gives its disk back alone.
-pub(crate) fn disk_left<D: Disk>(engine: Engine<D>) -> D {
+pub(crate) fn disk_left<D: Disk>(engine: Engine<D>) -> D
+    ensures disk { result ≡ disk_of engine }
+    ensures left { IsTrue (D.honest result) → (a b : Seq ℕ) → D.leaves result A a → D.leaves result B b → IsLeftBy engine.base engine.start engine.history a b }
+{
     let Closed {
         opened,
         history,
@@ -67,7 +77,9 @@ pub(crate) fn open<D: Disk>(
     alloc: Global,
     form: Form,
     disk: D,
-) -> Result<Opened<D>, (OpenFault, D)> {
+) -> Result<Opened<D>, (OpenFault, D)>
+    ensures { IfOk result (λ opened. opened.engine.history ≡ []) }
+{
     let (names, disk) = names_told(alloc, form, disk)?;
     let Ok(book) = Book::new(alloc, names) else {
         return Err((OpenFault::Memory, disk));
@@ -81,8 +93,20 @@ pub(crate) fn open<D: Disk>(
     }
 }
 
+/// Whether a CHECKPOINT is asked for.
+fn is_checkpoint(request: &Request) -> bool
+    ensures { result ≡ is_checkpoint request.now }
+{
+    match request {
+        Request::Run(statement) => matches!(statement.get(), Statement::Checkpoint),
+        _ => false,
+    }
+}
+
 /// Makes a CHECKPOINT, which has a place and is told to nobody. It answers whether it was done.
-fn lay_anew<D: Disk>(alloc: Global, opened: &mut Opened<D>) -> bool {
+fn lay_anew<D: Disk>(alloc: Global, opened: &mut Opened<D>) -> bool
+    ensures { IsSilent (opening_of D.honest opened.old.engine) (opening_of D.honest opened.new.engine) }
+{
     let mut words = CallStream::new(alloc);
     if words.push(b"CHECKPOINT;").is_err() {
         return false;
@@ -90,6 +114,9 @@ fn lay_anew<D: Disk>(alloc: Global, opened: &mut Opened<D>) -> bool {
     let Ok(Some(read)) = words.next() else {
         return false;
     };
+    if !is_checkpoint(&read.call.request) {
+        return false;
+    }
     let answer = make_call(&mut opened.engine, read.call);
     opened.book.note(0, None, &answer.reply);
     let done = matches!(answer.reply, Reply::Done);
@@ -102,7 +129,10 @@ fn lay_anew<D: Disk>(alloc: Global, opened: &mut Opened<D>) -> bool {
 pub(crate) fn renewed<D: Disk>(
     alloc: Global,
     opened: Opened<D>,
-) -> Result<Opened<D>, (OpenFault, D)> {
+) -> Result<Opened<D>, (OpenFault, D)>
+    ensures ok { IfOk result (λ next. IsSilent (opening_of D.honest opened.engine) (opening_of D.honest next.engine)) }
+    ensures err { OnErr result ((last : Opening) × IsSilent (opening_of D.honest opened.engine) last) }
+{
     let mut opened = opened;
     if !opened.book.is_due() {
         return Ok(opened);

@@ -3,8 +3,10 @@ ghost use Rattle.std.specs.List.{AllByRecursion};
 ghost use Rattle.outer_world.specs.FaultCount.{CountRose};
 ghost use Rattle.grammar_model.specs.Readable.{IsReadable};
 ghost use Rattle.script_model.specs.Split.{IsOfASession};
-ghost use Rattle.call_stream.specs.Taken.{IsRead, IsSound};
-ghost use Rattle.shell_session.specs.Told.{HasWritten, IsTold, told_text};
+ghost use Rattle.call_stream.specs.Taken.{IsPlain, IsRead, IsSound, open_calls};
+ghost use Rattle.shell_session.specs.Life.{opening_of};
+ghost use Rattle.shell_session.specs.Served.{ServesCall, ServesCalls, ServesClosed, ServesEnd, fault_of};
+ghost use Rattle.shell_session.specs.Told.{HasWritten, told_text};
 
 use crate::answering::{Answer, make_call};
 use crate::book::Book;
@@ -106,8 +108,7 @@ fn serve_call<W: Sink, N: Notes, D: Disk>(
 ) -> Result<(), ShellFault>
     requires readable { IsReadable call.request }
     requires session { IsOfASession call }
-    ensures base { engine.new.base ≡ engine.old.base }
-    ensures told { IsTold manner.form engine.old.base engine.old.history engine.new.history call line result (W.written sink.old) (W.written sink.new) }
+    ensures serves { ServesCall manner.form (opening_of D.honest engine.old) (opening_of D.honest engine.new) call line result (W.written sink.old) (W.written sink.new) }
     ensures fault { result ≡ Err ShellFault.Write → CountRose (W.faults sink.old) (W.faults sink.new) }
     ensures steady { result ≢ Err ShellFault.Write → W.faults sink.new ≡ W.faults sink.old }
     ensures unread { result ≢ Err ShellFault.Read }
@@ -145,8 +146,7 @@ fn serve_read<W: Sink, N: Notes, D: Disk>(
 ) -> Result<(), ShellFault>
     requires readable { IsReadable read.call.request }
     requires session { IsOfASession read.call }
-    ensures base { engine.new.base ≡ engine.old.base }
-    ensures told { IsTold manner.form engine.old.base engine.old.history engine.new.history read.call read.line result (W.written sink.old) (W.written sink.new) }
+    ensures serves { ServesCall manner.form (opening_of D.honest engine.old) (opening_of D.honest engine.new) read.call read.line result (W.written sink.old) (W.written sink.new) }
     ensures fault { result ≡ Err ShellFault.Write → CountRose (W.faults sink.old) (W.faults sink.new) }
     ensures steady { result ≢ Err ShellFault.Write → W.faults sink.new ≡ W.faults sink.old }
     ensures unread { result ≢ Err ShellFault.Read }
@@ -181,7 +181,7 @@ pub(crate) fn serve_closed<W: Sink, N: Notes, D: Disk>(
     requires { IsSound stream.old }
     ensures sound { IsSound stream.new }
     ensures read { OnOk result (IsRead stream.new) }
-    ensures base { engine.new.base ≡ engine.old.base }
+    ensures serves { ServesClosed manner.form (opening_of D.honest engine.old) (opening_of D.honest engine.new) stream.old stream.new (fault_of result) (W.written sink.old) (W.written sink.new) }
     ensures fault { result ≡ Err ShellFault.Write → CountRose (W.faults sink.old) (W.faults sink.new) }
     ensures steady { result ≢ Err ShellFault.Write → W.faults sink.new ≡ W.faults sink.old }
     ensures unread { result ≢ Err ShellFault.Read }
@@ -200,6 +200,29 @@ pub(crate) fn serve_closed<W: Sink, N: Notes, D: Disk>(
     Err(ShellFault::Memory)
 }
 
+/// Serves the call of the text that the input leaves open, if there is one.
+fn serve_open<W: Sink, N: Notes, D: Disk>(
+    engine: &mut Engine<D>,
+    book: &mut Book,
+    alloc: Global,
+    manner: Manner,
+    open_call: Option<StreamCall>,
+    sink: &mut W,
+    notes: &mut N,
+) -> Result<(), ShellFault>
+    requires { IsPlain open_call }
+    ensures serves { ServesCalls manner.form (opening_of D.honest engine.old) (opening_of D.honest engine.new) (open_calls open_call) (fault_of result) (W.written sink.old) (W.written sink.new) }
+    ensures fault { result ≡ Err ShellFault.Write → CountRose (W.faults sink.old) (W.faults sink.new) }
+    ensures steady { result ≢ Err ShellFault.Write → W.faults sink.new ≡ W.faults sink.old }
+    ensures unread { result ≢ Err ShellFault.Read }
+    ensures refused { result ≡ Err ShellFault.Refused → IsTrue manner.stops }
+{
+    match open_call {
+        Some(read) => serve_read(engine, book, alloc, manner, read, sink, notes),
+        None => Ok(()),
+    }
+}
+
 /// Serves the Ends of the sessions.
 fn serve_ends<W: Sink, N: Notes, D: Disk>(
     ends: Vec<ScriptCall>,
@@ -212,7 +235,7 @@ fn serve_ends<W: Sink, N: Notes, D: Disk>(
 ) -> Result<(), ShellFault>
     requires readable { AllByRecursion (λ call. IsReadable call.request) ends.items }
     requires sessions { AllByRecursion IsOfASession ends.items }
-    ensures base { engine.new.base ≡ engine.old.base }
+    ensures serves { ServesCalls manner.form (opening_of D.honest engine.old) (opening_of D.honest engine.new) ends.items (fault_of result) (W.written sink.old) (W.written sink.new) }
     ensures fault { result ≡ Err ShellFault.Write → CountRose (W.faults sink.old) (W.faults sink.new) }
     ensures steady { result ≢ Err ShellFault.Write → W.faults sink.new ≡ W.faults sink.old }
     ensures unread { result ≢ Err ShellFault.Read }
@@ -239,7 +262,7 @@ pub(crate) fn serve_end<W: Sink, N: Notes, D: Disk>(
 ) -> Result<(), ShellFault>
     requires sound { IsSound stream }
     requires read { IsRead stream }
-    ensures base { engine.new.base ≡ engine.old.base }
+    ensures serves { ServesEnd manner.form (opening_of D.honest engine.old) (opening_of D.honest engine.new) stream (fault_of result) (W.written sink.old) (W.written sink.new) }
     ensures fault { result ≡ Err ShellFault.Write → CountRose (W.faults sink.old) (W.faults sink.new) }
     ensures steady { result ≢ Err ShellFault.Write → W.faults sink.new ≡ W.faults sink.old }
     ensures unread { result ≢ Err ShellFault.Read }
@@ -249,11 +272,7 @@ pub(crate) fn serve_end<W: Sink, N: Notes, D: Disk>(
         Ok(end) => end,
         Err(fault) => return Err(stopped(fault)),
     };
-    let served = match open_call {
-        Some(read) => serve_read(engine, book, alloc, manner, read, sink, notes),
-        None => Ok(()),
-    };
-    match served {
+    match serve_open(engine, book, alloc, manner, open_call, sink, notes) {
         Ok(()) => serve_ends(ends.into_vec(), engine, book, alloc, manner, sink, notes),
         Err(fault) => {
             drop(ends);

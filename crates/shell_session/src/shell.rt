@@ -1,6 +1,8 @@
-ghost use Rattle.std.specs.Prelude.{◌≡◌, ◌≢◌, ◌⊎◌, IsTrue, Err, Some, None, OnOk};
+ghost use Rattle.std.specs.Prelude.{◌≡◌, ◌≢◌, ◌<◌, ◌⊎◌, [], IsTrue, IfOk, Err, Some, None, OnOk, length};
 ghost use Rattle.outer_world.specs.FaultCount.{CountRose};
 ghost use Rattle.call_stream.specs.Taken.{IsRead, IsSound};
+ghost use Rattle.shell_session.specs.Life.{Opening, opening_of};
+ghost use Rattle.shell_session.specs.Served.{HasLived, IsUnserved, Lives, ServesEnd, ServesPiece};
 ghost use Rattle.shell_session.specs.Status.{status_of};
 
 use crate::ending::{Left, ShellFault, ended, stopped, unopened};
@@ -9,7 +11,8 @@ use crate::marking::{greet, prompt};
 use crate::notes::Notes;
 use crate::opening::{Opened, disk_left, open, renewed};
 use crate::serving::{serve_closed, serve_end};
-use call_stream::CallStream;
+use call_stream::laws::{calls_are_given, given_calls_stay};
+use call_stream::{CallStream, StreamFault};
 use outer_world::{Disk, Failed, Sink, Source};
 use std::alloc::{AllocError, Global};
 use std::mem::drop;
@@ -18,7 +21,9 @@ use std::mem::drop;
 const PIECE: usize = 65_536;
 
 /// Room for what one read gives.
-fn new_piece(alloc: Global) -> Result<Vec<u8>, AllocError> {
+fn new_piece(alloc: Global) -> Result<Vec<u8>, AllocError>
+    ensures { IfOk result (λ piece. 0 < length piece.items) }
+{
     let mut piece = Vec::new(alloc);
     piece.resize(PIECE, 0)?;
     Ok(piece)
@@ -35,7 +40,11 @@ fn serve_piece<R: Source, W: Sink, N: Notes, D: Disk>(
     sink: &mut W,
     notes: &mut N,
 ) -> Result<bool, ShellFault>
-    requires { IsSound stream.old }
+    requires sound { IsSound stream.old }
+    requires room { 0 < length piece.old }
+    ensures serves { ServesPiece manner.form (opening_of D.honest opened.old.engine) (opening_of D.honest opened.new.engine) stream.old stream.new result
+        (R.remaining source.old) (R.remaining source.new) (W.written sink.old) (W.written sink.new) }
+    ensures room { length piece.new ≡ length piece.old }
     ensures sound { IsSound stream.new }
     ensures read { IsRead stream.old → OnOk result (IsRead stream.new) }
     ensures fault { result ≡ Err ShellFault.Write → CountRose (W.faults sink.old) (W.faults sink.new) }
@@ -54,8 +63,9 @@ fn serve_piece<R: Source, W: Sink, N: Notes, D: Disk>(
     if count == 0 {
         return Ok(false);
     }
-    if let Err(fault) = stream.push(&piece[..count]) {
-        return Err(stopped(fault));
+    match stream.push(&piece[..count]) {
+        Ok(()) => {}
+        Err(fault) => return Err(stopped(fault)),
     }
     let served = serve_closed(
         stream,
@@ -97,6 +107,7 @@ fn finished<W: Sink, N: Notes, D: Disk>(
 ) -> Left<D>
     requires sound { IsSound stream }
     requires read { IsRead stream }
+    ensures serves { (last : Opening) × ServesEnd manner.form (opening_of D.honest opened.engine) last stream result.fault (W.written sink.old) (W.written sink.new) }
     ensures status { result.status ≡ status_of result.fault }
     ensures unread { result.fault ≢ Some ShellFault.Read }
     ensures write_fault { result.fault ≡ Some ShellFault.Write → CountRose (W.faults sink.old) (W.faults sink.new) }
@@ -129,6 +140,9 @@ fn serve_pieces<R: Source, W: Sink, N: Notes, D: Disk>(
     sink: &mut W,
     notes: &mut N,
 ) -> Left<D>
+    requires room { 0 < length piece.old }
+    requires fresh { opened.engine.history ≡ [] }
+    ensures lived { HasLived manner.form result.fault (R.remaining source.old) (R.remaining source.new) (W.written sink.old) (W.written sink.new) }
     ensures status { result.status ≡ status_of result.fault }
     ensures read_fault { result.fault ≡ Some ShellFault.Read → CountRose (R.faults source.old) (R.faults source.new) }
     ensures read_steady { result.fault ≢ Some ShellFault.Read → R.faults source.new ≡ R.faults source.old }
@@ -136,6 +150,8 @@ fn serve_pieces<R: Source, W: Sink, N: Notes, D: Disk>(
     ensures write_steady { result.fault ≢ Some ShellFault.Write → W.faults sink.new ≡ W.faults sink.old }
     ensures refused { result.fault ≡ Some ShellFault.Refused → IsTrue manner.stops }
 {
+    calls_are_given();
+    given_calls_stay();
     let mut opened = opened;
     let mut stream = CallStream::new(alloc);
     for _ in 0..u64::MAX {
@@ -158,7 +174,7 @@ fn serve_pieces<R: Source, W: Sink, N: Notes, D: Disk>(
             Err((fault, disk)) => return ended(Some(unopened(fault)), disk),
         };
     }
-    finished(stream, opened, alloc, manner, sink, notes)
+    closed(opened, Some(ShellFault::Input(StreamFault::TooLong)))
 }
 
 /// Serves an input of calls over the store of a disk, as it comes: opens the store, and makes each call as soon as its text is
@@ -171,6 +187,9 @@ pub fn serve_shell<R: Source, W: Sink, N: Notes, D: Disk>(
     disk: D,
     manner: Manner,
 ) -> Left<D>
+    // What it read, made and wrote: each call of the input once, in its order, as far as it was served; or no store was opened.
+    ensures served { HasLived manner.form result.fault (R.remaining source.old) (R.remaining source.new) (W.written sink.old) (W.written sink.new)
+        ⊎ IsUnserved result.fault source.old source.new sink.old sink.new }
     ensures status { result.status ≡ status_of result.fault }
 
     // A fault of the source or the sink comes only where its count of faults rose, and a refusal ends it only where that was asked.

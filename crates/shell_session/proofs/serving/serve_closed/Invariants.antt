@@ -1,11 +1,14 @@
 use Rattle.std.proofs.Common.{◌≡◌}
+use Rattle.std.specs.Prelude.{None}
 use Rattle.call_stream.specs.Taken.{IsSound}
+use Rattle.shell_session.specs.Life.{opening_of}
+use Rattle.shell_session.specs.Served.{ServesClosed}
 use Rattle.shell_session.proofs.serving.serve_closed.Given as goal
 
--- no call so far met a fault of the sink
+-- the calls so far are served, and none met a fault of the sink
 abbrev pub invariant-loop : goal.invariant-loop
 invariant-loop g l = record {
   sound : IsSound l.stream;
-  base : l.engine.base ≡ l.fn.engine.base;
+  serves : ServesClosed l.fn.manner.form (opening_of g.D.Disk.honest l.fn.engine) (opening_of g.D.Disk.honest l.engine) l.fn.stream l.stream None (g.W.Sink.written l.fn.sink) (g.W.Sink.written l.sink);
   steady : g.W.Sink.faults l.sink ≡ g.W.Sink.faults l.fn.sink;
 }
