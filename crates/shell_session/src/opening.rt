@@ -73,11 +73,7 @@ fn names_told<D: Disk>(
 }
 
 /// Opens the store of a disk.
-pub(crate) fn open<D: Disk>(
-    alloc: Global,
-    form: Form,
-    disk: D,
-) -> Result<Opened<D>, (OpenFault, D)>
+pub(crate) fn open<D: Disk>(alloc: Global, form: Form, disk: D) -> Result<Opened<D>, (OpenFault, D)>
     ensures { IfOk result (λ opened. opened.engine.history ≡ []) }
 {
     let (names, disk) = names_told(alloc, form, disk)?;
