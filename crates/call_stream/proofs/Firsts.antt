@@ -1,5 +1,5 @@
 -- The calls of a beginning of an input, as more of it comes.
-use Rattle.std.proofs.Common.{◌≡◌, ℕ, List, ◌++◌, sym, ap, subst₂, ◌∙◌, append_assoc, true}
+use Rattle.std.proofs.Common.{ℕ, List, ◌++◌, sym, ap, subst₂, ◌∙◌, append_assoc, true}
 use Rattle.own_model.specs.declared.script.ScriptCall.{ScriptCall}
 use Rattle.script_model.specs.CallText.{CallText}
 use Rattle.script_model.specs.Piece.{ArePieces, Piece}

@@ -9,8 +9,8 @@ use Rattle.script_model.specs.CallText.{CallText}
 use Rattle.call_stream.specs.Given.{HasGiven, HasWholeCalls}
 use Rattle.call_stream.specs.Taken.{HasTaken}
 use Rattle.call_stream.specs.declared.stream.CallStream.{CallStream}
-use Rattle.shell_session.specs.Life.{Called, Event, Happen, IsCalled, IsRenewed, Laid, Opening, Renewed, calls_of, is_checkpoint, texts_of}
-use Rattle.shell_session.specs.Served.{AreFirst, AreLast, AreMade, AreTold, HasLived, IsSilent, Lives, ServesClosed, ServesEnd, ServesPiece, fault_of, is_last}
+use Rattle.shell_session.specs.Life.{Event, Happen, IsCalled, IsRenewed, Laid, Opening, Renewed, calls_of, is_checkpoint, texts_of}
+use Rattle.shell_session.specs.Served.{AreLast, AreMade, IsSilent, Lives, ServesClosed, ServesEnd, ServesPiece, fault_of, is_last}
 use Rattle.shell_session.specs.declared.ending.ShellFault.{ShellFault}
 use Rattle.shell_session.specs.declared.ending.ShellFault.TheVariants.{Disk, Refused, Write}
 use Rattle.shell_session.specs.declared.manner.Form.{Form}

@@ -1,4 +1,4 @@
-use Rattle.std.proofs.Common.{refl, sym, ◌∙◌, ap, option_map}
+use Rattle.std.proofs.Common.{refl, sym, ◌∙◌, option_map}
 use Rattle.shell_session.proofs.LifeLemmas.{written-refused}
 use Rattle.shell_session.proofs.serving.serve_call.Goals as goal
 

@@ -1,9 +1,9 @@
-use Rattle.std.proofs.Common.{[], ◌∷◌, ◌++◌, ◌≡◌, refl, sym, subst, append_assoc, ◌∙◌}
-use Rattle.std.specs.Prelude.{Ok, Err, Some}
+use Rattle.std.proofs.Common.{[], ◌∷◌, subst, append_assoc, ◌∙◌}
+use Rattle.std.specs.Prelude.{Err, Some}
 use Rattle.std.specs.Vec.Iter.{into_iter_items}
 use Rattle.shell_session.specs.Life.{opening_of}
 use Rattle.shell_session.specs.Served.{ServesCalls}
-use Rattle.shell_session.proofs.LifeLemmas.{served-more, served-none, served-one}
+use Rattle.shell_session.proofs.LifeLemmas.{served-more, served-one}
 use Rattle.shell_session.proofs.serving.serve_ends.Goals as goal
 
 pub loop-call-preserved : goal.loop-call-preserved

@@ -1,5 +1,5 @@
-use Rattle.std.proofs.Common.{[], refl, ◌∙◌}
-use Rattle.std.specs.Prelude.{Some, true, false}
+use Rattle.std.proofs.Common.{refl, ◌∙◌}
+use Rattle.std.specs.Prelude.{true, false}
 use Rattle.call_stream.specs.declared.fault.StreamFault.TheVariants.{TooLong}
 use Rattle.shell_session.specs.Life.{opening_of}
 use Rattle.shell_session.specs.declared.ending.ShellFault.TheVariants.{Input, Read, Write}
