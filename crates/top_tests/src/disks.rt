@@ -2,6 +2,7 @@ use outer_world::{Disk, FuseDisk, MemDisk, MemSink, MemSource};
 use own_base::Area;
 use std::alloc::Global;
 use std::mem::drop;
+use std::process::Abort;
 use std::test::Fail;
 use store_top::{Served, TopFault, step};
 
@@ -37,12 +38,31 @@ const PAIRS: [Pair; 3] = [
     },
 ];
 
-/// What a run of `FIRST` comes to whose disk fails: at the opening, at the CREATE, at the INSERT, or later than any call.
-const OUTCOMES: [&str; 4] = [
+/// Two tables with rows, and an insert more.
+const COMMITS: &str =
+    "CREATE DATA_SUBJECT TABLE users (id INT PRIMARY KEY, name TEXT); CREATE TABLE msgs (id INT PRIMARY KEY, sender INT OWNED_BY users(id), receiver INT OWNED_BY users(id), body TEXT, note TEXT, ON GET receiver ANON (note), ON DEL sender ANON (note)); INSERT INTO users VALUES (5, 'Ann'), (7, 'Bob'); INSERT INTO msgs VALUES (9, 5, 7, 'hi', 'draft'); INSERT INTO users VALUES (8, 'Cy');";
+
+/// What a run of it comes to whose disk fails: at the opening, at each of the calls, or later than any call.
+const OUTCOMES: [&str; 7] = [
     "5 0 ",
-    "5 4 0 1.1 disk\n1 1.2 down 0\n2 1.3 down 0\n3 1.4 down 0\n",
-    "5 4 0 1.1 ok\n1 1.2 disk\n2 1.3 down 1\n3 1.4 down 1\n",
-    "0 4 0 1.1 ok\n1 1.2 ok 1\n2 1.3 rows 1\n  5|'Ann'\n3 1.4 end\n",
+    "5 6 0 1.1 disk\n1 1.2 down 0\n2 1.3 down 0\n3 1.4 down 0\n4 1.5 down 0\n5 1.6 down 0\n",
+    "5 6 0 1.1 ok\n1 1.2 disk\n2 1.3 down 1\n3 1.4 down 1\n4 1.5 down 1\n5 1.6 down 1\n",
+    "5 6 0 1.1 ok\n1 1.2 ok\n2 1.3 disk\n3 1.4 down 2\n4 1.5 down 2\n5 1.6 down 2\n",
+    "5 6 0 1.1 ok\n1 1.2 ok\n2 1.3 ok 2\n3 1.4 disk\n4 1.5 down 3\n5 1.6 down 3\n",
+    "5 6 0 1.1 ok\n1 1.2 ok\n2 1.3 ok 2\n3 1.4 ok 1\n4 1.5 disk\n5 1.6 down 4\n",
+    "0 6 0 1.1 ok\n1 1.2 ok\n2 1.3 ok 2\n3 1.4 ok 1\n4 1.5 ok 1\n5 1.6 end\n",
+];
+
+const LOOK: &str = "SELECT id FROM msgs; SELECT id FROM users;";
+
+/// What is seen after none of its commits, after one, and so on.
+const STATES: [&str; 6] = [
+    "0 3 0 1.1 refused table msgs\n1 1.2 refused table users\n2 1.3 end\n",
+    "0 3 0 1.1 refused table msgs\n1 1.2 rows 0\n2 1.3 end\n",
+    "0 3 0 1.1 rows 0\n1 1.2 rows 0\n2 1.3 end\n",
+    "0 3 0 1.1 rows 0\n1 1.2 rows 2\n  5\n  7\n2 1.3 end\n",
+    "0 3 0 1.1 rows 1\n  9\n1 1.2 rows 2\n  5\n  7\n2 1.3 end\n",
+    "0 3 0 1.1 rows 1\n  9\n1 1.2 rows 3\n  5\n  7\n  8\n2 1.3 end\n",
 ];
 
 /// An opened area of epoch 1, whose image is one byte and none of a store.
@@ -85,35 +105,54 @@ fn a_second_run_goes_on_from_the_first(rt: HostRuntime) -> Result<(), Fail> {
     Ok(())
 }
 
-#[test]
-fn one_call_of_the_disk_fails(rt: HostRuntime) -> Result<(), Fail> {
-    let mut outcome = 0;
-    for call in 0..64 {
-        let disk = MemDisk::new(rt.alloc(), &[call])?;
-        let (output, disk) = told(rt.alloc(), FIRST, disk)?;
-        drop(disk);
-        if OUTCOMES.get(outcome).copied() != Some(output.as_str()) {
-            outcome = outcome.saturating_add(1);
-        }
-        assert_eq!(rt; OUTCOMES.get(outcome).copied(), Some(output.as_str()));
+/// Serves `COMMITS` over a disk whose call of that number fails, alone or with all after it.
+fn told_failing(alloc: Global, call: u32, alone: bool) -> Result<(String, MemDisk), Fail> {
+    if alone {
+        return told(alloc, COMMITS, MemDisk::new(alloc, &[call])?);
     }
-    assert_eq!(rt; outcome, 3);
-    Ok(())
+    let (output, fuse) = told(
+        alloc,
+        COMMITS,
+        FuseDisk::new(MemDisk::new(alloc, &[])?, call),
+    )?;
+    Ok((output, fuse.inner()))
+}
+
+/// Looks at a run whose disk fails at that call, and at what a crash leaves: the commits that were answered, or with them
+/// the one at which the disk failed. `met` is how the run before ended; tells how this one did.
+fn check_call(
+    rt: &(impl Abort + AllocGlobal),
+    call: u32,
+    alone: bool,
+    kept: bool,
+    met: usize,
+) -> Result<usize, Fail> {
+    let (output, disk) = told_failing(rt.alloc(), call, alone)?;
+    let same = OUTCOMES.get(met).copied() == Some(output.as_str());
+    let outcome = if same { met } else { met.saturating_add(1) };
+    assert_eq!(rt; OUTCOMES.get(outcome).copied(), Some(output.as_str()));
+    let (seen, disk) = told(rt.alloc(), LOOK, disk.crash(kept))?;
+    drop(disk);
+    let states = [
+        STATES.get(outcome.saturating_sub(1)).copied(),
+        STATES.get(outcome.min(5)).copied(),
+    ];
+    assert!(rt;
+        states.contains(&Some(seen.as_str())),
+        "{call} {alone} {kept}: {seen}"
+    );
+    Ok(outcome)
 }
 
 #[test]
-fn every_later_call_of_the_disk_fails(rt: HostRuntime) -> Result<(), Fail> {
-    let mut outcome = 0;
-    for calls in 0..64 {
-        let disk = FuseDisk::new(MemDisk::new(rt.alloc(), &[])?, calls);
-        let (output, disk) = told(rt.alloc(), FIRST, disk)?;
-        drop(disk);
-        if OUTCOMES.get(outcome).copied() != Some(output.as_str()) {
-            outcome = outcome.saturating_add(1);
+fn each_call_of_the_disk_fails_once(rt: HostRuntime) -> Result<(), Fail> {
+    for (alone, kept) in [(true, true), (true, false), (false, true), (false, false)] {
+        let mut outcome = 0;
+        for call in 0..64 {
+            outcome = check_call(&rt, call, alone, kept, outcome)?;
         }
-        assert_eq!(rt; OUTCOMES.get(outcome).copied(), Some(output.as_str()));
+        assert_eq!(rt; outcome, 6);
     }
-    assert_eq!(rt; outcome, 3);
     Ok(())
 }
 

@@ -9,3 +9,5 @@ mod erasures;
 mod runs;
 #[cfg(test)]
 mod stops;
+#[cfg(test)]
+mod streams;

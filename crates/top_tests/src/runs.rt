@@ -20,8 +20,10 @@ struct Case {
     output: &'static str,
 }
 
-const FIRST: &str =
+pub(crate) const FIRST: &str =
     "CREATE DATA_SUBJECT TABLE users (id INT PRIMARY KEY, name TEXT); INSERT INTO users VALUES (5, 'Ann'); SELECT * FROM users;";
+
+pub(crate) const FIRST_OUTPUT: &str = "0 1.1 ok\n1 1.2 ok 1\n2 1.3 rows 1\n  5|'Ann'\n3 1.4 end\n";
 
 const REFUSALS: &str =
     "CREATE DATA_SUBJECT TABLE users (id INT PRIMARY KEY, name TEXT); INSERT INTO users VALUES (5, 'Ann'); SELECT * FROM users;INSERT INTO users VALUES (5, 'Bo'); SELECT * FROM cats; COMMIT;";
@@ -40,7 +42,7 @@ const CASES: [Case; 9] = [
         sink_fails: &[],
         status: 0,
         entries: 4,
-        output: "0 1.1 ok\n1 1.2 ok 1\n2 1.3 rows 1\n  5|'Ann'\n3 1.4 end\n",
+        output: FIRST_OUTPUT,
     },
     Case {
         word: "step",
@@ -217,5 +219,5 @@ fn steps_without_words_and_gate(rt: HostRuntime) {
     assert_eq!(rt; entries, 4);
     drop(disk);
     let output = String::from_utf8_lossy(rt.alloc(), sink.bytes()).expect(&rt, "memory");
-    assert_eq!(rt; output.as_str(), CASES[0].output);
+    assert_eq!(rt; output.as_str(), FIRST_OUTPUT);
 }
