@@ -1,7 +1,7 @@
 ghost use Rattle.std.specs.Prelude.{◌≡◌, [], length, IsTrue};
 ghost use Rattle.own_base.specs.declared.number.Area.TheVariants.{A};
 
-use outer_world::{Disk, Failed, FileDisk, FuseDisk, MemDisk};
+use outer_world::{Disk, Failed, FileDisk, FuseDisk, MemDisk, RamDisk};
 use own_base::Area;
 use std::alloc::{AllocError, Global};
 use std::fs;
@@ -48,6 +48,18 @@ fn crashed(alloc: Global, calls: u32, kept: bool) -> Result<MemDisk, AllocError>
     let mut disk = FuseDisk::new(MemDisk::new(alloc, &[])?, calls);
     let _ = change(&mut disk);
     Ok(disk.inner().crash(kept))
+}
+
+#[test]
+fn a_ram_disk_holds_what_was_written(rt: HostRuntime) -> Result<(), Fail> {
+    let mut disk = RamDisk::new(rt.alloc());
+    assert_eq!(rt; change(&mut disk), Ok(()));
+    assert_eq!(rt; disk.len(Area::A), Ok(1));
+    let mut piece = *b"..";
+    assert_eq!(rt; disk.read_at(Area::A, 0, &mut piece), Ok(1));
+    assert_eq!(rt; piece.as_slice(), b"a.".as_slice());
+    assert_eq!(rt; (disk.faults(), disk.moment()), (0, 3));
+    Ok(())
 }
 
 #[test]

@@ -31,6 +31,28 @@ fn a_sink_holds_what_is_written(rt: HostRuntime) -> Result<(), Fail> {
 }
 
 #[test]
+fn a_source_gives_pieces(rt: HostRuntime) -> Result<(), Fail> {
+    let mut source = MemSource::in_pieces(rt.alloc(), b"abcde", &[1], 2)?;
+    let mut piece = *b"....";
+    assert_eq!(rt; source.read(&mut piece), Ok(2));
+    assert_eq!(rt; piece.as_slice(), b"ab..".as_slice());
+    assert_eq!(rt; source.read(&mut piece), Err(Failed));
+    let bytes = read_all(rt.alloc(), &mut source, 9).ok().ok_or("no bytes")?;
+    assert_eq!(rt; bytes.as_slice(), b"cde".as_slice());
+    Ok(())
+}
+
+#[test]
+fn a_sink_takes_pieces(rt: HostRuntime) -> Result<(), Fail> {
+    let mut sink = MemSink::in_pieces(rt.alloc(), &[1], 2)?;
+    assert_eq!(rt; sink.write(b"abc"), Ok(2));
+    assert_eq!(rt; write_all(&mut sink, b"cd"), Err(Failed));
+    assert_eq!(rt; write_all(&mut sink, b"cdefg"), Ok(()));
+    assert_eq!(rt; sink.bytes(), b"abcdefg".as_slice());
+    Ok(())
+}
+
+#[test]
 fn a_new_disk_has_no_fault(rt: HostRuntime) -> Result<(), Fail> {
     let disk = MemDisk::new(rt.alloc(), &[0])?;
     assert_eq!(rt; disk.faults(), 0);

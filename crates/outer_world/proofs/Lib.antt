@@ -3,4 +3,5 @@ pub mod DiskSteps
 mod Filling
 pub mod FuseSteps
 pub mod Moments
+mod RamSteps
 pub mod Tabulated

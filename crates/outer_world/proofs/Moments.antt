@@ -1,5 +1,5 @@
 -- How what crashes leave goes on from call to call.
-use Rattle.std.proofs.Common.{ℕ, ◌≤◌, ◌⊎◌, inl, inr, ⊎_elim, List, arith}
+use Rattle.std.proofs.Common.{ℕ, inl, inr, ⊎_elim, List, arith}
 use Rattle.own_base.specs.declared.number.Area.{Area}
 use Rattle.own_base.specs.declared.number.Area.TheVariants.{A, B}
 use Rattle.outer_world.specs.Elapses.{Elapses}

@@ -18,6 +18,9 @@ pub mod MemSource
 pub mod OtherArea
 pub mod Overwritten
 pub mod PartOfBytes
+pub mod PieceLength
+pub mod RamDisk
+pub mod RamDiskLaws
 pub mod Stays
 pub mod Stretch
 pub mod Torn

@@ -167,7 +167,11 @@ fn loosen(
 }
 
 /// Writes the bytes at a place, over what stands there and past the end. The capacity doesn't fall.
-fn overwrite_bytes(bytes: &mut Vec<u8>, place: usize, piece: &[u8]) -> Result<(), AllocError>
+pub(crate) fn overwrite_bytes(
+    bytes: &mut Vec<u8>,
+    place: usize,
+    piece: &[u8],
+) -> Result<(), AllocError>
     requires { place ≤ vec_len bytes.old }
     ensures written { OnOk result (bytes.new.items ≡ overwritten bytes.old.items place piece.now) }
     ensures unchanged { OnErr result (bytes.new.items ≡ bytes.old.items) }

@@ -253,7 +253,7 @@ impl Disk for MemDisk {
 }
 
 /// Copies bytes from a place on to the front of the piece, and tells how many.
-fn copy_from(bytes: &[u8], at: u64, into: &mut [u8]) -> usize
+pub(crate) fn copy_from(bytes: &[u8], at: u64, into: &mut [u8]) -> usize
     ensures count { result ≡ min (length into.old) (length bytes.now - at) }
     ensures piece { into.new ≡ take result (drop at bytes.now) ++ drop result into.old }
 {

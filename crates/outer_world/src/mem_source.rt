@@ -1,8 +1,10 @@
-ghost use Rattle.std.specs.Prelude.{◌≡◌, ◌<◌, ◌≤◌, ◌^◌, ◌++◌, ◌↔◌, Some, length, take, drop, min, IfOk, IsErr, OnErr};
+ghost use Rattle.std.specs.Prelude.{◌≡◌, [], ◌<◌, ◌≤◌, ◌^◌, ◌++◌, ◌↔◌, Some, None, length, take, drop, min, IfOk, IsErr, OnErr};
 ghost use Rattle.outer_world.specs.FaultPlan.{fresh_plan, IsNextToFail, plan_after_success, plan_after_fault};
+ghost use Rattle.outer_world.specs.PieceLength.{piece_length as length_of};
 
 use crate::failed::Failed;
 use crate::fault_plan::FaultPlan;
+use crate::piece_length::piece_length;
 use crate::source::Source;
 use std::alloc::{AllocError, Global};
 use std::marker::Model;
@@ -12,18 +14,24 @@ use std::marker::Model;
 pub struct MemSource {
     bytes: Vec<u8>,
     at: usize,
+    // The most that a call gives, where there is a bound.
+    most: Option<u32>,
     plan: FaultPlan,
 }
 
 impl Model for MemSource {
-    ghost use Rattle.std.specs.Prelude.{◌≤◌, length, drop};
+    ghost use Rattle.std.specs.Prelude.{◌≤◌, length, drop, IfSome};
     ghost use Rattle.outer_world.specs.MemSource.{SourceState};
 
     ghost Value = { SourceState };
 
-    ghost view = { λ source. record { remaining = drop source.at source.bytes.items; plan = source.plan } };
+    ghost view = { λ source. record {
+      remaining = drop source.at source.bytes.items;
+      most = source.most;
+      plan = source.plan;
+    } };
 
-    ghost invariant = { λ source. source.at ≤ length source.bytes.items };
+    ghost invariant = { λ source. (source.at ≤ length source.bytes.items) × IfSome source.most (λ most. 1 ≤ most) };
 }
 
 impl MemSource {
@@ -31,10 +39,38 @@ impl MemSource {
     pub fn new(alloc: Global, bytes: &[u8], fails: &[u32]) -> Result<MemSource, AllocError>
         ensures remaining { IfOk result (λ source. source.remaining ≡ bytes.now) }
         ensures plan { IfOk result (λ source. source.plan ≡ fresh_plan fails.now) }
+        ensures most { IfOk result (λ source. source.most ≡ None) }
     {
         let bytes = bytes.to_vec(alloc)?;
         let plan = FaultPlan::new(alloc, fails)?;
-        Ok(MemSource { bytes, at: 0, plan })
+        Ok(MemSource {
+            bytes,
+            at: 0,
+            most: None,
+            plan,
+        })
+    }
+
+    /// Gives these bytes, at most so many a call. The calls of the numbers in `fails`, counted from 0, are to fail.
+    pub fn in_pieces(
+        alloc: Global,
+        bytes: &[u8],
+        fails: &[u32],
+        most: u32,
+    ) -> Result<MemSource, AllocError>
+        requires { 1 ≤ most }
+        ensures remaining { IfOk result (λ source. source.remaining ≡ bytes.now) }
+        ensures plan { IfOk result (λ source. source.plan ≡ fresh_plan fails.now) }
+        ensures most { IfOk result (λ source. source.most ≡ Some most) }
+    {
+        let bytes = bytes.to_vec(alloc)?;
+        let plan = FaultPlan::new(alloc, fails)?;
+        Ok(MemSource {
+            bytes,
+            at: 0,
+            most: Some(most),
+            plan,
+        })
     }
 }
 
@@ -48,17 +84,20 @@ impl Source for MemSource {
 
     ghost fails = { λ before after. after ≡ record before { plan = plan_after_fault before.plan } };
 
-    /// Fills the piece, or as much of it as there are bytes left. What stands after them in the piece stays.
+    /// Fills the piece, or as much of it as there are bytes left and as a call gives at most. What stands after them in
+    /// the piece stays.
     fn read(&mut self, into: &mut [u8]) -> Result<usize, Failed>
         ensures due { IsErr result ↔ IsNextToFail self.old.plan }
 
         ensures count { IfOk result (λ count.
-            count ≡ min (length into.old) (length self.old.remaining)) }
+            count ≡ length_of self.old.most (min (length into.old) (length self.old.remaining))) }
+        ensures end { IfOk result (λ count. count ≡ 0 → 0 < length into.new → self.old.remaining ≡ []) }
         ensures piece { IfOk result (λ count.
             into.new ≡ take count self.old.remaining ++ drop count into.old) }
         ensures remaining { IfOk result (λ count.
             self.new.remaining ≡ drop count self.old.remaining) }
         ensures plan { IfOk result (λ _. self.new.plan ≡ plan_after_success self.old.plan) }
+        ensures most { self.new.most ≡ self.old.most }
 
         ensures fault { OnErr result (self.new ≡ record self.old { plan = plan_after_fault self.old.plan }) }
         ensures piece_kept { OnErr result (into.new ≡ into.old) }
@@ -67,8 +106,9 @@ impl Source for MemSource {
         ensures in_range { self.new.plan.faults < 2 ^ 64 }
     {
         self.plan.count_call()?;
-        let end = self.bytes.len().min(self.at + into.len());
-        let count = end - self.at;
+        let left = self.bytes.len() - self.at;
+        let count = piece_length(self.most, into.len().min(left));
+        let end = self.at + count;
         into[..count].copy_from_slice(&self.bytes[self.at..end]);
         self.at = end;
         Ok(count)

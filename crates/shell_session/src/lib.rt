@@ -5,7 +5,6 @@
 mod answering;
 mod book;
 mod ending;
-mod keeping;
 mod manner;
 mod marking;
 mod naming;
@@ -16,7 +15,6 @@ mod shell;
 mod telling;
 
 pub use ending::{Left, ShellFault};
-pub use keeping::Keeps;
 pub use manner::{Form, Manner};
 pub use notes::{NoNotes, Notes};
 pub use shell::serve_shell;

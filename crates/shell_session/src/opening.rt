@@ -1,6 +1,5 @@
 use crate::answering::make_call;
 use crate::book::Book;
-use crate::keeping::Keeps;
 use crate::manner::Form;
 use crate::naming::schema_names;
 use call_stream::CallStream;
@@ -17,7 +16,7 @@ use std::mem::drop;
 const ROOM: u32 = 1024;
 
 /// A store that is open, and what is kept of its calls.
-pub(crate) struct Opened<D: Keeps> {
+pub(crate) struct Opened<D: Disk> {
     pub(crate) engine: Engine<D>,
     pub(crate) book: Book,
 }
@@ -35,7 +34,7 @@ pub(crate) fn disk_left<D: Disk>(engine: Engine<D>) -> D {
 }
 
 /// Opens the store of a disk to read its names: they are those of the state that the opening left.
-fn names_of<D: Keeps>(alloc: Global, disk: D) -> Result<(List<TableNames>, D), (OpenFault, D)> {
+fn names_of<D: Disk>(alloc: Global, disk: D) -> Result<(List<TableNames>, D), (OpenFault, D)> {
     let engine = Engine::open_with_room(alloc, disk, 0)?;
     let Closed {
         opened,
@@ -46,13 +45,13 @@ fn names_of<D: Keeps>(alloc: Global, disk: D) -> Result<(List<TableNames>, D), (
     let names = schema_names(alloc, opened.schema());
     drop(opened);
     match names {
-        Ok(names) => Ok((names, disk.settled())),
+        Ok(names) => Ok((names, disk)),
         Err(_) => Err((OpenFault::Memory, disk)),
     }
 }
 
 /// The names that are told: none of them in lines.
-fn names_told<D: Keeps>(
+fn names_told<D: Disk>(
     alloc: Global,
     form: Form,
     disk: D,
@@ -64,7 +63,7 @@ fn names_told<D: Keeps>(
 }
 
 /// Opens the store of a disk.
-pub(crate) fn open<D: Keeps>(
+pub(crate) fn open<D: Disk>(
     alloc: Global,
     form: Form,
     disk: D,
@@ -83,7 +82,7 @@ pub(crate) fn open<D: Keeps>(
 }
 
 /// Makes a CHECKPOINT, which has a place and is told to nobody. It answers whether it was done.
-fn lay_anew<D: Keeps>(alloc: Global, opened: &mut Opened<D>) -> bool {
+fn lay_anew<D: Disk>(alloc: Global, opened: &mut Opened<D>) -> bool {
     let mut words = CallStream::new(alloc);
     if words.push(b"CHECKPOINT;").is_err() {
         return false;
@@ -100,7 +99,7 @@ fn lay_anew<D: Keeps>(alloc: Global, opened: &mut Opened<D>) -> bool {
 
 /// Closes the store and opens it again, where that is due, so that its history is let go; before, it is laid anew. Where that
 /// can't be done it is left as it is for some time.
-pub(crate) fn renewed<D: Keeps>(
+pub(crate) fn renewed<D: Disk>(
     alloc: Global,
     opened: Opened<D>,
 ) -> Result<Opened<D>, (OpenFault, D)> {
@@ -113,7 +112,7 @@ pub(crate) fn renewed<D: Keeps>(
         return Ok(opened);
     }
     let Opened { engine, book } = opened;
-    match Engine::open_with_room(alloc, disk_left(engine).settled(), ROOM) {
+    match Engine::open_with_room(alloc, disk_left(engine), ROOM) {
         Ok(engine) => Ok(Opened { engine, book }),
         Err((fault, disk)) => {
             drop(book);

@@ -4,14 +4,13 @@ ghost use Rattle.call_stream.specs.Taken.{IsRead, IsSound};
 ghost use Rattle.shell_session.specs.Status.{status_of};
 
 use crate::ending::{Left, ShellFault, ended, stopped, unopened};
-use crate::keeping::Keeps;
 use crate::manner::Manner;
 use crate::marking::{greet, prompt};
 use crate::notes::Notes;
 use crate::opening::{Opened, disk_left, open, renewed};
 use crate::serving::{serve_closed, serve_end};
 use call_stream::CallStream;
-use outer_world::{Failed, Sink, Source};
+use outer_world::{Disk, Failed, Sink, Source};
 use std::alloc::{AllocError, Global};
 use std::mem::drop;
 
@@ -26,7 +25,7 @@ fn new_piece(alloc: Global) -> Result<Vec<u8>, AllocError> {
 }
 
 /// Reads the next bytes, and serves the calls that they close. It answers whether there may be more.
-fn serve_piece<R: Source, W: Sink, N: Notes, D: Keeps>(
+fn serve_piece<R: Source, W: Sink, N: Notes, D: Disk>(
     piece: &mut [u8],
     stream: &mut CallStream,
     opened: &mut Opened<D>,
@@ -74,7 +73,7 @@ fn serve_piece<R: Source, W: Sink, N: Notes, D: Keeps>(
 }
 
 /// The end of a shell over a store that is open.
-fn closed<D: Keeps>(opened: Opened<D>, fault: Option<ShellFault>) -> Left<D>
+fn closed<D: Disk>(opened: Opened<D>, fault: Option<ShellFault>) -> Left<D>
     ensures status { result.status ≡ status_of result.fault }
     ensures same { (result.fault ≡ fault) ⊎ ((result.fault ≡ Some ShellFault.Disk) × ((fault ≡ None) ⊎ (fault ≡ Some ShellFault.Refused))) }
 {
@@ -88,7 +87,7 @@ fn closed<D: Keeps>(opened: Opened<D>, fault: Option<ShellFault>) -> Left<D>
 }
 
 /// Serves what the end of the input leaves, and ends the shell.
-fn finished<W: Sink, N: Notes, D: Keeps>(
+fn finished<W: Sink, N: Notes, D: Disk>(
     stream: CallStream,
     opened: Opened<D>,
     alloc: Global,
@@ -121,7 +120,7 @@ fn finished<W: Sink, N: Notes, D: Keeps>(
 }
 
 /// Serves an input over a store that is open, piece by piece.
-fn serve_pieces<R: Source, W: Sink, N: Notes, D: Keeps>(
+fn serve_pieces<R: Source, W: Sink, N: Notes, D: Disk>(
     piece: &mut [u8],
     opened: Opened<D>,
     alloc: Global,
@@ -164,7 +163,7 @@ fn serve_pieces<R: Source, W: Sink, N: Notes, D: Keeps>(
 
 /// Serves an input of calls over the store of a disk, as it comes: opens the store, and makes each call as soon as its text is
 /// closed, and writes its reply before the next byte is waited for.
-pub fn serve_shell<R: Source, W: Sink, N: Notes, D: Keeps>(
+pub fn serve_shell<R: Source, W: Sink, N: Notes, D: Disk>(
     alloc: Global,
     source: &mut R,
     sink: &mut W,

@@ -101,12 +101,16 @@ impl<'a> Linked for Counted<'a> {
 }
 
 /// How many rows the table has, numbered from 0.
-const ROWS: u64 = 200;
+const ROWS: u64 = 2_000;
 
-/// How often the version is looked at, at most, for an UPDATE of ten rows: each end of their range is found by eight
-/// halves, since 2 to the power of 8 is more than the rows of the table, and each row of the range is looked at where it
+/// How often the version is looked at, at most, for an UPDATE of ten rows: each end of their range is found by eleven
+/// halves, since 2 to the power of 11 is more than the rows of the table, and each row of the range is looked at where it
 /// is read, and where its change is. Twice that is few too.
-const RANGE: u64 = 2 * (8 + 8 + 10 + 10);
+const RANGE: u64 = 2 * (11 + 11 + 10 + 10);
+
+/// How often for the same once the transaction has changed three rows: at each of these places each of the three is looked
+/// for by as many halves.
+const FEW: u64 = (11 + 11 + 10 + 10) * (3 * 11 + 1);
 
 /// How often for a statement over the table whose rows the transaction has changed: each row is looked at where they are
 /// merged with the changes, and where its change is. Three times is few too.
@@ -117,21 +121,33 @@ const WALK: u64 = 3 * ROWS;
 type Case = (&'static str, &'static str, u64, u64);
 
 /// The statements of a transaction.
-const CASES: [Case; 4] = [
+const CASES: [Case; 6] = [
     (
-        "UPDATE t SET n = n + 1 WHERE id >= 100 AND id < 110",
-        "ok 10",
-        10,
+        "UPDATE t SET n = n + 1 WHERE id >= 100 AND id < 103",
+        "ok 3",
+        3,
         RANGE,
     ),
-    ("UPDATE t SET n = n + 1", "ok 200", ROWS, WALK),
+    (
+        "SELECT COUNT(*) FROM t WHERE id >= 101 AND id < 111",
+        "rows 1 / 10",
+        8,
+        FEW,
+    ),
+    (
+        "UPDATE t SET n = n + 1 WHERE id >= 103 AND id < 110",
+        "ok 7",
+        7,
+        FEW,
+    ),
+    ("UPDATE t SET n = n + 1", "ok 2000", ROWS, WALK),
     (
         "SELECT COUNT(*), SUM(n) FROM t",
-        "rows 1 / 200|210",
+        "rows 1 / 2000|2010",
         ROWS,
         WALK,
     ),
-    ("DELETE FROM t WHERE n = 1", "ok 190", ROWS, WALK),
+    ("DELETE FROM t WHERE n = 1", "ok 1990", ROWS, WALK),
 ];
 
 /// The reply to a bound statement in the open transaction of session 1, and how often the version is looked at for it.

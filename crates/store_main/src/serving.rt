@@ -8,7 +8,7 @@ ghost use Rattle.store_main.specs.Ended.{IsOfWords, IsWithoutFiles, RanOver};
 ghost use Rattle.store_main.specs.Words.{is_in_memory, is_served};
 
 use crate::ending::{Ending, disk_failed, out_of_memory, usage};
-use outer_world::{FileDisk, MemDisk, NowGate, Sink, Source, StdinSource, StdoutSink};
+use outer_world::{FileDisk, NowGate, RamDisk, Sink, Source, StdinSource, StdoutSink};
 use std::alloc::Global;
 use std::fs::{File, Files};
 use std::io::ErrorKind;
@@ -51,7 +51,7 @@ fn serve<Rt: Files<File = File> + AllocGlobal + Threads + Wait + Sync, R: Source
 ) -> Ending
     ensures status { result.status ≡ status_of result.fault }
 
-    // Words that aren't served are usage, unless memory for the disk was refused, or a folder's files could not be opened.
+    // Words that aren't served are usage, unless memory was refused, or a folder's files could not be opened.
     // Nothing is read or written then.
     ensures usage { result.fault ≡ Some TopFault.Usage → is_served (map string_bytes words.now) ≡ false }
     ensures unserved { is_served (map string_bytes words.now) ≡ false
@@ -87,9 +87,7 @@ fn serve_in_memory<Rt: AllocGlobal + Threads + Wait + Sync, R: Source, W: Sink>(
     // It isn't damaged.
     ensures undamaged { (area : Area) (offset : ℕ) → result.fault ≢ Some (TopFault.Damaged area offset) }
 {
-    let Ok(disk) = MemDisk::new(rt.alloc(), &[]) else {
-        return out_of_memory();
-    };
+    let disk = RamDisk::new(rt.alloc());
     ended(run(rt, rt.alloc(), words, source, sink, disk, &NowGate))
 }
 

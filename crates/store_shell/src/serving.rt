@@ -3,8 +3,8 @@ ghost use Rattle.store_shell.specs.Ended.{ended_status};
 
 use crate::ending::{Ending, Fault, disk_failed, out_of_memory, usage};
 use crate::words::manner_of;
-use outer_world::{FileDisk, MemDisk, StdinSource, StdoutSink};
-use shell_session::{Keeps, Left, Manner, Notes, ShellFault, serve_shell};
+use outer_world::{Disk, FileDisk, RamDisk, StdinSource, StdoutSink};
+use shell_session::{Left, Manner, Notes, ShellFault, serve_shell};
 use std::fs::{File, Files};
 use std::io::ErrorKind;
 use std::mem::drop;
@@ -39,10 +39,7 @@ fn serve_in_memory<Rt: Input + Print + AllocGlobal, N: Notes>(
 ) -> Ending
     ensures status { result.status ≡ ended_status result.fault }
 {
-    match MemDisk::new(rt.alloc(), &[]) {
-        Ok(disk) => serve(rt, disk, manner, notes),
-        Err(_) => out_of_memory(),
-    }
+    serve(rt, RamDisk::new(rt.alloc()), manner, notes)
 }
 
 /// Serves the files of a folder. Where they can't be opened that is told as a fault of the disk.
@@ -73,7 +70,7 @@ fn without_files(kind: ErrorKind) -> Ending
 }
 
 /// Serves a disk over the system's streams.
-fn serve<Rt: Input + Print + AllocGlobal, D: Keeps + Drop, N: Notes>(
+fn serve<Rt: Input + Print + AllocGlobal, D: Disk + Drop, N: Notes>(
     rt: &Rt,
     disk: D,
     manner: Manner,

@@ -27,6 +27,10 @@ use row_reading::definition_of;
 use std::alloc::{AllocError, Global};
 use std::marker::Model;
 
+/// So few changes of a table are looked for again at each run of a walk over it, at less cost than all of its rows are merged
+/// with them. What is looked up by a range of keys is found among them at once.
+const FEW_CHANGES: usize = 4;
+
 /// What a transaction changes, which contracts see as the list of its entries for each table, by number: each the key of a
 /// row, and the row that stands there now.
 #[derive(Drop)]
@@ -72,8 +76,8 @@ impl Space {
         Over::new(self, base)
     }
 
-    /// Merges the rows of a table with its entries, where it has some and the item names it as a whole, behind the tables that
-    /// are merged.
+    /// Merges the rows of a table with its entries, where it has more than a few and the item names it as a whole, behind the
+    /// tables that are merged.
     fn merge<'a, V: StoreView>(
         &'a self,
         alloc: Global,
@@ -90,7 +94,7 @@ impl Space {
             return Ok(());
         }
         match self.entries(table) {
-            Some(entries) if entries.len() > 0 => {
+            Some(entries) if entries.len() > FEW_CHANGES => {
                 let rows = merged_rows(alloc, base, table, definition_of(base, table), entries)?;
                 merged.push(MergedTable { table, rows })?;
                 Ok(())
@@ -99,8 +103,8 @@ impl Space {
         }
     }
 
-    /// The base's rows, as changed, where the tables that a footprint names as a whole are merged with their changes: a walk
-    /// over such a table goes over each row once.
+    /// The base's rows, as changed, where the tables that a footprint names as a whole are merged with their changes, if these
+    /// are more than a few: a walk over such a table goes over each row once.
     pub fn merged<'a, V: StoreView>(
         &'a self,
         alloc: Global,
