@@ -1,0 +1,3 @@
+pub mod Create
+pub mod OneKept
+pub mod ToldOf
