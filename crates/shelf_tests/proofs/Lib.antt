@@ -1,1 +1,3 @@
-mod Following
+mod Creating
+mod FewColumns
+mod WriteTells

@@ -1,9 +1,15 @@
 //! How often a version is looked at for the small databases behind changes. That it is looked at no more than has to be, no
 //! clause says.
+ghost use Rattle.state_model.specs.Sound.{IsWellFormed};
 
+use crate::counted::Counted;
 use crate::store::{Store, store_of};
+use crate::writing::Step;
+use micro_db::MicroDb;
+use std::cell::Cell;
 use std::mem::drop;
 use std::process::Abort;
+use store_version::{Shown, Version};
 
 /// A subject table, and one below it that two may own.
 const TABLES: &str = "\
@@ -44,20 +50,60 @@ fn insert_msgs(rt: &(impl Abort + AllocGlobal)) -> String {
     text
 }
 
-/// A store of them.
-fn filled(rt: &(impl Abort + AllocGlobal)) -> Store {
-    let mut store = store_of(rt, TABLES);
-    store.run(rt, insert_users(rt).as_str());
-    store.run(rt, insert_msgs(rt).as_str());
-    store
+/// What is kept behind a step that led to a version, and how often the version is looked at for it.
+fn looked(
+    rt: &(impl Abort + AllocGlobal),
+    micro: &MicroDb,
+    version: &Version,
+    step: &Step,
+) -> (MicroDb, u64)
+    requires { IsWellFormed version.now }
+{
+    let counted = Counted {
+        shown: Shown { version },
+        looks: Cell::new(0),
+    };
+    let kept = micro.with_moves(
+        rt.alloc(),
+        &counted,
+        step.moves.items(),
+        step.changes.items(),
+    );
+    (kept.expect(rt, "memory"), counted.looks.get())
+}
+
+/// Makes a write, and tells what is kept behind it, and how often the version behind it is looked at for that.
+fn followed(
+    rt: &(impl Abort + AllocGlobal),
+    store: &mut Store,
+    micro: &MicroDb,
+    text: &str,
+) -> (MicroDb, u64) {
+    let step = store.run(rt, text);
+    let both = looked(rt, micro, store.version(), &step);
+    drop(step);
+    both
+}
+
+/// What is kept of the users and their messages, which come into a store of the tables.
+fn filled(rt: &(impl Abort + AllocGlobal), store: &mut Store) -> MicroDb {
+    let none = MicroDb::new();
+    let (users, _) = followed(rt, store, &none, insert_users(rt).as_str());
+    drop(none);
+    let (all, _) = followed(rt, store, &users, insert_msgs(rt).as_str());
+    drop(users);
+    all
 }
 
 #[test]
 fn few_looks_for_shelves(rt: HostRuntime) {
-    let mut store = filled(&rt);
+    let mut store = store_of(&rt, TABLES);
+    let mut micro = filled(&rt, &mut store);
     for (write, most) in &CASES {
-        let looks = store.run(&rt, write);
+        let (after, looks) = followed(&rt, &mut store, &micro, write);
         assert!(rt; 0 < looks && looks <= *most, "{looks}: {write}");
+        micro = after;
     }
+    drop(micro);
     drop(store);
 }

@@ -1,13 +1,12 @@
 //! What is kept for data subjects as a store changes, worked out by hand.
-ghost use Rattle.std.specs.Prelude.{IsTrue};
-ghost use Rattle.schema_model.specs.Tables.{is_subject};
+ghost use Rattle.state_model.specs.Sound.{IsWellFormed};
 
-use crate::alike::{forget, get, subject_of};
 use crate::store::{Store, store_of};
-use own_base::{EdgeNo, Key, RowName, Subject, Value};
+use own_base::{EdgeNo, Key, RowName, Subject, TableNo, Value};
 use shelf_model::{Shelved, Shelves};
 use std::mem::drop;
 use std::process::Abort;
+use store_version::{Shown, Version};
 
 /// A copy: its table and key, the numbers of the edges by which the subject reaches the row, and the row's values.
 type Copied = (u32, i64, &'static [u32], &'static [Option<i64>]);
@@ -15,7 +14,7 @@ type Copied = (u32, i64, &'static [u32], &'static [Option<i64>]);
 /// What is kept for a user: copies of the rows that it owns, and the tables and keys of those that it sees.
 type Kept = (i64, &'static [Copied], &'static [(u32, i64)]);
 
-/// The writes of one commit, and what is kept behind it.
+/// Writes, each a commit of its own, with ` ;; ` between, and what is kept behind the last.
 type Case = (&'static str, &'static [Kept]);
 
 /// Edge 0 is that of orders, 1 that of senders, 2 that of receivers.
@@ -336,58 +335,92 @@ fn is_copy(copy: &Shelved, wanted: &Copied) -> bool {
         && are_values(copy.row.values(), values)
 }
 
-/// Looks at what is kept for a user, from each place on that one run is lent from.
-fn check_kept(
+/// The user of a number.
+fn user(number: i64) -> Subject {
+    Subject(RowName {
+        table: TableNo(0),
+        key: Key::Int(number),
+    })
+}
+
+/// Looks at the copies that are kept for a user, from each of two places on that a run is lent from.
+fn check_shelf(
     rt: &(impl Abort + AllocGlobal),
-    store: &Store,
-    subject: &Subject,
+    version: &Version,
     writes: &str,
-    wanted: &Kept,
-) {
-    let (user, shelf, seen) = *wanted;
-    let lent = store.lent();
-    let copies = lent.shelf_from(subject, 0);
-    assert_eq!(rt; copies.len(), shelf.len(), "{user}: {writes}");
+    subject: &Subject,
+    wanted: &[Copied],
+)
+    requires { IsWellFormed version.now }
+{
+    let shown = Shown { version };
+    let copies = shown.shelf_from(subject, 0);
+    assert_eq!(rt; copies.len(), wanted.len(), "{writes}");
     assert!(rt;
         copies
             .iter()
-            .zip(shelf)
-            .all(|(found, copy)| is_copy(&found.1, copy)),
-        "{user}: {writes}"
+            .zip(wanted)
+            .all(|(found, wanted)| is_copy(&found.1, wanted)),
+        "{writes}"
     );
-    assert_eq!(rt; lent.shelf_count(subject), shelf.len() as u64);
-    assert_eq!(rt;
-        lent.shelf_from(subject, 1).len(),
-        shelf.len().saturating_sub(1)
-    );
-    let sights = lent.seen_from(subject, 0);
-    assert_eq!(rt; sights.len(), seen.len(), "{user}: {writes}");
+    assert_eq!(rt; shown.shelf_count(subject), wanted.len() as u64);
+    let behind = shown.shelf_from(subject, 1);
+    assert_eq!(rt; behind.len(), wanted.len().saturating_sub(1));
+}
+
+/// Looks at the names that are kept for a user.
+fn check_seen(
+    rt: &(impl Abort + AllocGlobal),
+    version: &Version,
+    writes: &str,
+    subject: &Subject,
+    wanted: &[(u32, i64)],
+)
+    requires { IsWellFormed version.now }
+{
+    let shown = Shown { version };
+    let names = shown.seen_from(subject, 0);
+    assert_eq!(rt; names.len(), wanted.len(), "{writes}");
     assert!(rt;
-        sights
+        names
             .iter()
-            .zip(seen)
-            .all(|(found, name)| is_named(&found.1, *name)),
-        "{user}: {writes}"
+            .zip(wanted)
+            .all(|(found, wanted)| is_named(&found.1, *wanted)),
+        "{writes}"
     );
-    assert_eq!(rt; lent.seen_count(subject), seen.len() as u64);
+    assert_eq!(rt; shown.seen_count(subject), wanted.len() as u64);
 }
 
-/// Looks at what is kept for a user, and at access and erasure both ways.
-fn check_user(rt: &(impl Abort + AllocGlobal), store: &Store, writes: &str, wanted: &Kept) {
-    let subject = subject_of(rt, store, "users", &Key::Int(wanted.0));
-    check_kept(rt, store, &subject, writes, wanted);
-    drop(get(rt, store, &subject));
-    drop(forget(rt, store, &subject));
+/// Looks at what is kept for a user.
+fn check_kept(rt: &(impl Abort + AllocGlobal), store: &Store, writes: &str, wanted: &Kept) {
+    let (number, shelf, seen) = *wanted;
+    let subject = user(number);
+    check_shelf(rt, store.version(), writes, &subject, shelf);
+    check_seen(rt, store.version(), writes, &subject, seen);
+    drop(subject);
 }
 
-/// Makes the commits, one behind another, and looks at what is kept behind each.
+/// Makes writes, one behind another.
+fn run_all(rt: &(impl Abort + AllocGlobal), store: &mut Store, writes: &str) {
+    for text in writes.split(" ;; ") {
+        drop(store.run(rt, text));
+    }
+}
+
+/// Makes writes, and looks at what is kept behind them.
+fn check_case(rt: &(impl Abort + AllocGlobal), store: &mut Store, case: &Case) {
+    let (writes, kept) = *case;
+    run_all(rt, store, writes);
+    for wanted in kept {
+        check_kept(rt, store, writes, wanted);
+    }
+}
+
+/// Goes over cases, each behind the one before it.
 fn check_cases(rt: &(impl Abort + AllocGlobal), before: &str, cases: &[Case]) {
     let mut store = store_of(rt, before);
-    for (writes, kept) in cases {
-        store.run(rt, writes);
-        for wanted in *kept {
-            check_user(rt, &store, writes, wanted);
-        }
+    for case in cases {
+        check_case(rt, &mut store, case);
     }
     drop(store);
 }

@@ -1,3 +1,0 @@
-pub mod Create
-pub mod OneKept
-pub mod ToldOf
