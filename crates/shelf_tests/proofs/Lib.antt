@@ -1,3 +1,4 @@
 mod Creating
 mod FewColumns
+mod LentRows
 mod WriteTells
