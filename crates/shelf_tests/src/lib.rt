@@ -6,6 +6,8 @@ mod alike;
 #[cfg(test)]
 mod counted;
 #[cfg(test)]
+mod erasing;
+#[cfg(test)]
 mod looks;
 #[cfg(test)]
 mod shelves;

@@ -2,6 +2,7 @@
 ghost use Rattle.state_model.specs.Sound.{IsWellFormed};
 
 use crate::alike::check_get;
+use crate::erasing::check_forget;
 use crate::store::{Store, store_of};
 use own_base::{EdgeNo, Key, RowName, Subject, TableNo, Value};
 use shelf_model::{Shelved, Shelves};
@@ -392,13 +393,14 @@ fn check_seen(
     assert_eq!(rt; shown.seen_count(subject), wanted.len() as u64);
 }
 
-/// Looks at what is kept for a user, and at the answer to its GET both ways.
+/// Looks at what is kept for a user, and at its GET and its FORGET both ways.
 fn check_kept(rt: &(impl Abort + AllocGlobal), store: &Store, writes: &str, wanted: &Kept) {
     let (number, shelf, seen) = *wanted;
     let subject = user(number);
     check_shelf(rt, store.version(), writes, &subject, shelf);
     check_seen(rt, store.version(), writes, &subject, seen);
     check_get(rt, store.version(), &subject);
+    check_forget(rt, store.version(), &subject);
     drop(subject);
 }
 
