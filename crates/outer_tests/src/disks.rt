@@ -1,7 +1,7 @@
 ghost use Rattle.std.specs.Prelude.{◌≡◌, [], length, IsTrue};
 ghost use Rattle.own_base.specs.declared.number.Area.TheVariants.{A};
 
-use outer_world::{Disk, Failed, FileDisk, FuseDisk, MemDisk, RamDisk};
+use outer_world::{Disk, Failed, FileDisk, FuseDisk, MemDisk, RamDisk, UnreadDisk};
 use own_base::Area;
 use std::alloc::{AllocError, Global};
 use std::fs;
@@ -59,6 +59,21 @@ fn a_ram_disk_holds_what_was_written(rt: HostRuntime) -> Result<(), Fail> {
     assert_eq!(rt; disk.read_at(Area::A, 0, &mut piece), Ok(1));
     assert_eq!(rt; piece.as_slice(), b"a.".as_slice());
     assert_eq!(rt; (disk.faults(), disk.moment()), (0, 3));
+    Ok(())
+}
+
+#[test]
+fn an_unread_disk_keeps_lengths(rt: HostRuntime) -> Result<(), Fail> {
+    let mut disk = UnreadDisk::new();
+    assert_eq!(rt; disk.write_at(Area::B, 0, b"bytes"), Ok(()));
+    assert_eq!(rt; change(&mut disk), Ok(()));
+    assert_eq!(rt;
+        (length(&mut disk, Area::A), length(&mut disk, Area::B)),
+        (Ok(1), Ok(5))
+    );
+    assert_eq!(rt; piece_at(&mut disk, Area::B, 5), Ok((0, *b"....")));
+    assert_eq!(rt; piece_at(&mut disk, Area::B, 4), Err(Failed));
+    assert_eq!(rt; (disk.faults(), disk.moment()), (1, 4));
     Ok(())
 }
 

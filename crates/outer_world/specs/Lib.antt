@@ -18,6 +18,7 @@ pub mod MemSource
 pub mod OtherArea
 pub mod Overwritten
 pub mod PartOfBytes
+pub mod PastBytes
 pub mod PieceLength
 pub mod RamDisk
 pub mod RamDiskLaws

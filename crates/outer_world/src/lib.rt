@@ -23,6 +23,7 @@ mod sink;
 mod source;
 mod stdin_source;
 mod stdout_sink;
+mod unread_disk;
 mod writing;
 
 pub use areas::other_area;
@@ -41,4 +42,5 @@ pub use sink::Sink;
 pub use source::Source;
 pub use stdin_source::StdinSource;
 pub use stdout_sink::StdoutSink;
+pub use unread_disk::UnreadDisk;
 pub use writing::write_all;

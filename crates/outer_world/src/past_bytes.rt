@@ -1,5 +1,6 @@
 ghost use Rattle.std.specs.Prelude.{◌≡◌, ℕ, List, [], ◌∷◌};
 ghost use Rattle.std.specs.Borrow.{ftrue};
+ghost use Rattle.outer_world.specs.PastBytes.{cut_pair, written_pair};
 
 use std::marker::{Model, PhantomData};
 
@@ -32,5 +33,14 @@ impl PastBytes {
     /// What they hold after a change. Takes no memory.
     pub(crate) fn note(&mut self, _a: &[u8], _b: &[u8])
         ensures { (self.new.now ≡ (_a.now, _b.now)) × (self.new.before ≡ self.old.now ∷ self.old.before) }
+    {}
+    /// What they hold after bytes were written at a place of area A, or else of B. Takes no memory.
+    pub(crate) fn note_write(&mut self, _in_a: bool, _at: u64, _piece: &[u8])
+        ensures { (self.new.now ≡ written_pair self.old.now _in_a _at _piece.now) × (self.new.before ≡ self.old.now ∷ self.old.before) }
+    {}
+
+    /// What they hold after area A, or else B, was cut to a length. Takes no memory.
+    pub(crate) fn note_cut(&mut self, _in_a: bool, _len: u64)
+        ensures { (self.new.now ≡ cut_pair self.old.now _in_a _len) × (self.new.before ≡ self.old.now ∷ self.old.before) }
     {}
 }

@@ -8,7 +8,7 @@ ghost use Rattle.store_main.specs.Ended.{IsOfWords, IsWithoutFiles, RanOver};
 ghost use Rattle.store_main.specs.Words.{is_in_memory, is_served};
 
 use crate::ending::{Ending, disk_failed, out_of_memory, usage};
-use outer_world::{FileDisk, NowGate, RamDisk, Sink, Source, StdinSource, StdoutSink};
+use outer_world::{FileDisk, NowGate, Sink, Source, StdinSource, StdoutSink, UnreadDisk};
 use std::alloc::Global;
 use std::fs::{File, Files};
 use std::io::ErrorKind;
@@ -87,7 +87,7 @@ fn serve_in_memory<Rt: AllocGlobal + Threads + Wait + Sync, R: Source, W: Sink>(
     // It isn't damaged.
     ensures undamaged { (area : Area) (offset : ℕ) → result.fault ≢ Some (TopFault.Damaged area offset) }
 {
-    let disk = RamDisk::new(rt.alloc());
+    let disk = UnreadDisk::new();
     ended(run(rt, rt.alloc(), words, source, sink, disk, &NowGate))
 }
 
