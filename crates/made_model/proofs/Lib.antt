@@ -1,0 +1,2 @@
+mod LargeCalls
+mod ShortTexts

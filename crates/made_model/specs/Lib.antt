@@ -1,0 +1,5 @@
+pub mod Draw
+pub mod Made
+pub mod MadeTexts
+pub mod Summary
+pub mod SummaryText
