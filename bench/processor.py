@@ -1,5 +1,11 @@
-"""The time of the processor that programs take, for the benches: it counts their own work, and no waiting and no other program."""
+"""What programs take of the processor, for the benches: their own work, and no waiting and no other program."""
+import functools
 import resource
+import shutil
+import signal
+import subprocess
+import tempfile
+import time
 
 
 def spent():
@@ -11,3 +17,85 @@ def spent():
 def spent_by(usage):
     """Those of a process whose end was waited for with its usage."""
     return usage.ru_utime + usage.ru_stime
+
+
+class Cost:
+    """Seconds of the processor, and instructions, or None where the system tells none."""
+
+    def __init__(self, seconds, instructions=None):
+        self.seconds, self.instructions = seconds, instructions
+
+    def __sub__(self, other):
+        known = self.instructions is not None and other.instructions is not None
+        return Cost(self.seconds - other.seconds, self.instructions - other.instructions if known else None)
+
+    def beside(self, other, count):
+        """The instructions of one of so many calls, those of the other program, and the ratio; or nothing."""
+        if self.instructions is None or other.instructions is None:
+            return ""
+        here, there = self.instructions / count, other.instructions / count
+        return f"{here:,.0f} instructions each beside {there:,.0f}: {here / max(there, 1e-9):.1f}"
+
+    def each(self, count):
+        """The instructions of one of so many calls; or nothing."""
+        return "" if self.instructions is None else f"{self.instructions / count:,.0f} instructions each"
+
+
+PERF = ["perf", "stat", "-x,", "-e", "instructions:u"]
+
+
+def read_from(told):
+    """The number that perf wrote, if it counted."""
+    cells = [line.split(",") for line in told.read().splitlines() if "instructions" in line]
+    return int(cells[0][0]) if cells and cells[0][0].isdigit() else None
+
+
+def counted(command, source):
+    """The instructions that perf counts of a command outside the system, or None where it counts none."""
+    with tempfile.NamedTemporaryFile("r") as told:
+        done = subprocess.run([*PERF, "-o", told.name, "--", *command], stdin=source, stdout=subprocess.DEVNULL, stderr=subprocess.DEVNULL)
+        return read_from(told) if done.returncode == 0 else None
+
+
+@functools.lru_cache(maxsize=None)
+def tells_instructions():
+    """Whether perf is there, and the system lets it count."""
+    return shutil.which("perf") is not None and counted(["true"], subprocess.DEVNULL) is not None
+
+
+def instructions(command, path):
+    """The instructions of a run of the command with the file as its input, where the system tells them."""
+    if not tells_instructions():
+        return None
+    with open(path, "rb") as source:
+        return counted(command, source)
+
+
+def least(command, path, runs, output=subprocess.PIPE):
+    """What the command takes with the file as its input, by the least seconds of several runs, and what it wrote last."""
+    taken = []
+    for _ in range(runs):
+        with open(path, "rb") as source:
+            begin = spent()
+            done = subprocess.run(command, stdin=source, stdout=output, check=True)
+            taken.append(spent() - begin)
+    return Cost(min(taken), instructions(command, path)), done.stdout
+
+
+class Watch:
+    """Counts the instructions of a process that runs, from now on until it is told to end."""
+
+    def __init__(self, process):
+        self.told, self.perf = tempfile.NamedTemporaryFile("r"), None
+        if tells_instructions():
+            self.perf = subprocess.Popen([*PERF, "-o", self.told.name, "-p", str(process)], stderr=subprocess.DEVNULL)
+            # it needs a moment to begin
+            time.sleep(0.2)
+
+    def end(self):
+        """The instructions so far, where the system tells them."""
+        if self.perf is None:
+            return None
+        self.perf.send_signal(signal.SIGINT)
+        self.perf.wait()
+        return read_from(self.told)
