@@ -1,5 +1,5 @@
 -- What the calls of a large script are.
-use Rattle.std.proofs.Common.{◌≡◌, ℕ, ◌+◌, ◌*◌, ◌%◌, ◌<◌, ◌≤◌, List, [], ◌∷◌, ◌++◌, length, map, Bool, true, false, filter, refl, ap, sym, subst, ◌∙◌, arith}
+use Rattle.std.proofs.Common.{◌≡◌, ℕ, ◌+◌, ◌*◌, ◌%◌, ◌<◌, ◌≤◌, List, [], ◌∷◌, ◌++◌, length, map, Bool, true, false, filter, refl, ap, sym, subst, arith}
 use Rattle.std.specs.Prelude.{◌==◌, codes}
 use Rattle.std.specs.List.{AllByRecursion, flat_map, range_with_len}
 use Rattle.std.proofs.lemmas.List.{length-append, length-map}
@@ -15,7 +15,7 @@ use Rattle.script_model.specs.Numbered.{AreNumbered, Asking, call_after, numbere
 use Rattle.script_model.specs.Split.{IsOfASession}
 use Rattle.script_model.proofs.InputCalls.{length-numbered}
 use Rattle.made_model.specs.declared.limits.TheConstants.{PEOPLE}
-use Rattle.made_model.specs.Made.{AreRead, IsMade, calls_asking, in_one_session}
+use Rattle.made_model.specs.Made.{AreRead, IsMade, in_one_session}
 use Rattle.made_model.specs.MadeTexts.{erased_people, erasure_texts, made_texts, note_text, schema_texts, transfer_texts, user_text}
 use Rattle.made_model.proofs.ShortTexts.{made-short}
 

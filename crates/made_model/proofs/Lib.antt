@@ -1,2 +1,2 @@
 mod LargeCalls
-mod ShortTexts
+pub mod ShortTexts

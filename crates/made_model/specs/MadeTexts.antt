@@ -16,13 +16,15 @@ schema_texts =
 unfoldable pub user_text : ℕ → List ℕ
 user_text number = codes "INSERT INTO users VALUES (" ++ decimal number ++ codes ", 'u')"
 
--- the note behind so many others: of two people, and with a number, each drawn
+-- a note, by its number, of two people and with a number
+unfoldable pub noted_text : ℕ → ℕ → ℕ → ℕ → List ℕ
+noted_text number a b n =
+    codes "INSERT INTO notes VALUES (" ++ decimal number ++ codes ", " ++ decimal a ++ codes ", " ++ decimal b ++ codes ", " ++ decimal n ++ codes ")"
+
+-- the note behind so many others, for which the people and the number are drawn
 unfoldable pub note_text : ℕ → ℕ → ℕ → List ℕ
 note_text people seed before =
-    codes "INSERT INTO notes VALUES (" ++ decimal (before + 1)
-    ++ codes ", " ++ decimal (1 + draw seed (3 * before) people)
-    ++ codes ", " ++ decimal (1 + draw seed (3 * before + 1) people)
-    ++ codes ", " ++ decimal (draw seed (3 * before + 2) 1000) ++ codes ")"
+    noted_text (before + 1) (1 + draw seed (3 * before) people) (1 + draw seed (3 * before + 1) people) (draw seed (3 * before + 2) 1000)
 
 -- a note's number becomes smaller, and another's larger
 unfoldable pub taken_text : ℕ → ℕ → List ℕ
@@ -41,8 +43,14 @@ transfer_texts people seed draws =
     ∷ []
 
 -- a person is shown what is held about it, and erased
+unfoldable pub shown_text : ℕ → List ℕ
+shown_text number = codes "GDPR GET users " ++ decimal number
+
+unfoldable pub erased_text : ℕ → List ℕ
+erased_text number = codes "GDPR FORGET users " ++ decimal number
+
 unfoldable pub erasure_texts : ℕ → List (List ℕ)
-erasure_texts number = (codes "GDPR GET users " ++ decimal number) ∷ (codes "GDPR FORGET users " ++ decimal number) ∷ []
+erasure_texts number = shown_text number ∷ erased_text number ∷ []
 
 -- every fourth person, from the first on
 abbrev pub erased_people : ℕ → List ℕ

@@ -1,5 +1,5 @@
 -- What the calls of a run came to, in numbers.
-use Rattle.std.specs.Prelude.{ℕ, ◌-◌, ℤ, ◌+ℤ◌, pos, List, [], ◌∷◌, Bool, true, false, ◌&&◌, not, length, count_by, sum_by, fold, slice_get}
+use Rattle.std.specs.Prelude.{ℕ, ℤ, ◌+ℤ◌, pos, List, [], ◌∷◌, Bool, true, false, length, count_by, sum_by, fold, slice_get}
 use Rattle.std.specs.Int.{w128, saturate_signed}
 use Rattle.std.specs.Option.{option_map_or}
 use Rattle.own_base.specs.declared.value.Value.{Value}
