@@ -1,12 +1,10 @@
 -- What is kept is made right, step by step.
-use Rattle.std.proofs.Common.{◌≡◌, ℕ, ◌+◌, ◌<◌, List, [], ◌∷◌, ◌++◌, length, get_or, take, Bool, true, false, inl, inr, refl, ap, sym, ◌∙◌, subst}
-use Rattle.std.specs.Prelude.{◌⊎◌, ◌≢◌, ◌&&◌, not, Contains, Option}
-use Rattle.std.specs.Ordering.{is_eq, ordering_then}
-use Rattle.std.specs.declared.cmp.Ordering.{Ordering}
-use Rattle.std.specs.declared.cmp.Ordering.TheVariants.{Less, Equal, Greater}
-use Rattle.std.proofs.lemmas.Bool.{and_parts}
+use Rattle.std.proofs.Common.{◌≡◌, ℕ, ◌+◌, ◌-◌, ◌<◌, ◌≤◌, List, [], ◌∷◌, ◌++◌, length, drop, get_or, take, Bool, true, false, inl, inr, refl, ap, sym, ◌∙◌, subst, arith}
+use Rattle.std.specs.Prelude.{◌⊎◌, ◌≢◌, not, ◌&&◌, Contains, Option}
+use Rattle.std.specs.Ordering.{is_eq}
 use Rattle.std.proofs.lemmas.Cmp.{tied_itself}
-use Rattle.std.proofs.lemmas.List.{take_more}
+use Rattle.std.proofs.lemmas.List.{drop_more, take_more}
+use Rattle.std.proofs.Math.Seq.{drop-length}
 use Rattle.std.proofs.lemmas.List.Elements.{Contains-append_cases}
 use Rattle.own_base.specs.declared.change.Change.{Change}
 use Rattle.own_base.specs.declared.row_name.RowName.{RowName}
@@ -15,10 +13,10 @@ use Rattle.own_model.specs.declared.schema.Edge.{Edge}
 use Rattle.own_model.specs.Db.{Db, IsOrdered}
 use Rattle.owner_model.specs.Joins.{Joins}
 use Rattle.schema_model.specs.OwnerSchema.{IsOwnerSchema}
-use Rattle.subject_model.specs.NameOrder.{name_cmp}
+use Rattle.subject_model.specs.Named.{is_name}
 use Rattle.subject_model.specs.Owners.{owns, reaches}
 use Rattle.subject_model.proofs.Members.{contains_cases, contains_none}
-use Rattle.owner_sets.specs.SubjectOrder.{subject_cmp}
+use Rattle.subject_model.proofs.NamedLemmas.{one_name}
 use Rattle.link_model.specs.Whose.{reach_at}
 use Rattle.move_model.specs.declared.owner_move.OwnerMove.{OwnerMove}
 use Rattle.move_model.specs.declared.owner_move.Standing.{Standing}
@@ -28,30 +26,18 @@ use Rattle.move_model.specs.Standing.{standing}
 use Rattle.move_model.proofs.StandingLemmas.{is_listed, listed_contains, not_listed}
 use Rattle.shelf_model.specs.declared.shelved.Shelved.{Shelved}
 use Rattle.shelf_model.specs.At.{copy_at, seen_at}
-use Rattle.shelf_model.proofs.KeptRows.{one_name}
 use Rattle.micro_db.specs.declared.micro.MicroDb.{MicroDb}
 use Rattle.micro_db.specs.Before.{IsBefore}
 use Rattle.micro_db.specs.Filed.{PutsAt}
 use Rattle.micro_db.specs.FiledOrder.{place_cmp, place_total}
 use Rattle.micro_db.specs.Kept.{StandsFor, copy_kept, itself, name_of_copy, seen_kept}
 use Rattle.micro_db.specs.Looked.{AreLookedAt}
-use Rattle.micro_db.specs.Renewed.{ForSomeOf, IsAsBefore, IsMoveAt, IsOf, IsReachedAt, IsRight, Renews}
+use Rattle.micro_db.specs.Renewed.{AreRight, ForSomeOf, IsAsBefore, IsMoveAt, IsOf, IsReachedAt, IsRight, Renews}
 use Rattle.micro_db.proofs.AmongLemmas.{reaches_contained}
+use Rattle.micro_db.proofs.FiledLemmas.{one_place}
 use Rattle.micro_db.proofs.StandingSame.{GoesOver, no_copy, no_sight, owning_reaches, same_by, same_copy, same_owns, same_reaches, same_sees, same_sight}
 
-both_eq : (o p : Ordering) → is_eq (ordering_then o p) ≡ (is_eq o && is_eq p)
-both_eq Less p = refl
-both_eq Equal p = refl
-both_eq Greater p = refl
-
--- places that tie are one
-one_place : (subject other : Subject) (name own : RowName) → is_eq (place_cmp (subject, name) (other, own)) ≡ true → (subject ≡ other) × (name ≡ own)
-one_place subject other name own tied =
-    let both = and_parts (is_eq (subject_cmp subject other)) (is_eq (name_cmp name own)) (sym (both_eq (subject_cmp subject other) (name_cmp name own)) ∙ tied) in
-    let made : RowName → Subject = λ n. record { 0 = n } in
-    (ap made (one_name subject.0 other.0 both.0), one_name name own both.1)
-
--- and one place ties with itself
+-- a place ties with itself
 same_place : (subject other : Subject) (name own : RowName) → IsOf subject name other own → is_eq (place_cmp (subject, name) (other, own)) ≡ true
 same_place subject other name own of =
     subst (λ (s : Subject). is_eq (place_cmp (subject, name) (s, own)) ≡ true) of.same_subject
@@ -129,6 +115,61 @@ module _ {X : Type 0} (db : Db) (IsAsked : X → Subject → RowName → Type 0)
     where
       longer : take (count + 1) xs ≡ take count xs ++ x ∷ []
       longer = take_more xs count x within ∙ ap (λ y. take count xs ++ y ∷ []) (sym next)
+
+  -- from the last on nothing is asked for at first
+  pub renews-last : (micro : MicroDb) → Renews db (ForSomeOf IsAsked (drop (length xs) xs)) micro micro
+  renews-last micro =
+      record {
+        right = λ subject name asked. absurd (contains_none asked.0 (subst (λ list. Contains list asked.0) (drop-length xs) asked.1.0));
+        rest = λ subject name. inr (record { copy = refl; sight = refl });
+      }
+
+  -- with what is asked for the one before a place
+  pub renews-before : (place : ℕ) (x : X) (start old new : MicroDb) → 0 < place → place ≤ length xs → x ≡ get_or xs (place - 1) x → Renews db (ForSomeOf IsAsked (drop place xs)) start old → Renews db (IsAsked x) old new
+      → Renews db (ForSomeOf IsAsked (drop (place - 1) xs)) start new
+  renews-before place x start old new some within next so_far renews =
+      renews-both db (ForSomeOf IsAsked (drop place xs)) (IsAsked x) (ForSomeOf IsAsked (drop (place - 1) xs)) start old new
+      (λ subject name asked. elim (contains_cases x (drop place xs) asked.0 (subst (λ list. Contains list asked.0) longer asked.1.0)) [
+        | inl same ↦ inr (subst (λ y. IsAsked y subject name) (sym same) asked.1.1)
+        | inr behind ↦ inl (asked.0, (behind, asked.1.1))
+      ])
+      so_far renews
+    where
+      back : place - 1 + 1 ≡ place
+      back = omega (arith, some)
+
+      before : place - 1 < length xs
+      before = omega (arith, some, within)
+
+      longer : drop (place - 1) xs ≡ x ∷ drop place xs
+      longer = drop_more xs (place - 1) x before ∙ (ap (λ y. y ∷ drop (place - 1 + 1) xs) (sym next) ∙ ap (λ n. x ∷ drop n xs) back)
+
+  -- at the first place all are asked for
+  pub renews-first : (place : ℕ) (start new : MicroDb) → place ≤ 0 → Renews db (ForSomeOf IsAsked (drop place xs)) start new → Renews db (ForSomeOf IsAsked xs) start new
+  renews-first place start new none renews = subst (λ n. Renews db (ForSomeOf IsAsked (drop n xs)) start new) (let first : place ≡ 0 = omega (arith, none) in first) renews
+
+  -- with what is asked for the next one, where it is right for some that it is renewed alone for the others
+  pub renews-more-right : (moves : List OwnerMove) (count : ℕ) (x : X) (start old new : MicroDb) → count < length xs → x ≡ get_or xs count x
+      → (AreRight db moves start → Renews db (ForSomeOf IsAsked (take count xs)) start old) → (AreRight db moves old → Renews db (IsAsked x) old new)
+      → AreRight db moves start → Renews db (ForSomeOf IsAsked (take (count + 1) xs)) start new
+  renews-more-right moves count x start old new within next so_far renews are =
+      let before = so_far are in
+      renews-more count x start old new within next before (renews (λ subject name asked. still_right db start old subject name (are subject name asked) (before.rest subject name)))
+
+-- where a subject moved at a row, and that is right already, nothing has to be renewed
+pub renews-none : (db : Db) (moves : List OwnerMove) (subject : Subject) (name : RowName) (micro : MicroDb) → ForSomeOf IsMoveAt moves subject name → AreRight db moves micro → Renews db (IsOf subject name) micro micro
+renews-none db moves subject name micro moved are =
+    record {
+      right = λ other own of. subst (λ (s : Subject). IsRight db micro s own) of.same_subject (subst (λ (n : RowName). IsRight db micro subject n) of.same_name (are subject name moved));
+      rest = λ other own. inr (record { copy = refl; sight = refl });
+    }
+
+-- a move whose names are those of a subject and a row is at these
+pub moved-at : (moves : List OwnerMove) (place : ℕ) (moved : OwnerMove) (subject : Subject) (name : RowName) → place < length moves → moved ≡ get_or moves place moved → is_name moved.name name ≡ true → is_name moved.subject.0 subject.0 ≡ true → ForSomeOf IsMoveAt moves subject name
+moved-at moves place moved subject name within is same_name same_subject =
+    let made : RowName → Subject = λ n. record { 0 = n } in
+    let among : Contains moves moved = (place, within, sym is) in
+    (moved, (among, record { same_subject = ap made (one_name moved.subject.0 subject.0 same_subject); same_name = one_name moved.name name same_name }))
 
 -- whether two are the same
 alike : Standing → Standing → Bool

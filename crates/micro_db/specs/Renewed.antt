@@ -33,11 +33,15 @@ pub record IsOf (subject : Subject) (name : RowName) (other : Subject) (own : Ro
 abbrev pub IsMoveAt : OwnerMove → Subject → RowName → Type 0
 IsMoveAt moved = IsOf moved.subject moved.name
 
+-- for some of these
+abbrev pub ForSomeOf : {X : Type 0} → (X → Subject → RowName → Type 0) → List X → Subject → RowName → Type 0
+ForSomeOf {X} IsAsked xs subject name = (x : X) × (Contains xs x × IsAsked x subject name)
+
+-- What is kept is right where subjects moved.
+abbrev pub AreRight : Db → List OwnerMove → MicroDb → Type 0
+AreRight db moves micro = (subject : Subject) (name : RowName) → ForSomeOf IsMoveAt moves subject name → IsRight db micro subject name
+
 -- for one row and each subject that reaches it
 pub record IsReachedAt (db : Db) (name : RowName) (subject : Subject) (own : RowName) : Type 0 where
   pub reached : Contains (reach_at db name) subject
   pub same_name : name ≡ own
-
--- for some of these
-abbrev pub ForSomeOf : {X : Type 0} → (X → Subject → RowName → Type 0) → List X → Subject → RowName → Type 0
-ForSomeOf {X} IsAsked xs subject name = (x : X) × (Contains xs x × IsAsked x subject name)

@@ -6,7 +6,7 @@ use crate::by::edges_by;
 use crate::rows::row_of;
 use link_model::Linked;
 use own_base::{MakeCopy, RowName, Subject};
-use shelf_model::Shelved;
+use shelf_model::{EdgeList, Shelved};
 use std::alloc::{AllocError, Global};
 
 /// A copy of a row, with the edges by which a subject reaches it; none where there is no row of the name.
@@ -22,7 +22,8 @@ pub fn copy_of<N: Linked>(
     let Some(row) = row_of(view, name) else {
         return Ok(None);
     };
-    let by = edges_by(alloc, view, name, row, subject)?;
+    let edges = edges_by(alloc, view, name, row, subject)?;
+    let by = EdgeList::from_list(alloc, edges)?;
     let name = name.copy(alloc)?;
     let row = row.copy(alloc)?;
     Ok(Some(Shelved { name, row, by }))

@@ -79,7 +79,8 @@ impl<T: OfRow> Files<T> {
 }
 
 impl<T: OfRow + MakeCopy + Drop> Files<T> {
-    /// Files something under a subject for a row, in place of what is there, or takes that away.
+    /// Files something under a subject for a row, in place of what is there, or takes that away. Where there is nothing to take
+    /// away, no page is made new.
     pub(crate) fn put(
         &mut self,
         alloc: Global,
@@ -94,6 +95,9 @@ impl<T: OfRow + MakeCopy + Drop> Files<T> {
         let own = name.copy(alloc)?;
         let filed = filed_under(alloc, subject, item)?;
         let place = (owner, own);
+        if filed.is_none() && self.pages.get(&place).is_none() {
+            return Ok(());
+        }
         self.pages.change(alloc, &Filing { place, filed })
     }
 }

@@ -81,7 +81,7 @@ impl MicroDb {
         let names = looked_at(alloc, after, moves, changes)?;
         let mut kept = self.copy(alloc)?;
         kept.renew_moved(alloc, after, moves)?;
-        kept.renew_rows(alloc, after, names.items())?;
+        kept.renew_rows(alloc, after, moves, names.items())?;
         Ok(kept)
     }
 }

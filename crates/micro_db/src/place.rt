@@ -9,7 +9,7 @@ use std::cmp::Ordering;
 use table_part::hint_of_key;
 
 /// How one name stands to another: by table, then by key. Takes no memory.
-fn compare_names(one: &RowName, other: &RowName) -> Ordering
+pub(crate) fn compare_names(one: &RowName, other: &RowName) -> Ordering
     ensures { result ≡ name_cmp one.now other.now }
 {
     match one.table.0.cmp(&other.table.0) {
@@ -19,34 +19,62 @@ fn compare_names(one: &RowName, other: &RowName) -> Ordering
 }
 
 /// How one subject stands to another. Takes no memory.
-fn compare_subjects(one: &Subject, other: &Subject) -> Ordering
+pub(crate) fn compare_subjects(one: &Subject, other: &Subject) -> Ordering
     ensures { result ≡ subject_cmp one.now other.now }
 {
     compare_names(&one.0, &other.0)
 }
 
-/// The bits of a hint that are a key's.
-const KEY_BITS: u32 = 57;
+/// The numbers of subjects beside which a row's name has room in a hint: those below this one, from 0 on.
+const FEW: i64 = 1 << 24;
 
-/// The middle of the numbers that a key's bits tell apart.
-const MIDDLE: i64 = 1 << (KEY_BITS - 1);
+/// The bits of a hint that are a row's name, where it has room, and those of these that are its key.
+const ROW_BITS: u32 = 34;
 
-/// The hint of a key among its table's: a number as it is, as far as there is room, and of a text what it begins with.
-fn hint_in_table(key: &Key) -> u64 {
-    match key {
+const ROW_KEY_BITS: u32 = 30;
+
+/// The bits of a hint that are a subject's key and what is beside it. Above them stand two by which such keys are told apart
+/// as they rise, negative numbers, few, others and texts, and four of the subject's table.
+const KEY_BITS: u32 = 58;
+
+/// The greatest number that so many bits hold.
+const GREATEST: i64 = (1 << KEY_BITS) - 1;
+
+/// The hint of a row's name: its table, then its key, a number as far as there is room, and of a text what it begins with.
+fn hint_of_row(name: &RowName) -> u64 {
+    let table = u64::from(name.table.0.min(15)) << ROW_KEY_BITS;
+    let key = match &name.key {
         Key::Int(number) => (*number)
-            .max(-MIDDLE)
-            .min(MIDDLE - 1)
-            .wrapping_add(MIDDLE)
+            .max(0)
+            .min((1 << ROW_KEY_BITS) - 1)
             .cast_unsigned(),
-        Key::Text(_) => hint_of_key(key) >> (64 - KEY_BITS),
+        Key::Text(_) => hint_of_key(&name.key) >> (64 - ROW_KEY_BITS),
+    };
+    table | key
+}
+
+/// The hint of a subject's key, and of a row's name where there is room.
+fn hint_in_table(key: &Key, name: &RowName) -> u64 {
+    match key {
+        Key::Int(number) if *number < 0 => {
+            (*number)
+                .max(-GREATEST)
+                .wrapping_add(GREATEST)
+                .cast_unsigned()
+        }
+        Key::Int(number) if *number < FEW => {
+            let own = (*number).cast_unsigned() << ROW_BITS;
+            (1 << KEY_BITS) | own | hint_of_row(name)
+        }
+        Key::Int(number) => (2 << KEY_BITS) | (*number).min(GREATEST).cast_unsigned(),
+        Key::Text(_) => (3 << KEY_BITS) | (hint_of_key(key) >> (64 - KEY_BITS)),
     }
 }
 
-/// The hint of a subject: its table, then its key.
-fn hint_of_subject(subject: &Subject) -> u64 {
-    let table = u64::from(subject.0.table.0.min(127));
-    (table << KEY_BITS) | hint_in_table(&subject.0.key)
+/// The hint of a place: the subject's table, its key, and the row's name where there is room.
+fn hint_of_place(subject: &Subject, name: &RowName) -> u64 {
+    let table = u64::from(subject.0.table.0.min(15)) << (KEY_BITS + 2);
+    table | hint_in_table(&subject.0.key, name)
 }
 
 /// What is filed is found by its subject, then by its row's name.
@@ -70,11 +98,11 @@ impl<T: OfRow> KeyOf<(Subject, T)> for ByPlace {
     }
 
     fn item_hint(self, filed: &(Subject, T)) -> u64 {
-        hint_of_subject(&filed.0)
+        hint_of_place(&filed.0, filed.1.row_name())
     }
 
     fn key_hint(self, place: &(Subject, RowName)) -> u64 {
-        hint_of_subject(&place.0)
+        hint_of_place(&place.0, &place.1)
     }
 
     ghost total = { place_total };

@@ -1,17 +1,20 @@
-ghost use Rattle.std.specs.Prelude.{◌≡◌, IfOk, OnOk};
+ghost use Rattle.std.specs.Prelude.{◌≡◌, IfOk, IsTrue, OnOk};
 ghost use Rattle.schema_model.specs.OwnerSchema.{IsOwnerSchema};
 ghost use Rattle.shelf_model.specs.At.{copy_at, seen_at};
-ghost use Rattle.micro_db.specs.Renewed.{ForSomeOf, IsMoveAt, IsOf, IsReachedAt, Renews};
+ghost use Rattle.micro_db.specs.Renewed.{AreRight, ForSomeOf, IsMoveAt, IsOf, IsReachedAt, Renews};
 
 use crate::copying::copy_of;
 use crate::micro::MicroDb;
+use crate::place::{compare_names, compare_subjects};
 use crate::rows::is_there;
 use crate::standing::{owns, reaches};
 use link_model::Linked;
 use move_model::OwnerMove;
 use own_base::{MakeCopy, RowName, Subject};
+use row_reading::is_name;
 use shelf_model::Shelved;
 use std::alloc::{AllocError, Global};
+use std::cmp::Ordering;
 
 /// The copy of a row that is there, where the subject owns it.
 fn copy_at<N: Linked>(
@@ -47,6 +50,25 @@ fn seen_at<N: Linked>(
     }
 }
 
+/// Whether a move is below that of a subject and a row: by row, then by subject.
+fn is_below(moved: &OwnerMove, subject: &Subject, name: &RowName) -> bool {
+    match compare_names(&moved.name, name) {
+        Ordering::Equal => compare_subjects(&moved.subject, subject).is_lt(),
+        apart => apart.is_lt(),
+    }
+}
+
+/// Whether a subject moved at a row, of moves that rise. It takes as many looks as their number has bits, and no memory.
+fn has_moved(moves: &[OwnerMove], subject: &Subject, name: &RowName) -> bool
+    ensures { IsTrue result → ForSomeOf IsMoveAt moves.now subject.now name.now }
+{
+    let at = moves.partition_point(|moved| is_below(moved, subject, name));
+    match moves.get(at) {
+        Some(moved) => is_name(&moved.name, name) && is_name(&moved.subject.0, &subject.0),
+        None => false,
+    }
+}
+
 impl MicroDb {
     /// Makes right what is kept of a row for a subject.
     fn renew<N: Linked>(
@@ -66,7 +88,8 @@ impl MicroDb {
         Ok(())
     }
 
-    /// Makes right what is kept where a subject stands otherwise to a row than before.
+    /// Makes right what is kept where a subject stands otherwise to a row than before, from the last move on: what goes from a
+    /// page's end goes in place, and what goes from its beginning doesn't.
     pub(crate) fn renew_moved<N: Linked>(
         &mut self,
         alloc: Global,
@@ -76,40 +99,64 @@ impl MicroDb {
         requires { IsOwnerSchema (N.db after.now).schema }
         ensures { OnOk result (Renews (N.db after.now) (ForSomeOf IsMoveAt moves.now) self.old self.new) }
     {
-        for moved in moves {
+        let mut left = moves.len();
+        while left > 0 {
+            left -= 1;
+            let moved = &moves[left];
             self.renew(alloc, after, &moved.subject, &moved.name)?;
         }
         Ok(())
     }
 
-    /// Makes right what is kept of a row for the subjects that reach it.
+    /// Makes right what is kept of a row for a subject, where it didn't move there: else it is right already.
+    fn renew_unmoved<N: Linked>(
+        &mut self,
+        alloc: Global,
+        after: &N,
+        moves: &[OwnerMove],
+        subject: &Subject,
+        name: &RowName,
+    ) -> Result<(), AllocError>
+        requires { IsOwnerSchema (N.db after.now).schema }
+        ensures { OnOk result (AreRight (N.db after.now) moves.now self.old → Renews (N.db after.now) (IsOf subject.now name.now) self.old self.new) }
+    {
+        if has_moved(moves, subject, name) {
+            return Ok(());
+        }
+        self.renew(alloc, after, subject, name)?;
+        Ok(())
+    }
+
+    /// Makes right what is kept of a row for the subjects that reach it, where it is right for those that moved.
     fn renew_row<N: Linked>(
         &mut self,
         alloc: Global,
         after: &N,
+        moves: &[OwnerMove],
         name: &RowName,
     ) -> Result<(), AllocError>
         requires { IsOwnerSchema (N.db after.now).schema }
-        ensures { OnOk result (Renews (N.db after.now) (IsReachedAt (N.db after.now) name.now) self.old self.new) }
+        ensures { OnOk result (AreRight (N.db after.now) moves.now self.old → Renews (N.db after.now) (IsReachedAt (N.db after.now) name.now) self.old self.new) }
     {
         for subject in after.reach(name) {
-            self.renew(alloc, after, subject, name)?;
+            self.renew_unmoved(alloc, after, moves, subject, name)?;
         }
         Ok(())
     }
 
-    /// Makes right what is kept of these rows for the subjects that reach them.
+    /// Makes right what is kept of these rows for the subjects that reach them, where it is right for those that moved.
     pub(crate) fn renew_rows<N: Linked>(
         &mut self,
         alloc: Global,
         after: &N,
+        moves: &[OwnerMove],
         names: &[RowName],
     ) -> Result<(), AllocError>
         requires { IsOwnerSchema (N.db after.now).schema }
-        ensures { OnOk result (Renews (N.db after.now) (ForSomeOf (IsReachedAt (N.db after.now)) names.now) self.old self.new) }
+        ensures { OnOk result (AreRight (N.db after.now) moves.now self.old → Renews (N.db after.now) (ForSomeOf (IsReachedAt (N.db after.now)) names.now) self.old self.new) }
     {
         for name in names {
-            self.renew_row(alloc, after, name)?;
+            self.renew_row(alloc, after, moves, name)?;
         }
         Ok(())
     }

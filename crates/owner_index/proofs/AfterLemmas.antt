@@ -25,7 +25,7 @@ use Rattle.move_model.specs.Moves.{AreMovesOf, IsMoveOf}
 use Rattle.move_model.specs.Standing.{standing}
 use Rattle.move_model.proofs.StandingLemmas.{is_listed, listed_contains, not_listed, standing-by, standing_by}
 use Rattle.link_model.specs.Whose.{as_subject}
-use Rattle.owner_index.specs.declared.entry.Entry.{Entry}
+use Rattle.owner_index.specs.Entry.{Entry}
 use Rattle.owner_index.specs.declared.which.Which.TheVariants.{Owners, Reach}
 use Rattle.owner_index.specs.Before.{IsBefore}
 use Rattle.owner_index.specs.Held.{IsRight, StandsFor, owners_of, reach_of}

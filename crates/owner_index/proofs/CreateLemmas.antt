@@ -17,7 +17,7 @@ use Rattle.state_model.proofs.WellFormedLemmas.{ordered-create, ordered-create_v
 use Rattle.subject_model.specs.Paths.{is_subject_row}
 use Rattle.subject_model.proofs.SamePaths.{AreAlike, owners-alike, reach-alike}
 use Rattle.link_model.specs.Whose.{as_subject}
-use Rattle.owner_index.specs.declared.entry.Entry.{Entry}
+use Rattle.owner_index.specs.Entry.{Entry}
 use Rattle.owner_index.specs.declared.which.Which.TheVariants.{Owners, Reach}
 use Rattle.owner_index.specs.Held.{StandsFor}
 use Rattle.owner_index.proofs.TablesLemmas.{listed_are}

@@ -20,7 +20,7 @@ use Rattle.owner_sets.specs.IsSortedSet.{IsSortedSet}
 use Rattle.owner_sets.specs.SubjectOrder.{subject_cmp}
 use Rattle.move_model.proofs.Listing.{Listed, Whose, solved}
 use Rattle.link_model.specs.Whose.{as_subject}
-use Rattle.owner_index.specs.declared.entry.Entry.{Entry}
+use Rattle.owner_index.specs.Entry.{Entry}
 use Rattle.owner_index.specs.declared.upper.Upper.{Upper}
 use Rattle.owner_index.specs.declared.which.Which.{Which}
 use Rattle.owner_index.specs.declared.which.Which.TheVariants.{Owners, Reach}

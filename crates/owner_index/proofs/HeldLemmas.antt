@@ -9,7 +9,7 @@ use Rattle.page_model.specs.Changed.{with_change}
 use Rattle.page_model.proofs.FoundChanged.{found_changed}
 use Rattle.subject_model.specs.NameOrder.{name_cmp}
 use Rattle.subject_model.proofs.RisingNames.{name_order}
-use Rattle.owner_index.specs.declared.entry.Entry.{Entry}
+use Rattle.owner_index.specs.Entry.{Entry}
 use Rattle.owner_index.specs.Held.{SetsAt, entry_of}
 
 either : (f : Entry → List Subject) (b : Bool) (item other : Option Entry) → option_map_or f (cond b item other) [] ≡ cond b (option_map_or f item []) (option_map_or f other [])

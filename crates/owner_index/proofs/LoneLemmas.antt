@@ -29,7 +29,7 @@ use Rattle.move_model.specs.Moves.{AreMovesOf, IsMoveOf}
 use Rattle.move_model.specs.Standing.{standing}
 use Rattle.move_model.proofs.StandingLemmas.{standing-by, standing_by}
 use Rattle.link_model.specs.Whose.{as_subject}
-use Rattle.owner_index.specs.declared.entry.Entry.{Entry}
+use Rattle.owner_index.specs.Entry.{Entry}
 use Rattle.owner_index.specs.Before.{IsBefore}
 use Rattle.owner_index.specs.Held.{StandsFor}
 

@@ -15,7 +15,7 @@ use Rattle.subject_model.specs.Named.{is_there}
 use Rattle.subject_model.specs.Owners.{owners, reach}
 use Rattle.owner_sets.proofs.DerivedOrder.{derived_eq, derived_exact}
 use Rattle.link_model.specs.Whose.{as_subject}
-use Rattle.owner_index.specs.declared.entry.Entry.{Entry}
+use Rattle.owner_index.specs.Entry.{Entry}
 use Rattle.owner_index.specs.declared.which.Which.{Which}
 use Rattle.owner_index.specs.declared.which.Which.TheVariants.{Owners, Reach}
 use Rattle.owner_index.specs.Adds.{Adds, ForSome}

@@ -23,7 +23,7 @@ use Rattle.subject_model.proofs.Members.{all_contained, contains_cases, contains
 use Rattle.subject_model.proofs.NamedLemmas.{one_key}
 use Rattle.subject_model.proofs.RisingNames.{name_order}
 use Rattle.link_model.specs.Whose.{as_subject}
-use Rattle.owner_index.specs.declared.entry.Entry.{Entry}
+use Rattle.owner_index.specs.Entry.{Entry}
 use Rattle.owner_index.specs.declared.which.Which.{Which}
 use Rattle.owner_index.specs.Held.{IsRight, held, listed}
 use Rattle.owner_index.specs.Settled.{AreNamesOf, IsRightAbove, IsRightAboveTable, Settles, SettlesSome, SettlesTable}

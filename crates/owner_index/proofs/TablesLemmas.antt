@@ -24,7 +24,7 @@ use Rattle.move_model.proofs.KeptLists.{kept_list}
 use Rattle.move_model.proofs.Listing.{AreListsOf, owners_are, reach_are}
 use Rattle.move_model.proofs.StandingLemmas.{is_listed, listed_contains, not_listed}
 use Rattle.link_model.specs.Whose.{as_subject}
-use Rattle.owner_index.specs.declared.entry.Entry.{Entry}
+use Rattle.owner_index.specs.Entry.{Entry}
 use Rattle.owner_index.specs.declared.which.Which.{Which}
 use Rattle.owner_index.specs.declared.which.Which.TheVariants.{Owners, Reach}
 use Rattle.owner_index.specs.Held.{IsRight, StandsFor, counts, listed}

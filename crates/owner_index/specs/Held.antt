@@ -11,7 +11,7 @@ use Rattle.subject_model.specs.LocalEquation.{counts_for_owners, counts_for_reac
 use Rattle.subject_model.specs.NameOrder.{name_cmp}
 use Rattle.subject_model.specs.Owners.{owners, reach}
 use Rattle.link_model.specs.Whose.{as_subject, owners_at, reach_at}
-use Rattle.owner_index.specs.declared.entry.Entry.{Entry}
+use Rattle.owner_index.specs.Entry.{Entry}
 use Rattle.owner_index.specs.declared.which.Which.{Which}
 use Rattle.owner_index.specs.declared.which.Which.TheVariants.{Owners, Reach}
 

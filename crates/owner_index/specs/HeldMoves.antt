@@ -10,7 +10,7 @@ use Rattle.move_model.specs.declared.owner_move.OwnerMove.{OwnerMove}
 use Rattle.move_model.specs.declared.owner_move.Standing.{Standing}
 use Rattle.move_model.specs.declared.owner_move.Standing.TheVariants.{Nothing, Reaches, Owns}
 use Rattle.move_model.specs.MoveOrder.{move_cmp}
-use Rattle.owner_index.specs.declared.entry.Entry.{Entry}
+use Rattle.owner_index.specs.Entry.{Entry}
 use Rattle.owner_index.specs.Held.{owners_of, reach_of}
 
 -- the subjects that are held rise, those of each row

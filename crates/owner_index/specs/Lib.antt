@@ -1,10 +1,12 @@
 pub mod Adds
 pub mod Before
+pub mod Entry
 pub mod Gathered
 pub mod Held
 pub mod HeldMoves
 pub mod Names
 pub mod Referrers
 pub mod Settled
+pub mod SubjectPlaces
 pub mod UnderWay
 pub mod Uppers

@@ -9,7 +9,11 @@ use Rattle.subject_model.specs.NameOrder.{name_cmp}
 abbrev pub is_of : TableNo → RowName → Bool
 is_of table name = name.table.0 == table.0
 
+-- the same names
+abbrev pub HasSame : List RowName → List RowName → Type 0
+HasSame given names = (name : RowName) → Contains names name ↔ Contains given name
+
 -- the same names, rising, each once
 pub record AreTidied (given names : List RowName) : Type 0 where
   pub rising : IsStrictlySortedBy name_cmp names
-  pub same : (name : RowName) → Contains names name ↔ Contains given name
+  pub same : HasSame given names

@@ -9,7 +9,7 @@ use Rattle.owner_model.specs.Joins.{Joins}
 use Rattle.subject_model.specs.NameOrder.{name_cmp}
 use Rattle.subject_model.specs.Paths.{is_subject_row}
 use Rattle.link_model.specs.Whose.{as_subject}
-use Rattle.owner_index.specs.declared.entry.Entry.{Entry}
+use Rattle.owner_index.specs.Entry.{Entry}
 use Rattle.owner_index.specs.declared.which.Which.{Which}
 use Rattle.owner_index.specs.Held.{IsRight, held, listed}
 use Rattle.owner_index.specs.UnderWay.{ComesFrom, IsUnderWay}

@@ -6,7 +6,7 @@ use Rattle.own_model.specs.Db.{Db, IsOrdered}
 use Rattle.owner_model.specs.Joins.{Joins}
 use Rattle.subject_model.specs.Paths.{is_subject_row}
 use Rattle.move_model.specs.KeepsEdges.{KeepsEdges}
-use Rattle.owner_index.specs.declared.entry.Entry.{Entry}
+use Rattle.owner_index.specs.Entry.{Entry}
 use Rattle.owner_index.specs.declared.which.Which.{Which}
 use Rattle.owner_index.specs.Held.{StandsFor, held}
 

@@ -1,10 +1,9 @@
-ghost use Rattle.std.specs.Prelude.{◌≡◌, [], IfSome, OnOk};
+ghost use Rattle.std.specs.Prelude.{◌≡◌, [], IfOk, IfSome, OnOk};
 ghost use Rattle.std.specs.Option.{option_map_or};
 ghost use Rattle.owner_index.specs.Held.{SetsAt, owners_of, reach_of};
 
 use crate::entry::Entry;
 use crate::name_key::{EntryChange, NameKey};
-use crate::subject_list::SubjectList;
 use own_base::{List, MakeCopy, RowName, Subject};
 use page_tree::Pages;
 use std::alloc::{AllocError, Global};
@@ -19,7 +18,7 @@ pub struct OwnerIndex {
 impl Model for OwnerIndex {
     ghost use Rattle.std.specs.Prelude.{List};
     ghost use Rattle.page_model.specs.Page.{joined};
-    ghost use Rattle.owner_index.specs.declared.entry.Entry.{Entry as Seen};
+    ghost use Rattle.owner_index.specs.Entry.{Entry as Seen};
 
     ghost Value = { List Seen };
 
@@ -41,7 +40,7 @@ impl OwnerIndex {
         ensures { result.now ≡ owners_of self.now name.now }
     {
         match self.entries.get(name) {
-            Some(entry) => entry.owners.items(),
+            Some(entry) => entry.owners(),
             None => &[],
         }
     }
@@ -51,7 +50,7 @@ impl OwnerIndex {
         ensures { result.now ≡ reach_of self.now name.now }
     {
         match self.entries.get(name) {
-            Some(entry) => entry.reach.items(),
+            Some(entry) => entry.reach(),
             None => &[],
         }
     }
@@ -67,7 +66,7 @@ impl OwnerIndex {
         ensures { OnOk result (SetsAt name owners reach self.old self.new) }
     {
         let key = name.copy(alloc)?;
-        let entry = entry_of(name, owners, reach);
+        let entry = entry_of(alloc, name, owners, reach)?;
         self.entries
             .change(alloc, &EntryChange { name: key, entry })
     }
@@ -82,18 +81,18 @@ impl MakeCopy for OwnerIndex {
 }
 
 /// An entry with these subjects; none where there are none.
-fn entry_of(name: RowName, owners: List<Subject>, reach: List<Subject>) -> Option<Entry>
-    ensures name { IfSome result (λ entry. entry.name ≡ name) }
-    ensures owners { option_map_or (λ entry. entry.owners) result [] ≡ owners }
-    ensures reach { option_map_or (λ entry. entry.reach) result [] ≡ reach }
+fn entry_of(
+    alloc: Global,
+    name: RowName,
+    owners: List<Subject>,
+    reach: List<Subject>,
+) -> Result<Option<Entry>, AllocError>
+    ensures name { IfOk result (λ entry. IfSome entry (λ it. it.name ≡ name)) }
+    ensures owners { IfOk result (λ entry. option_map_or (λ it. it.owners) entry [] ≡ owners) }
+    ensures reach { IfOk result (λ entry. option_map_or (λ it. it.reach) entry [] ≡ reach) }
 {
     if owners.items().is_empty() && reach.items().is_empty() {
-        None
-    } else {
-        Some(Entry {
-            name,
-            owners: SubjectList::from_list(owners),
-            reach: SubjectList::from_list(reach),
-        })
+        return Ok(None);
     }
+    Ok(Some(Entry::new(alloc, name, owners, reach)?))
 }

@@ -6,7 +6,7 @@ ghost use Rattle.own_model.specs.declared.create.CreateTable.{CreateTable};
 ghost use Rattle.own_model.specs.declared.create.CreateView.{CreateView};
 ghost use Rattle.own_model.specs.Db.{Db, IsOrdered};
 ghost use Rattle.move_model.specs.Moves.{AreMovesOf};
-ghost use Rattle.owner_index.specs.declared.entry.Entry.{Entry as Held};
+ghost use Rattle.owner_index.specs.Entry.{Entry as Held};
 ghost use Rattle.owner_index.specs.Held.{StandsFor};
 ghost use Rattle.owner_model.specs.Joins.{row_of};
 ghost use Rattle.schema_model.specs.Lone.{are_lone};

@@ -56,11 +56,11 @@ impl KeyOf<Entry> for NameKey {
     ghost key_cmp = { order };
 
     fn compare(self, entry: &Entry, name: &RowName) -> Ordering {
-        compare_names(&entry.name, name)
+        compare_names(entry.name(), name)
     }
 
     fn item_hint(self, entry: &Entry) -> u64 {
-        hint_of_name(&entry.name)
+        hint_of_name(entry.name())
     }
 
     fn key_hint(self, name: &RowName) -> u64 {

@@ -1,5 +1,5 @@
 ghost use Rattle.std.specs.Prelude.{IfOk, filter};
-ghost use Rattle.owner_index.specs.Names.{AreTidied, is_of};
+ghost use Rattle.owner_index.specs.Names.{AreTidied, HasSame, is_of};
 
 use own_base::{List, MakeCopy, RowName, TableNo};
 use std::alloc::{AllocError, Global};
@@ -14,13 +14,14 @@ fn tidied(names: Vec<RowName>) -> List<RowName>
     List::from_vec(names)
 }
 
-/// The names of a table among these, rising, each once.
+/// The names of a table among these, each once, from the last to the first: what goes from a page's end goes in place, and what
+/// goes from its beginning doesn't.
 pub(crate) fn names_of(
     alloc: Global,
     table: TableNo,
     names: &[RowName],
 ) -> Result<List<RowName>, AllocError>
-    ensures { IfOk result (AreTidied (filter (is_of table) names.now)) }
+    ensures { IfOk result (HasSame (filter (is_of table) names.now)) }
 {
     let mut own = Vec::new(alloc);
     for name in names {
@@ -28,7 +29,9 @@ pub(crate) fn names_of(
             own.push(name.copy(alloc)?)?;
         }
     }
-    Ok(tidied(own))
+    let mut falling = tidied(own).into_vec();
+    falling.reverse();
+    Ok(List::from_vec(falling))
 }
 
 /// All of these, rising, each once.

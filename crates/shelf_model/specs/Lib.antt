@@ -1,4 +1,5 @@
 pub mod At
+pub mod EdgePlaces
 pub mod IsCopy
 pub mod Seen
 pub mod Shelf

@@ -10,7 +10,7 @@ use Rattle.state_model.specs.Create.{create}
 use Rattle.annot_schema.specs.Created.{IsAdmissible}
 use Rattle.annot_schema.specs.declared.admitted.Admitted.{Admitted}
 use Rattle.annot_schema.proofs.SoundSchemas.{schema_with-admitted}
-use Rattle.owner_index.specs.declared.entry.Entry.{Entry}
+use Rattle.owner_index.specs.Entry.{Entry}
 use Rattle.owner_index.specs.Held.{StandsFor}
 use Rattle.owner_index.proofs.CreateLemmas.{none_stands, stands-create}
 use Rattle.store_version.specs.Added.{db_viewed, db_with}

@@ -7,7 +7,7 @@ use Rattle.own_model.specs.Db.{Db, IsOrdered}
 use Rattle.schema_model.specs.Lone.{is_lone}
 use Rattle.schema_model.specs.OwnerSchema.{IsOwnerSchema}
 use Rattle.state_model.specs.Put.{put}
-use Rattle.owner_index.specs.declared.entry.Entry.{Entry}
+use Rattle.owner_index.specs.Entry.{Entry}
 use Rattle.owner_index.specs.Held.{StandsFor}
 use Rattle.owner_index.proofs.LoneLemmas.{lone-stands}
 use Rattle.micro_db.specs.declared.micro.MicroDb.{MicroDb}

@@ -8,7 +8,7 @@ use Rattle.own_model.specs.Stored.{row_named}
 use Rattle.link_model.specs.Whose.{as_subject}
 use Rattle.subject_model.specs.Owners.{is_owner_path, leads_to, owners, owns, reach, reaches, subjects}
 use Rattle.subject_model.specs.Paths.{climbs, is_subject_row, joins, paths, steps_of}
-use Rattle.owner_index.specs.declared.entry.Entry.{Entry}
+use Rattle.owner_index.specs.Entry.{Entry}
 use Rattle.owner_index.specs.Held.{StandsFor}
 
 -- a database without its views and its texts

@@ -1,19 +1,20 @@
-use Rattle.std.proofs.Common.{List, subst}
-use Rattle.std.proofs.lemmas.List.{take_all}
-use Rattle.move_model.specs.declared.owner_move.OwnerMove.{OwnerMove}
-use Rattle.micro_db.specs.Renewed.{ForSomeOf, IsMoveAt, Renews}
-use Rattle.micro_db.proofs.RenewLemmas.{renews-more, renews-start}
+use Rattle.std.proofs.Common.{◌-◌, ◌≤◌, arith, length}
+use Rattle.micro_db.specs.Renewed.{IsMoveAt}
+use Rattle.micro_db.proofs.RenewLemmas.{renews-before, renews-first, renews-last}
 use Rattle.micro_db.proofs.micro.MicroDb.renew_moved.Goals as goal
 
-pub loop-moved-init : goal.loop-moved-init
-loop-moved-init g c = renews-start (g.N.StoreView.db c.args.after.now) IsMoveAt c.args.moves.now c.args.self.now
+pub loop-left-init : goal.loop-left-init
+loop-left-init g c =
+    let all : length c.args.moves.now ≤ length c.args.moves.now = omega arith in
+    (all, renews-last (g.N.StoreView.db c.args.after.now) IsMoveAt c.args.moves.now c.args.self.now)
 
-pub loop-moved-preserved : goal.loop-moved-preserved
-loop-moved-preserved g c =
-    renews-more (g.N.StoreView.db c.args.after.now) IsMoveAt c.args.moves.now c.loop-moved.moved-index c.moved-item.result c.args.self.now c.loop-moved.self c.renew.new.self
-    c.loop-moved-test.true c.moved-item.is c.loop-moved.invariant c.in_ok-renew.ensures
+pub loop-left-preserved : goal.loop-left-preserved
+loop-left-preserved g c =
+    let fewer : c.loop-left.left - 1 ≤ length c.args.moves.now = omega (arith, c.loop-left.invariant.0) in (
+      fewer,
+      renews-before (g.N.StoreView.db c.args.after.now) IsMoveAt c.args.moves.now c.loop-left.left c.index-moves-left.result c.args.self.now c.loop-left.self c.renew.new.self
+          c.loop-left-test.true c.loop-left.invariant.0 c.index-moves-left.is c.loop-left.invariant.1 c.in_ok-renew.ensures,
+    )
 
 pub returns : goal.returns
-returns g c =
-    subst (λ (moves : List OwnerMove). Renews (g.N.StoreView.db c.args.after.now) (ForSomeOf IsMoveAt moves) c.args.self.now c.loop-moved.self)
-    (take_all c.loop-moved.moved-index c.args.moves.now c.loop-moved-test.false) c.loop-moved.invariant
+returns g c = renews-first (g.N.StoreView.db c.args.after.now) IsMoveAt c.args.moves.now c.loop-left.left c.args.self.now c.loop-left.self c.loop-left-test.false c.loop-left.invariant.1

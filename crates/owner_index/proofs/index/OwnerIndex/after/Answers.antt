@@ -4,7 +4,7 @@ use Rattle.own_model.specs.declared.schema.Schema.{Schema}
 use Rattle.schema_model.specs.Lone.{are_lone}
 use Rattle.move_model.specs.declared.owner_move.OwnerMove.{OwnerMove}
 use Rattle.move_model.specs.Moves.{AreMovesOf}
-use Rattle.owner_index.specs.declared.entry.Entry.{Entry}
+use Rattle.owner_index.specs.Entry.{Entry}
 use Rattle.owner_index.specs.Held.{StandsFor}
 use Rattle.owner_index.proofs.LoneLemmas.{lone_moves_after, lone_stands_after}
 use Rattle.owner_index.proofs.index.OwnerIndex.after.Goals as goal

@@ -1,6 +1,6 @@
 use Rattle.std.proofs.Common.{List, subst}
 use Rattle.own_base.specs.declared.row_name.RowName.{RowName}
-use Rattle.owner_index.specs.declared.entry.Entry.{Entry}
+use Rattle.owner_index.specs.Entry.{Entry}
 use Rattle.owner_index.specs.HeldMoves.{AreHeldMoves, DoRise}
 use Rattle.owner_index.specs.Settled.{SettlesAll}
 use Rattle.owner_index.proofs.AfterLemmas.{moves_after, stands_after}

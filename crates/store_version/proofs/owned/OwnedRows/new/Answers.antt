@@ -1,6 +1,6 @@
 use Rattle.std.proofs.Common.{List, subst, sym}
 use Rattle.own_model.specs.Db.{empty}
-use Rattle.owner_index.specs.declared.entry.Entry.{Entry}
+use Rattle.owner_index.specs.Entry.{Entry}
 use Rattle.owner_index.specs.Held.{StandsFor}
 use Rattle.store_version.proofs.CreatedOwners.{stands-empty}
 use Rattle.store_version.proofs.owned.OwnedRows.new.Goals as goal

@@ -1,7 +1,7 @@
 use Rattle.std.proofs.Common.{List, subst, sym}
 use Rattle.own_model.specs.Db.{Db, IsOrdered}
 use Rattle.annot_schema.specs.Created.{IsAdmissible}
-use Rattle.owner_index.specs.declared.entry.Entry.{Entry}
+use Rattle.owner_index.specs.Entry.{Entry}
 use Rattle.owner_index.specs.Held.{StandsFor}
 use Rattle.store_version.specs.Added.{db_with}
 use Rattle.store_version.proofs.CreatedOwners.{stands-with}

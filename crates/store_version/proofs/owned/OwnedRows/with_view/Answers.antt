@@ -1,5 +1,5 @@
 use Rattle.std.proofs.Common.{List, subst, sym}
-use Rattle.owner_index.specs.declared.entry.Entry.{Entry}
+use Rattle.owner_index.specs.Entry.{Entry}
 use Rattle.owner_index.specs.Held.{StandsFor}
 use Rattle.store_version.specs.Added.{db_viewed}
 use Rattle.store_version.proofs.CreatedOwners.{stands-viewed}
