@@ -1,0 +1,11 @@
+pub mod Prefixes
+pub mod PlaceLemmas
+pub mod ViewLemmas
+pub mod Whereabout
+pub mod Opening
+pub mod Splitting
+pub mod Joining
+pub mod Taking
+pub mod Counting
+pub mod Closing
+pub mod Sitting
