@@ -1,5 +1,9 @@
 pub mod Answered
+pub mod DiskView
+pub mod Kept
 pub mod Life
+pub mod OnDisk
+pub mod Opening
 pub mod Served
 pub mod Status
 pub mod Told

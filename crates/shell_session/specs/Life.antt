@@ -1,31 +1,21 @@
 -- The life of a shell: what happens one after another, over an opening of the store and then the next.
-use Rattle.std.specs.Prelude.{◌≡◌, ℕ, List, [], ◌∷◌, ◌++◌, Bool, true, false, Option, IsTrue}
+use Rattle.std.specs.Prelude.{◌≡◌, ◌≤◌, ◌⊎◌, ℕ, ◌+◌, List, [], ◌∷◌, ◌++◌, length, Bool, true, false, Option, IsTrue}
+use Rattle.own_base.specs.declared.number.Area.TheVariants.{A, B}
 use Rattle.own_model.specs.declared.reply.Reply.{Reply}
 use Rattle.own_model.specs.declared.request.Request.{Request}
 use Rattle.own_model.specs.declared.request.Request.TheVariants.{Run}
 use Rattle.own_model.specs.declared.script.ScriptCall.{ScriptCall}
 use Rattle.own_model.specs.declared.statement.Statement.TheVariants.{Checkpoint}
-use Rattle.own_model.specs.Db.{Db}
-use Rattle.history_model.specs.History.{History}
-use Rattle.crash_model.specs.LeftBy.{IsLeftBy}
-use Rattle.crash_model.specs.StoreIn.{IsStoreIn}
-use Rattle.engine_core.specs.Seen.{Seen, disk_of}
+use Rattle.outer_world.specs.FaultCount.{CountRose}
+use Rattle.outer_world.specs.LeavesOnly.{LeavesOnly}
+use Rattle.history_model.specs.Commits.{commits}
+use Rattle.history_model.specs.History.{flat, is_disk}
 use Rattle.reply_json.specs.declared.columns.TableNames.{TableNames}
 use Rattle.shell_session.specs.Answered.{IsAnswered}
+use Rattle.shell_session.specs.DiskView.{DiskView}
+use Rattle.shell_session.specs.Opening.{HasFailed, IsAtRest, IsLeftOver, Opening}
 use Rattle.shell_session.specs.Told.{told_text}
 use Rattle.shell_session.specs.declared.manner.Form.{Form}
-
--- An opening of the store: whether what its disk tells of its bytes is so, the database that it was opened with, how many commits
--- had made that, and the history of the calls made since.
-pub record Opening : Type 0 where
-  pub honest : Bool
-  pub base : Db
-  pub start : ℕ
-  pub history : History
-
--- the opening of an engine
-abbrev pub opening_of : {D : Type 0} → (D → Bool) → Seen D → Opening
-opening_of honest seen = record { honest = honest (disk_of seen); base = seen.base; start = seen.start; history = seen.history }
 
 -- A call of the input and the line on which its text begins, 0 for an End; at which place it was made, if it was, and what it was
 -- answered; and the names of columns that are known for the telling of it.
@@ -48,36 +38,46 @@ abbrev pub is_checkpoint : Request → Bool
 is_checkpoint (Run Checkpoint) = true
 is_checkpoint request = false
 
+-- What an event did to the disk, where a call was answered with a fault of it, or none was: its count of faults rose just then. Of
+-- an honest disk, a crash now leaves what the history says; and one on the way what it said before or says now, or what one might
+-- have left earlier.
+pub record Moves {D : Type 0} (view : DiskView D) (before after : Opening D) (failed : Bool) : Type 0 where
+  pub honesty : view.honest after.disk ≡ view.honest before.disk
+  pub time : view.moment before.disk ≤ view.moment after.disk
+  pub risen : view.faults before.disk ≤ view.faults after.disk
+  pub rose : failed ≡ true → CountRose (view.faults before.disk) (view.faults after.disk)
+  pub steady : failed ≡ false → view.faults after.disk ≡ view.faults before.disk
+  pub now : IsTrue (view.honest before.disk) → (a b : List ℕ) → view.leaves after.disk A a → view.leaves after.disk B b → IsLeftOver after a b
+  pub moments : IsTrue (view.honest before.disk)
+      → LeavesOnly view.moment view.might_have_left (λ a b. IsLeftOver before a b ⊎ IsLeftOver after a b) before.disk after.disk
+
 -- a call over an opening: what was opened stays, and the history is that which the answer tells of
-pub record IsCalled (before after : Opening) (call : ScriptCall) (place : Option ℕ) (told : Reply) : Type 0 where
-  pub honest : after.honest ≡ before.honest
+pub record IsCalled {D : Type 0} (view : DiskView D) (before after : Opening D) (call : ScriptCall) (place : Option ℕ) (told : Reply) : Type 0 where
   pub base : after.base ≡ before.base
   pub start : after.start ≡ before.start
   pub answered : IsAnswered before.base before.history after.history call place told
+  pub moves : Moves view before after (is_disk told)
 
--- Two areas hold what the history of the one opening left, and the store that was opened then. They hold one store at most.
-pub record IsHeldBetween (before after : Opening) : Type 0 where
-  pub a : List ℕ
-  pub b : List ℕ
-  pub left : IsLeftBy before.base before.start before.history a b
-  pub opened : IsStoreIn a b after.base after.start
-
--- The store is opened anew, and no call is made yet; of an honest disk with what the history before it left there.
-pub record IsRenewed (before after : Opening) : Type 0 where
+-- The store is opened anew, and no call is made yet. No session was in a transaction, and the disk had failed no call. Of an honest
+-- disk the database is the flat one of the history before it, with all of its commits.
+pub record IsRenewed {D : Type 0} (view : DiskView D) (before after : Opening D) : Type 0 where
   pub fresh : after.history ≡ []
-  pub honest : after.honest ≡ before.honest
-  pub held : IsTrue before.honest → IsHeldBetween before after
+  pub at_rest : IsAtRest before
+  pub whole : HasFailed before → ⊥
+  pub base : IsTrue (view.honest before.disk) → after.base ≡ flat before.base before.history
+  pub start : IsTrue (view.honest before.disk) → after.start ≡ before.start + length (commits before.base before.history)
+  pub moves : Moves view before after false
 
 -- an event leads from one state of a life to the next
-abbrev pub Happens : Opening → Event → Opening → Type 0
-Happens before (Called telling) after = IsCalled before after telling.call telling.place telling.told
-Happens before (Laid call place told) after = IsCalled before after call place told × (is_checkpoint call.request ≡ true)
-Happens before Renewed after = IsRenewed before after
+abbrev pub Happens : {D : Type 0} → DiskView D → Opening D → Event → Opening D → Type 0
+Happens view before (Called telling) after = IsCalled view before after telling.call telling.place telling.told
+Happens view before (Laid call place told) after = IsCalled view before after call place told × (is_checkpoint call.request ≡ true)
+Happens view before Renewed after = IsRenewed view before after
 
 -- events lead from one to another, one after the other
-abbrev pub Happen : Opening → List Event → Opening → Type 0
-Happen before [] after = after ≡ before
-Happen before (event ∷ events) after = (next : Opening) × Happens before event next × Happen next events after
+abbrev pub Happen : {D : Type 0} → DiskView D → Opening D → List Event → Opening D → Type 0
+Happen view before [] after = after ≡ before
+Happen {D} view before (event ∷ events) after = (next : Opening D) × Happens view before event next × Happen view next events after
 
 -- the calls of the input among events
 abbrev pub calls_of : List Event → List ScriptCall
@@ -96,3 +96,13 @@ texts_of form [] = []
 texts_of form (Called telling ∷ events) = text_of form telling ++ texts_of form events
 texts_of form (Laid call place told ∷ events) = texts_of form events
 texts_of form (Renewed ∷ events) = texts_of form events
+
+-- two areas hold what the history says at one of the openings to which the first of these events lead, from this one on
+pub record IsLeftOnTheWay {D : Type 0} (view : DiskView D) (here : Opening D) (events : List Event) (last : Opening D) (a b : List ℕ) : Type 0 where
+  pub done : List Event
+  pub rest : List Event
+  pub events_are : events ≡ done ++ rest
+  pub mid : Opening D
+  pub came : Happen view here done mid
+  pub goes : Happen view mid rest last
+  pub is : IsLeftOver mid a b

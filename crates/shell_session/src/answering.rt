@@ -1,7 +1,9 @@
 ghost use Rattle.std.specs.Prelude.{option_map};
 ghost use Rattle.grammar_model.specs.Readable.{IsReadable};
 ghost use Rattle.script_model.specs.Split.{IsOfASession};
-ghost use Rattle.shell_session.specs.Life.{IsCalled, opening_of};
+ghost use Rattle.shell_session.specs.DiskView.{view_of};
+ghost use Rattle.shell_session.specs.Life.{IsCalled};
+ghost use Rattle.shell_session.specs.Opening.{opening_of};
 
 use engine_core::{Engine, Step};
 use outer_world::Disk;
@@ -19,7 +21,7 @@ pub(crate) struct Answer {
 pub(crate) fn make_call<D: Disk>(engine: &mut Engine<D>, call: ScriptCall) -> Answer
     requires readable { IsReadable call.request }
     requires session { IsOfASession call }
-    ensures called { IsCalled (opening_of D.honest engine.old) (opening_of D.honest engine.new) call (option_map (λ place. place.0) result.place) result.reply }
+    ensures called { IsCalled (view_of D.leaves D.moment D.might_have_left D.honest D.faults) (opening_of engine.old) (opening_of engine.new) call (option_map (λ place. place.0) result.place) result.reply }
 {
     let ScriptCall {
         session,

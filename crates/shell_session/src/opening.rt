@@ -1,12 +1,18 @@
-ghost use Rattle.std.specs.Prelude.{◌≡◌, ℕ, [], IfOk, IsTrue, List as Seq, OnErr};
+ghost use Rattle.std.specs.Prelude.{◌≡◌, ◌⊎◌, ℕ, false, true, IfErr, IfOk, IsTrue, List as Seq};
 ghost use Rattle.own_base.specs.declared.number.Area.TheVariants.{A, B};
+ghost use Rattle.history_model.specs.History.{is_disk};
 ghost use Rattle.crash_model.specs.LeftBy.{IsLeftBy};
 ghost use Rattle.engine_core.specs.Seen.{disk_of};
-ghost use Rattle.shell_session.specs.Life.{Opening, is_checkpoint, opening_of};
+ghost use Rattle.shell_session.specs.DiskView.{view_of};
+ghost use Rattle.shell_session.specs.Kept.{Keeps};
+ghost use Rattle.shell_session.specs.Life.{is_checkpoint};
+ghost use Rattle.shell_session.specs.OnDisk.{IsNotOpened, IsNotRenewed, IsOpened, IsSameStore};
+ghost use Rattle.shell_session.specs.Opening.{Opening, opening_of};
 ghost use Rattle.shell_session.specs.Served.{IsSilent};
+ghost use Rattle.shell_session.specs.Status.{unopened};
 
 use crate::answering::make_call;
-use crate::book::Book;
+use crate::book::{Book, effect_of};
 use crate::manner::Form;
 use crate::naming::schema_names;
 use call_stream::CallStream;
@@ -43,9 +49,14 @@ pub(crate) fn disk_left<D: Disk>(engine: Engine<D>) -> D
     disk
 }
 
-/// Opens the store of a disk to read its names: they are those of the state that the opening left.
-fn names_of<D: Disk>(alloc: Global, disk: D) -> Result<(List<TableNames>, D), (OpenFault, D)> {
-    let engine = Engine::open_with_room(alloc, disk, 0)?;
+/// Closes a store of which no call was made, and gives the names of the state that the opening left.
+fn names_in<D: Disk>(
+    alloc: Global,
+    engine: Engine<D>,
+) -> Result<(List<TableNames>, D), (OpenFault, D)>
+    ensures ok { IfOk result (λ told. told.1 ≡ disk_of engine) }
+    ensures err { IfErr result (λ back. (back.0 ≡ OpenFault.Memory) × (back.1 ≡ disk_of engine)) }
+{
     let Closed {
         opened,
         history,
@@ -60,12 +71,26 @@ fn names_of<D: Disk>(alloc: Global, disk: D) -> Result<(List<TableNames>, D), (O
     }
 }
 
+/// Opens the store of a disk to read its names: they are those of the state that the opening left.
+fn names_of<D: Disk>(alloc: Global, disk: D) -> Result<(List<TableNames>, D), (OpenFault, D)>
+    ensures ok { IfOk result (λ told. IsSameStore D.holds (view_of D.leaves D.moment D.might_have_left D.honest D.faults) disk told.1) }
+    ensures err { IfErr result (λ back. IsNotOpened D.holds (view_of D.leaves D.moment D.might_have_left D.honest D.faults) disk back.1 (unopened back.0)) }
+{
+    match Engine::open_with_room(alloc, disk, 0) {
+        Ok(engine) => names_in(alloc, engine),
+        Err(back) => Err(back),
+    }
+}
+
 /// The names that are told: none of them in lines.
 fn names_told<D: Disk>(
     alloc: Global,
     form: Form,
     disk: D,
-) -> Result<(List<TableNames>, D), (OpenFault, D)> {
+) -> Result<(List<TableNames>, D), (OpenFault, D)>
+    ensures ok { IfOk result (λ told. (told.1 ≡ disk) ⊎ IsSameStore D.holds (view_of D.leaves D.moment D.might_have_left D.honest D.faults) disk told.1) }
+    ensures err { IfErr result (λ back. IsNotOpened D.holds (view_of D.leaves D.moment D.might_have_left D.honest D.faults) disk back.1 (unopened back.0)) }
+{
     match form {
         Form::Lines => Ok((List::new(alloc), disk)),
         Form::Json => names_of(alloc, disk),
@@ -74,12 +99,15 @@ fn names_told<D: Disk>(
 
 /// Opens the store of a disk.
 pub(crate) fn open<D: Disk>(alloc: Global, form: Form, disk: D) -> Result<Opened<D>, (OpenFault, D)>
-    ensures { IfOk result (λ opened. opened.engine.history ≡ []) }
+    ensures ok { IfOk result (λ opened. IsOpened D.holds (view_of D.leaves D.moment D.might_have_left D.honest D.faults) disk (opening_of opened.engine)) }
+    ensures keeps { IfOk result (λ opened. Keeps opened.book (opening_of opened.engine)) }
+    ensures err { IfErr result (λ back. IsNotOpened D.holds (view_of D.leaves D.moment D.might_have_left D.honest D.faults) disk back.1 (unopened back.0)) }
 {
-    let (names, disk) = names_told(alloc, form, disk)?;
-    let Ok(book) = Book::new(alloc, names) else {
-        return Err((OpenFault::Memory, disk));
+    let (names, disk) = match names_told(alloc, form, disk) {
+        Ok(told) => told,
+        Err(back) => return Err(back),
     };
+    let book = Book::new(names);
     match Engine::open_with_room(alloc, disk, ROOM) {
         Ok(engine) => Ok(Opened { engine, book }),
         Err((fault, disk)) => {
@@ -99,9 +127,20 @@ fn is_checkpoint(request: &Request) -> bool
     }
 }
 
+/// Whether a reply tells that it was done.
+fn is_done(reply: &Reply) -> bool
+    ensures { result ≡ true → is_disk reply.now ≡ false }
+{
+    matches!(reply, Reply::Done)
+}
+
 /// Makes a CHECKPOINT, which has a place and is told to nobody. It answers whether it was done.
 fn lay_anew<D: Disk>(alloc: Global, opened: &mut Opened<D>) -> bool
-    ensures { IsSilent (opening_of D.honest opened.old.engine) (opening_of D.honest opened.new.engine) }
+    requires { Keeps opened.old.book (opening_of opened.old.engine) }
+    ensures silent { IsSilent (view_of D.leaves D.moment D.might_have_left D.honest D.faults) (opening_of opened.old.engine) (opening_of opened.new.engine) }
+    ensures keeps { Keeps opened.new.book (opening_of opened.new.engine) }
+    ensures done { result ≡ true → opened.old.book.failed ≡ false → opened.new.book.failed ≡ false }
+    ensures marks { opened.new.book.marks ≡ opened.old.book.marks }
 {
     let mut words = CallStream::new(alloc);
     if words.push(b"CHECKPOINT;").is_err() {
@@ -113,9 +152,11 @@ fn lay_anew<D: Disk>(alloc: Global, opened: &mut Opened<D>) -> bool
     if !is_checkpoint(&read.call.request) {
         return false;
     }
+    let session = read.call.session;
+    let effect = effect_of(&read.call.request);
     let answer = make_call(&mut opened.engine, read.call);
-    opened.book.note(0, None, &answer.reply);
-    let done = matches!(answer.reply, Reply::Done);
+    opened.book.note(0, session, effect, &answer);
+    let done = is_done(&answer.reply);
     drop(answer);
     done
 }
@@ -126,8 +167,10 @@ pub(crate) fn renewed<D: Disk>(
     alloc: Global,
     opened: Opened<D>,
 ) -> Result<Opened<D>, (OpenFault, D)>
-    ensures ok { IfOk result (λ next. IsSilent (opening_of D.honest opened.engine) (opening_of D.honest next.engine)) }
-    ensures err { OnErr result ((last : Opening) × IsSilent (opening_of D.honest opened.engine) last) }
+    requires { Keeps opened.book (opening_of opened.engine) }
+    ensures ok { IfOk result (λ next. IsSilent (view_of D.leaves D.moment D.might_have_left D.honest D.faults) (opening_of opened.engine) (opening_of next.engine)) }
+    ensures keeps { IfOk result (λ next. Keeps next.book (opening_of next.engine)) }
+    ensures err { IfErr result (λ back. (last : Opening D) × IsSilent (view_of D.leaves D.moment D.might_have_left D.honest D.faults) (opening_of opened.engine) last × IsNotRenewed (view_of D.leaves D.moment D.might_have_left D.honest D.faults) last back.1 (unopened back.0)) }
 {
     let mut opened = opened;
     if !opened.book.is_due() {

@@ -4,12 +4,14 @@ ghost use Rattle.outer_world.specs.FaultCount.{CountRose};
 ghost use Rattle.grammar_model.specs.Readable.{IsReadable};
 ghost use Rattle.script_model.specs.Split.{IsOfASession};
 ghost use Rattle.call_stream.specs.Taken.{IsPlain, IsRead, IsSound, open_calls};
-ghost use Rattle.shell_session.specs.Life.{opening_of};
-ghost use Rattle.shell_session.specs.Served.{ServesCall, ServesCalls, ServesClosed, ServesEnd, fault_of};
+ghost use Rattle.shell_session.specs.DiskView.{view_of};
+ghost use Rattle.shell_session.specs.Kept.{Keeps};
+ghost use Rattle.shell_session.specs.Opening.{opening_of};
+ghost use Rattle.shell_session.specs.Served.{IsOfServing, ServesCall, ServesCalls, ServesClosed, ServesEnd, fault_of};
 ghost use Rattle.shell_session.specs.Told.{HasWritten, told_text};
 
 use crate::answering::{Answer, make_call};
-use crate::book::Book;
+use crate::book::{Book, effect_of};
 use crate::ending::{ShellFault, stopped};
 use crate::manner::{Form, Manner};
 use crate::marking::mark;
@@ -49,7 +51,10 @@ fn columns_told(
     form: Form,
     made: Option<&Entry>,
     reply: &Reply,
-) -> Result<List<Name>, AllocError> {
+) -> Result<List<Name>, AllocError>
+    ensures marks { book.new.marks ≡ book.old.marks }
+    ensures failed { book.new.failed ≡ book.old.failed }
+{
     match form {
         Form::Json => {
             add_made(&mut book.tables, alloc, made, reply)?;
@@ -75,6 +80,9 @@ fn tell_answer<W: Sink, D: Disk>(
     ensures steady { result ≢ Err ShellFault.Write → W.faults sink.new ≡ W.faults sink.old }
     ensures unread { result ≢ Err ShellFault.Read }
     ensures lawful { result ≢ Err ShellFault.Refused }
+    ensures own { IsOfServing (fault_of result) }
+    ensures marks { book.new.marks ≡ book.old.marks }
+    ensures failed { book.new.failed ≡ book.old.failed }
 {
     let made = entry_of(engine, answer);
     let Ok(columns) = columns_told(book, alloc, form, made, &answer.reply) else {
@@ -108,7 +116,10 @@ fn serve_call<W: Sink, N: Notes, D: Disk>(
 ) -> Result<(), ShellFault>
     requires readable { IsReadable call.request }
     requires session { IsOfASession call }
-    ensures serves { ServesCall manner.form (opening_of D.honest engine.old) (opening_of D.honest engine.new) call line result (W.written sink.old) (W.written sink.new) }
+    requires keeps { Keeps book.old (opening_of engine.old) }
+    ensures serves { ServesCall (view_of D.leaves D.moment D.might_have_left D.honest D.faults) manner.form (opening_of engine.old) (opening_of engine.new) call line result (W.written sink.old) (W.written sink.new) }
+    ensures keeps { Keeps book.new (opening_of engine.new) }
+    ensures own { IsOfServing (fault_of result) }
     ensures fault { result ≡ Err ShellFault.Write → CountRose (W.faults sink.old) (W.faults sink.new) }
     ensures steady { result ≢ Err ShellFault.Write → W.faults sink.new ≡ W.faults sink.old }
     ensures unread { result ≢ Err ShellFault.Read }
@@ -120,9 +131,10 @@ fn serve_call<W: Sink, N: Notes, D: Disk>(
         line,
         text,
     };
+    let effect = effect_of(&call.request);
     let answer = make_call(engine, call);
     let told = tell_answer(engine, book, alloc, manner.form, asked, &answer, sink);
-    book.note(text.len(), entry_of(engine, &answer), &answer.reply);
+    book.note(text.len(), asked.session, effect, &answer);
     if manner.prompts {
         mark(alloc, text, &answer.reply, notes);
     }
@@ -146,7 +158,10 @@ fn serve_read<W: Sink, N: Notes, D: Disk>(
 ) -> Result<(), ShellFault>
     requires readable { IsReadable read.call.request }
     requires session { IsOfASession read.call }
-    ensures serves { ServesCall manner.form (opening_of D.honest engine.old) (opening_of D.honest engine.new) read.call read.line result (W.written sink.old) (W.written sink.new) }
+    requires keeps { Keeps book.old (opening_of engine.old) }
+    ensures serves { ServesCall (view_of D.leaves D.moment D.might_have_left D.honest D.faults) manner.form (opening_of engine.old) (opening_of engine.new) read.call read.line result (W.written sink.old) (W.written sink.new) }
+    ensures keeps { Keeps book.new (opening_of engine.new) }
+    ensures own { IsOfServing (fault_of result) }
     ensures fault { result ≡ Err ShellFault.Write → CountRose (W.faults sink.old) (W.faults sink.new) }
     ensures steady { result ≢ Err ShellFault.Write → W.faults sink.new ≡ W.faults sink.old }
     ensures unread { result ≢ Err ShellFault.Read }
@@ -178,10 +193,13 @@ pub(crate) fn serve_closed<W: Sink, N: Notes, D: Disk>(
     sink: &mut W,
     notes: &mut N,
 ) -> Result<(), ShellFault>
-    requires { IsSound stream.old }
+    requires sound { IsSound stream.old }
+    requires keeps { Keeps book.old (opening_of engine.old) }
     ensures sound { IsSound stream.new }
     ensures read { OnOk result (IsRead stream.new) }
-    ensures serves { ServesClosed manner.form (opening_of D.honest engine.old) (opening_of D.honest engine.new) stream.old stream.new (fault_of result) (W.written sink.old) (W.written sink.new) }
+    ensures serves { ServesClosed (view_of D.leaves D.moment D.might_have_left D.honest D.faults) manner.form (opening_of engine.old) (opening_of engine.new) stream.old stream.new (fault_of result) (W.written sink.old) (W.written sink.new) }
+    ensures keeps { Keeps book.new (opening_of engine.new) }
+    ensures own { IsOfServing (fault_of result) }
     ensures fault { result ≡ Err ShellFault.Write → CountRose (W.faults sink.old) (W.faults sink.new) }
     ensures steady { result ≢ Err ShellFault.Write → W.faults sink.new ≡ W.faults sink.old }
     ensures unread { result ≢ Err ShellFault.Read }
@@ -210,8 +228,11 @@ fn serve_open<W: Sink, N: Notes, D: Disk>(
     sink: &mut W,
     notes: &mut N,
 ) -> Result<(), ShellFault>
-    requires { IsPlain open_call }
-    ensures serves { ServesCalls manner.form (opening_of D.honest engine.old) (opening_of D.honest engine.new) (open_calls open_call) (fault_of result) (W.written sink.old) (W.written sink.new) }
+    requires plain { IsPlain open_call }
+    requires keeps { Keeps book.old (opening_of engine.old) }
+    ensures serves { ServesCalls (view_of D.leaves D.moment D.might_have_left D.honest D.faults) manner.form (opening_of engine.old) (opening_of engine.new) (open_calls open_call) (fault_of result) (W.written sink.old) (W.written sink.new) }
+    ensures keeps { Keeps book.new (opening_of engine.new) }
+    ensures own { IsOfServing (fault_of result) }
     ensures fault { result ≡ Err ShellFault.Write → CountRose (W.faults sink.old) (W.faults sink.new) }
     ensures steady { result ≢ Err ShellFault.Write → W.faults sink.new ≡ W.faults sink.old }
     ensures unread { result ≢ Err ShellFault.Read }
@@ -235,7 +256,10 @@ fn serve_ends<W: Sink, N: Notes, D: Disk>(
 ) -> Result<(), ShellFault>
     requires readable { AllByRecursion (λ call. IsReadable call.request) ends.items }
     requires sessions { AllByRecursion IsOfASession ends.items }
-    ensures serves { ServesCalls manner.form (opening_of D.honest engine.old) (opening_of D.honest engine.new) ends.items (fault_of result) (W.written sink.old) (W.written sink.new) }
+    requires keeps { Keeps book.old (opening_of engine.old) }
+    ensures serves { ServesCalls (view_of D.leaves D.moment D.might_have_left D.honest D.faults) manner.form (opening_of engine.old) (opening_of engine.new) ends.items (fault_of result) (W.written sink.old) (W.written sink.new) }
+    ensures keeps { Keeps book.new (opening_of engine.new) }
+    ensures own { IsOfServing (fault_of result) }
     ensures fault { result ≡ Err ShellFault.Write → CountRose (W.faults sink.old) (W.faults sink.new) }
     ensures steady { result ≢ Err ShellFault.Write → W.faults sink.new ≡ W.faults sink.old }
     ensures unread { result ≢ Err ShellFault.Read }
@@ -262,7 +286,10 @@ pub(crate) fn serve_end<W: Sink, N: Notes, D: Disk>(
 ) -> Result<(), ShellFault>
     requires sound { IsSound stream }
     requires read { IsRead stream }
-    ensures serves { ServesEnd manner.form (opening_of D.honest engine.old) (opening_of D.honest engine.new) stream (fault_of result) (W.written sink.old) (W.written sink.new) }
+    requires keeps { Keeps book.old (opening_of engine.old) }
+    ensures serves { ServesEnd (view_of D.leaves D.moment D.might_have_left D.honest D.faults) manner.form (opening_of engine.old) (opening_of engine.new) stream (fault_of result) (W.written sink.old) (W.written sink.new) }
+    ensures keeps { Keeps book.new (opening_of engine.new) }
+    ensures own { IsOfServing (fault_of result) }
     ensures fault { result ≡ Err ShellFault.Write → CountRose (W.faults sink.old) (W.faults sink.new) }
     ensures steady { result ≢ Err ShellFault.Write → W.faults sink.new ≡ W.faults sink.old }
     ensures unread { result ≢ Err ShellFault.Read }

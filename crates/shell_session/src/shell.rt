@@ -1,8 +1,13 @@
-ghost use Rattle.std.specs.Prelude.{◌≡◌, ◌≢◌, ◌<◌, ◌⊎◌, [], IsTrue, IfOk, Err, Some, None, OnOk, length};
+ghost use Rattle.std.specs.Prelude.{◌≡◌, ◌≢◌, ◌<◌, ◌⊎◌, ℕ, false, true, IsTrue, IfOk, Err, Some, None, OnOk, length};
 ghost use Rattle.outer_world.specs.FaultCount.{CountRose};
 ghost use Rattle.call_stream.specs.Taken.{IsRead, IsSound};
-ghost use Rattle.shell_session.specs.Life.{Opening, opening_of};
-ghost use Rattle.shell_session.specs.Served.{HasLived, IsUnserved, Lives, ServesEnd, ServesPiece};
+ghost use Rattle.own_base.specs.declared.number.Area.{Area};
+ghost use Rattle.engine_core.specs.Seen.{disk_of};
+ghost use Rattle.shell_session.specs.DiskView.{view_of};
+ghost use Rattle.shell_session.specs.Kept.{Keeps};
+ghost use Rattle.shell_session.specs.OnDisk.{IsCalm, IsClosedOver};
+ghost use Rattle.shell_session.specs.Opening.{Opening, opening_of};
+ghost use Rattle.shell_session.specs.Served.{HasLived, IsOfServing, IsUnserved, Lives, ServesEnd, ServesPiece, fault_of};
 ghost use Rattle.shell_session.specs.Status.{status_of};
 
 use crate::ending::{Left, ShellFault, ended, stopped, unopened};
@@ -42,8 +47,11 @@ fn serve_piece<R: Source, W: Sink, N: Notes, D: Disk>(
 ) -> Result<bool, ShellFault>
     requires sound { IsSound stream.old }
     requires room { 0 < length piece.old }
-    ensures serves { ServesPiece manner.form (opening_of D.honest opened.old.engine) (opening_of D.honest opened.new.engine) stream.old stream.new result
+    requires keeps { Keeps opened.old.book (opening_of opened.old.engine) }
+    ensures serves { ServesPiece (view_of D.leaves D.moment D.might_have_left D.honest D.faults) manner.form (opening_of opened.old.engine) (opening_of opened.new.engine) stream.old stream.new result
         (R.remaining source.old) (R.remaining source.new) (W.written sink.old) (W.written sink.new) }
+    ensures keeps { Keeps opened.new.book (opening_of opened.new.engine) }
+    ensures own { IsOfServing (fault_of result) }
     ensures room { length piece.new ≡ length piece.old }
     ensures sound { IsSound stream.new }
     ensures read { IsRead stream.old → OnOk result (IsRead stream.new) }
@@ -84,8 +92,13 @@ fn serve_piece<R: Source, W: Sink, N: Notes, D: Disk>(
 
 /// The end of a shell over a store that is open.
 fn closed<D: Disk>(opened: Opened<D>, fault: Option<ShellFault>) -> Left<D>
+    requires { IsOfServing fault }
     ensures status { result.status ≡ status_of result.fault }
     ensures same { (result.fault ≡ fault) ⊎ ((result.fault ≡ Some ShellFault.Disk) × ((fault ≡ None) ⊎ (fault ≡ Some ShellFault.Refused))) }
+    ensures failed { result.fault ≡ Some ShellFault.Disk → opened.book.failed ≡ true }
+    ensures calm { IsCalm result.fault → opened.book.failed ≡ false }
+    ensures undamaged { (area : Area) (offset : ℕ) → result.fault ≢ Some (ShellFault.Damaged area offset) }
+    ensures disk { result.disk ≡ disk_of opened.engine }
 {
     let Opened { engine, book } = opened;
     let fault = match fault {
@@ -107,7 +120,9 @@ fn finished<W: Sink, N: Notes, D: Disk>(
 ) -> Left<D>
     requires sound { IsSound stream }
     requires read { IsRead stream }
-    ensures serves { (last : Opening) × ServesEnd manner.form (opening_of D.honest opened.engine) last stream result.fault (W.written sink.old) (W.written sink.new) }
+    requires keeps { Keeps opened.book (opening_of opened.engine) }
+    ensures serves { (last : Opening D) × ServesEnd (view_of D.leaves D.moment D.might_have_left D.honest D.faults) manner.form (opening_of opened.engine) last stream result.fault (W.written sink.old) (W.written sink.new)
+        × IsClosedOver last result.fault result.disk }
     ensures status { result.status ≡ status_of result.fault }
     ensures unread { result.fault ≢ Some ShellFault.Read }
     ensures write_fault { result.fault ≡ Some ShellFault.Write → CountRose (W.faults sink.old) (W.faults sink.new) }
@@ -141,8 +156,8 @@ fn serve_pieces<R: Source, W: Sink, N: Notes, D: Disk>(
     notes: &mut N,
 ) -> Left<D>
     requires room { 0 < length piece.old }
-    requires fresh { opened.engine.history ≡ [] }
-    ensures lived { HasLived manner.form result.fault (R.remaining source.old) (R.remaining source.new) (W.written sink.old) (W.written sink.new) }
+    requires keeps { Keeps opened.book (opening_of opened.engine) }
+    ensures lives { Lives (view_of D.leaves D.moment D.might_have_left D.honest D.faults) manner.form (opening_of opened.engine) result.fault result.disk (R.remaining source.old) (R.remaining source.new) (W.written sink.old) (W.written sink.new) }
     ensures status { result.status ≡ status_of result.fault }
     ensures read_fault { result.fault ≡ Some ShellFault.Read → CountRose (R.faults source.old) (R.faults source.new) }
     ensures read_steady { result.fault ≢ Some ShellFault.Read → R.faults source.new ≡ R.faults source.old }
@@ -188,8 +203,9 @@ pub fn serve_shell<R: Source, W: Sink, N: Notes, D: Disk>(
     manner: Manner,
 ) -> Left<D>
     // What it read, made and wrote: each call of the input once, in its order, as far as it was served; or no store was opened.
-    ensures served { HasLived manner.form result.fault (R.remaining source.old) (R.remaining source.new) (W.written sink.old) (W.written sink.new)
-        ⊎ IsUnserved result.fault source.old source.new sink.old sink.new }
+    ensures served { HasLived D.holds (view_of D.leaves D.moment D.might_have_left D.honest D.faults) manner.form result.fault disk result.disk
+        (R.remaining source.old) (R.remaining source.new) (W.written sink.old) (W.written sink.new)
+        ⊎ IsUnserved D.holds (view_of D.leaves D.moment D.might_have_left D.honest D.faults) result.fault disk result.disk source.old source.new sink.old sink.new }
     ensures status { result.status ≡ status_of result.fault }
 
     // A fault of the source or the sink comes only where its count of faults rose, and a refusal ends it only where that was asked.

@@ -1,5 +1,6 @@
 ghost use Rattle.std.specs.Prelude.{◌≡◌, ◌≢◌, Err, OnOk, OnErr, option_map};
 ghost use Rattle.outer_world.specs.FaultCount.{CountRose};
+ghost use Rattle.shell_session.specs.Served.{IsOfServing, fault_of};
 ghost use Rattle.shell_session.specs.Told.{HasWritten, told_text};
 
 use crate::ending::ShellFault;
@@ -36,6 +37,7 @@ fn write_lines<W: Sink>(
     ensures steady { result ≢ Err ShellFault.Write → W.faults sink.new ≡ W.faults sink.old }
     ensures unread { result ≢ Err ShellFault.Read }
     ensures lawful { result ≢ Err ShellFault.Refused }
+    ensures own { IsOfServing (fault_of result) }
 {
     match print_reply(alloc, told.place, told.session, told.call, reply) {
         Ok(text) => write_bytes(sink, text.bytes()),
@@ -56,6 +58,7 @@ fn write_json<W: Sink>(
     ensures steady { result ≢ Err ShellFault.Write → W.faults sink.new ≡ W.faults sink.old }
     ensures unread { result ≢ Err ShellFault.Read }
     ensures lawful { result ≢ Err ShellFault.Refused }
+    ensures own { IsOfServing (fault_of result) }
 {
     match json_line(alloc, told, reply) {
         Ok(line) => write_bytes(sink, line.as_bytes()),
@@ -77,6 +80,7 @@ pub(crate) fn tell<W: Sink>(
     ensures steady { result ≢ Err ShellFault.Write → W.faults sink.new ≡ W.faults sink.old }
     ensures unread { result ≢ Err ShellFault.Read }
     ensures lawful { result ≢ Err ShellFault.Refused }
+    ensures own { IsOfServing (fault_of result) }
 {
     match form {
         Form::Lines => write_lines(alloc, told, reply, sink),
