@@ -35,9 +35,10 @@ pub rising_map : {X Y K L : Type 0} (f : X → Y) (key_of : X → K) (cmp : K �
     → (xs : List X) → IsRising key_of cmp xs → IsRising made_of made_cmp (map f xs)
 unfolding IsStrictlySortedBy
 rising_map f key_of cmp made_of made_cmp keeps [] rising = tt
-rising_map f key_of cmp made_of made_cmp keeps (x ∷ xs) rising =
-    (each_mapped _ made_of (map f xs) (each_mapped _ f xs (each_weaker _ _ (λ y less. keeps x y less) xs (each_map _ key_of xs rising.0))),
-    rising_map f key_of cmp made_of made_cmp keeps xs rising.1)
+rising_map f key_of cmp made_of made_cmp keeps (x ∷ xs) rising = (
+  each_mapped _ made_of (map f xs) (each_mapped _ f xs (each_weaker _ _ (λ y less. keeps x y less) xs (each_map _ key_of xs rising.0))),
+  rising_map f key_of cmp made_of made_cmp keeps xs rising.1,
+)
 
 module _ {T : Type 0} where
   -- a place with what is kept there
