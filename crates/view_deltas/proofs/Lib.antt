@@ -1,0 +1,9 @@
+pub mod ChangeLemmas
+pub mod EntryLemmas
+pub mod GroupLemmas
+pub mod GroupRows
+pub mod HalfwayLemmas
+pub mod KeptLemmas
+pub mod PlainLemmas
+pub mod PlainRows
+pub mod TallyLemmas

@@ -1,0 +1,11 @@
+pub mod Changes
+pub mod Counted
+pub mod Entries
+pub mod Groups
+pub mod Numbers
+pub mod Place
+pub mod PlaceOrder
+pub mod Plain
+pub mod Shown
+pub mod TableRows
+pub mod Tally
