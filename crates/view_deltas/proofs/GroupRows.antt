@@ -161,7 +161,7 @@ cell_stored [] column stored = tt
 cell_stored (value ∷ row) zero stored = stored.0
 cell_stored (value ∷ row) (suc column) stored = cell_stored row column stored.1
 
-row_stored : (row : Row) → IsStoredRow row → (column : ℕ) → IsStored (cell row column)
+pub row_stored : (row : Row) → IsStoredRow row → (column : ℕ) → IsStored (cell row column)
 row_stored row stored column = cell_stored row column (recursion_from_All IsStored row stored)
 
 -- where a filter leaves nothing all fail, and else one passes

@@ -3,7 +3,16 @@ pub mod EntryLemmas
 pub mod GroupLemmas
 pub mod GroupRows
 pub mod HalfwayLemmas
+pub mod JoinLemmas
+pub mod JoinRows
 pub mod KeptLemmas
+pub mod KeyLemmas
+pub mod KeyRuns
+pub mod LeadLemmas
+pub mod PairLemmas
 pub mod PlainLemmas
 pub mod PlainRows
 pub mod TallyLemmas
+pub mod TurnLemmas
+pub mod ViewLemmas
+pub mod ViewRows
