@@ -3,6 +3,7 @@ pub mod EntryLemmas
 pub mod GroupLemmas
 pub mod GroupRows
 pub mod HalfwayLemmas
+pub mod InsertLemmas
 pub mod JoinLemmas
 pub mod JoinRows
 pub mod KeptLemmas
