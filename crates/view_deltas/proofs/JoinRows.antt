@@ -95,7 +95,7 @@ module _ (one two : TableDef) (query : BoundSelect) (left right : TableNo) (left
   part_at own a b (other ∷ rights) rising =
       by (passes own other) (is_eq (key_cmp (key_of one own) a)) (is_eq (key_cmp (key_of two other) b)) refl refl refl (part_at own a b rights (rising_tail (key_of two) key_cmp other rights rising))
     where
-      abbrev shown : Option Row → Option Row
+      shown : Option Row → Option Row
       shown row = option_and_then (shown_if_met query on own) row
 
       tie : is_eq (place_cmp (Some (key_of one own), Some (key_of two other)) (Some a, Some b)) ≡ (is_eq (key_cmp (key_of one own) a) && is_eq (key_cmp (key_of two other) b))
@@ -208,7 +208,7 @@ module _ (one two : TableDef) (query : BoundSelect) (left right : TableNo) (left
   part_rows own [] = refl
   part_rows own (other ∷ rights) = by (meets own other) (keeps query.cond (own ++ other)) refl (part_rows own rights)
     where
-      abbrev rest : List Row
+      rest : List Row
       rest = map (λ (right : Row). own ++ right) (filter (meets own) rights)
 
       by : (b c : Bool) → keeps query.cond (own ++ other) ≡ c → map (λ entry. entry.1) (part rights own) ≡ map (projected query.items) (filter (keeps query.cond) rest)

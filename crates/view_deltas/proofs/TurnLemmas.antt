@@ -77,3 +77,15 @@ join_follows query on before after lefts rights old new left start right by_left
       left_keys = subst (KeepsKeys one on.own_column.0 news) (sym lefts_are) moved.keys;
       right_keys = subst (KeepsKeys two on.other_column.0 rest) (sym rights_are) done.keys;
     }
+
+-- the same, where the left side begins with what is kept of it
+pub join_moves : (query : BoundSelect) (on there : Joins) (before after : Db) (lefts rights : List Change) (old new : JoinedView) (begin left start right : JoinedSide)
+    → begin.entries ≡ old.entries → begin.keys ≡ old.lefts → there ≡ turned on → SideFollows query on before old.rights lefts begin left → SideFollows query there after left.keys rights start right
+    → start.entries ≡ left.entries → start.keys ≡ old.rights → new.entries ≡ right.entries → new.lefts ≡ left.keys → new.rights ≡ right.keys
+    → JoinFollows query on before after lefts rights old new
+join_moves query on there before after lefts rights old new begin left start right same_entries same_keys is by_left by_right =
+    let made : List (Place × Row) → List (Key × Key) → JoinedSide = λ entries keys. record { entries = entries; keys = keys } in
+    let same : begin ≡ made old.entries old.lefts = ap (λ (entries : List (Place × Row)). made entries begin.keys) same_entries ∙ ap (made old.entries) same_keys in
+    join_follows query on before after lefts rights old new left start right
+    (subst (λ (side : JoinedSide). SideFollows query on before old.rights lefts side left) same by_left)
+    (subst (λ (turn : Joins). SideFollows query turn after left.keys rights start right) is by_right)

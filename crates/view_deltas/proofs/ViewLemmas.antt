@@ -98,7 +98,7 @@ module _ (db : Db) (ordered : IsOrdered db) (number : TableNo) (query : BoundSel
   pub plain_built : (none entries : List (Place × Row)) → none ≡ [] → query.grouped ≡ false → ((table : TableDef) → FollowsAll (KeepsPlain table query) number.0 table changes none entries)
       → HoldNoSums db.rows → IsKept db query (Table number) (Plain entries)
   plain_built none entries empty plain follows stored = (plain,
-  λ table at.
+      λ table at.
       subst (λ (rows : List Row). KeepsPlain table query rows entries) (built_give db ordered stored number query changes are table at)
       (follows table [] (no_rows table) (built_fit db ordered stored number query changes are table at)
       (subst (λ (kept : List (Place × Row)). KeepsPlain table query [] kept) (sym empty) (plain_none table query))))
@@ -148,7 +148,7 @@ module _ (before after : Db) (ordered : IsOrdered before) (rises : IsOrdered aft
   pub plain_led : (number : TableNo) (old new : List (Place × Row)) → ((table : TableDef) → FollowsAll (KeepsPlain table query) number.0 table changes old new)
       → HoldNoSums before.rows → HoldNoSums after.rows → LeadTo before after changes → IsKept before query (Table number) (Plain old) → IsKept after query (Table number) (Plain new)
   plain_led number old new follows here stored lead kept = (kept.0,
-  λ table at.
+      λ table at.
       let own = at_before number.0 table at in
       subst (λ (rows : List Row). KeepsPlain table query rows new) (lead_gives before after changes ordered rises schema stored lead number.0 table own)
       (follows table (rows_at before.rows number.0) (rows_of_table before number.0 table ordered here own) (lead_fits before after changes ordered rises schema stored lead number.0 table own) (kept.1 table own)))

@@ -10,6 +10,6 @@ returns-in_ok-followed-in-Table g c = λ here stored lead kept.
     let before = g.V.StoreView.db c.args.before.now in
     let after = g.N.StoreView.db c.args.after.now in
     let query = c.args.query.now in
-    subst (λ (source : Source1). IsKept after query source (Plain c.in_ok-followed.followed)) (sym c.in-Table.is)
-    (plain_led before after (g.met.V.StoreView.ordered c.args.before.now) (g.met.N.StoreView.ordered c.args.after.now) c.requires.same c.args.changes.now query c.in-Table.table.now c.args.entries.now c.in_ok-followed.followed
-    c.in_ok-followed.ensures here stored lead (subst (λ (source : Source1). IsKept before query source (Plain c.args.entries.now)) c.in-Table.is kept))
+    subst (λ (source : Source1). IsKept after query source (Plain c.in_ok-followed-in-Table.followed)) (sym c.in-Table.is)
+    (plain_led before after (g.met.V.StoreView.ordered c.args.before.now) (g.met.N.StoreView.ordered c.args.after.now) c.requires.same c.args.changes.now query c.in-Table.table c.args.entries.now c.in_ok-followed-in-Table.followed
+    c.in_ok-followed-in-Table.ensures here stored lead (subst (λ (source : Source1). IsKept before query source (Plain c.args.entries.now)) c.in-Table.is kept))
