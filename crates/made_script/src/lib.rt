@@ -1,0 +1,7 @@
+//! What mode `make` does of itself: `make_script` gives the calls of a large script by the number of its people and a seed, and
+//! `Tally` adds up what calls were answered, and tells it as eight lines.
+#![tactic(auto)]
+
+mod draws;
+mod request;
+mod texts;
