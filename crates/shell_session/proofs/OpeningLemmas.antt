@@ -274,3 +274,12 @@ keeps-none book first fresh long works = record {
   whole = λ is failed. none-failed first.base (rw fresh at failed);
   marks = λ is session begun block stands. absurd (none-open first.base session begun block (rw fresh at stands));
 }
+
+-- another book that tells the same
+pub keeps-same : {D : Type 0} (old new : Book) (opening : Opening D) → new.marks ≡ old.marks → new.failed ≡ old.failed → Keeps old opening → Keeps new opening
+keeps-same old new opening marks failed keeps = record {
+  long = subst (λ (marks : List Bool). length marks ≡ 16) (sym marks) keeps.long;
+  failed = λ is. keeps.failed (sym failed ∙ is);
+  whole = λ is. keeps.whole (sym failed ∙ is);
+  marks = λ is session begun block stood. subst (λ (marks : List Bool). IsMarked marks session) (sym marks) (keeps.marks (sym failed ∙ is) session begun block stood);
+}

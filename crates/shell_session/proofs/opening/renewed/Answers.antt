@@ -5,7 +5,7 @@ use Rattle.own_base.specs.declared.number.Area.TheVariants.{A, B}
 use Rattle.engine_core.specs.Seen.{disk_of}
 use Rattle.shell_session.specs.DiskView.{view_of}
 use Rattle.shell_session.specs.Opening.{HasFailed, IsAtRest, IsLeftOver, opening_of}
-use Rattle.shell_session.proofs.OpeningLemmas.{OpensNone, OpensStore, keeps-none, renewed-none, renewed-over}
+use Rattle.shell_session.proofs.OpeningLemmas.{OpensNone, OpensStore, keeps-none, keeps-same, renewed-none, renewed-over}
 use Rattle.shell_session.proofs.PieceLemmas.{silent-renewed}
 use Rattle.shell_session.proofs.StandingLemmas.{unmarked}
 use Rattle.shell_session.proofs.opening.renewed.Goals as goal
@@ -61,3 +61,7 @@ returns-in-Err-clause-err g c = let view = view_of g.D.Disk.leaves g.D.Disk.mome
             risen = c.in-Err.ensures.risen;
           })),
     )
+
+pub lay_anew-requires : goal.lay_anew-requires
+lay_anew-requires g c =
+    keeps-same c.args.opened.book c.begin_anew.new.self (opening_of c.args.opened.engine) c.begin_anew.ensures.marks c.begin_anew.ensures.failed c.requires
