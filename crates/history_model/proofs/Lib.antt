@@ -6,6 +6,7 @@ pub mod BlockNet
 pub mod ChangeLemmas
 pub mod DiskAnswers
 pub mod DoomLemmas
+pub mod DoomTold
 pub mod EveryHistory
 pub mod GrantLemmas
 pub mod HistoryLemmas

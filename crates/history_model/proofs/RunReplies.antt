@@ -1,5 +1,5 @@
--- What a statement is answered as it runs, and what refuses a commit, is the statement's own: no conflict, and no failure of
--- the disk.
+-- What a statement is answered as it runs, and what refuses a commit, is the statement's own: no conflict, no doom, and no
+-- failure of the disk.
 use Rattle.std.proofs.Common.{◌≡◌, ℕ, ◌+◌, List, [], ◌∷◌, ◌++◌, length, map, Bool, true, false, refl, subst}
 use Rattle.std.specs.Prelude.{◌&&◌, ◌==◌, Option, Some, None, Result, Ok, Err, filter, flat_map, nat_lt, slice_get, if◌then◌else◌}
 use Rattle.std.specs.Option.{option_map_or}
@@ -45,8 +45,7 @@ use Rattle.state_model.specs.CommitRefusal.{commit_refusal, first_refusal}
 use Rattle.run_model.specs.Run.{Outcome, add_view, create_table, create_unless, delete, forget_subject, insert, insert_into, put, run, run_bound, run_unless, show_subject, stored_unless, update, update_in, view_unless}
 use Rattle.run_model.specs.Update.{Sets, null_faults, range_faults, set_fault, update_faults as running_faults}
 use Rattle.history_model.specs.Reply.{changes, commit_reply, committed, committing, is_refusal}
-use Rattle.history_model.specs.Since.{is_left_out}
-use Rattle.history_model.proofs.StatementRefusals.{AreOfStatement, IfOfStatement, IsOfStatement, both, condition-of_statement, create-of_statement, each, if_meant, if_none, if_one, insert-of_statement, lowest-of_statement, select-of_statement, twice-of_statement, wrong_step}
+use Rattle.history_model.proofs.StatementRefusals.{AreOfStatement, IfOfStatement, IsOfStatement, both, condition-of_statement, create-of_statement, each, if_meant, if_none, if_one, insert-of_statement, is_of_others, lowest-of_statement, select-of_statement, twice-of_statement, wrong_step}
 
 -- the faults of an UPDATE: of what a column is set to
 if_found : {X : Type 0} (h : X → List Refusal) (found : Option X) → ((x : X) → AreOfStatement (h x)) → AreOfStatement (option_map_or h found [])
@@ -140,7 +139,7 @@ binding-of_statement schema found why is = by _ (faults-of_statement schema foun
 
 -- an answer of the statement's own
 abbrev AnswersForItself : Outcome → Type 0
-AnswersForItself outcome = is_left_out outcome.reply ≡ false
+AnswersForItself outcome = is_of_others outcome.reply ≡ false
 
 first-of_statement : (faults : List Refusal) → AreOfStatement faults → IfOfStatement (first_of faults)
 first-of_statement [] own = tt
@@ -156,7 +155,7 @@ module _ (db : Db) where
   view_step view None own = refl
   view_step view (Some why) own = own
 
-  shown_step : (b : Bool) (rows : List Row) → is_left_out (if b then Refused (refusal.Limit limit.Reply) else Rows rows) ≡ false
+  shown_step : (b : Bool) (rows : List Row) → is_of_others (if b then Refused (refusal.Limit limit.Reply) else Rows rows) ≡ false
   shown_step true rows = refl
   shown_step false rows = refl
 
@@ -268,17 +267,17 @@ unfolding commit_refusal
 commit_refusal-of_statement before after = first_refusal-of_statement (fault after) _ (fault-of_statement after) (big-of_statement _ _)
 
 -- what asks nothing of the disk, and what the disk takes, is refused by what a commit asks, or as it ran
-pub committing-of_statement : (needed : Bool) (cause : Option Refusal) (reply : Reply) → IfOfStatement cause → is_left_out reply ≡ false
-    → is_left_out (committing Took needed cause reply) ≡ false
+pub committing-of_statement : (needed : Bool) (cause : Option Refusal) (reply : Reply) → IfOfStatement cause → is_of_others reply ≡ false
+    → is_of_others (committing Took needed cause reply) ≡ false
 committing-of_statement needed cause reply causes own = by (is_refusal reply) needed cause causes
   where
     by : (refused needed : Bool) (cause : Option Refusal) → IfOfStatement cause
-        → is_left_out (if refused then reply else committed Took needed cause reply) ≡ false
+        → is_of_others (if refused then reply else committed Took needed cause reply) ≡ false
     by true needed cause causes = own
     by false needed (Some why) causes = causes
     by false true None causes = own
     by false false None causes = own
 
 -- a COMMIT that the disk takes
-pub commit-of_statement : (db after : Db) → is_left_out (commit_reply Took db after) ≡ false
+pub commit-of_statement : (db after : Db) → is_of_others (commit_reply Took db after) ≡ false
 commit-of_statement db after = committing-of_statement (changes db after) (commit_refusal db after) Done (commit_refusal-of_statement db after) refl

@@ -1,6 +1,6 @@
--- What binding or the catalog refuses a statement for is the statement's own: no conflict, and no failure of the disk.
+-- What binding or the catalog refuses a statement for is the statement's own: no conflict, no doom, and no failure of the disk.
 use Rattle.std.proofs.Common.{◌≡◌, ℕ, ◌+◌, List, [], ◌∷◌, ◌++◌, length, map, Bool, true, false, fold, refl, subst}
-use Rattle.std.specs.Prelude.{◌&&◌, Option, Some, None, find, flat_map, zip, if◌then◌else◌}
+use Rattle.std.specs.Prelude.{◌&&◌, ◌||◌, Option, Some, None, find, flat_map, zip, if◌then◌else◌}
 use Rattle.std.specs.List.{AllByRecursion}
 use Rattle.std.specs.Option.{option_map, option_map_or, option_or}
 use Rattle.own_base.specs.declared.value.Value.{Value}
@@ -14,6 +14,7 @@ use Rattle.own_model.specs.declared.limit.LimitName.TheVariants as limit
 use Rattle.own_model.specs.declared.refusal.Refusal.{Refusal}
 use Rattle.own_model.specs.declared.refusal.Refusal.TheVariants as refusal
 use Rattle.own_model.specs.declared.refusal.Refusal.TheVariants.{NoColumn, NullValue, WrongKind}
+use Rattle.own_model.specs.declared.reply.Reply.{Reply}
 use Rattle.own_model.specs.declared.reply.Reply.TheVariants.{Refused}
 use Rattle.own_model.specs.declared.schema.Column.{Column as Definition}
 use Rattle.own_model.specs.declared.schema.Kind.{Kind}
@@ -36,11 +37,16 @@ use Rattle.query_model.specs.Scope.{NameBytes, Scope, column_meant, no_column, t
 use Rattle.query_model.specs.SelectFaults.{from_faults, group_faults, is_grouped, item_faults, join_faults, listed_items, no_table, order_faults, scoped_faults, select_faults, select_scope}
 use Rattle.query_model.specs.Truth.{is_null}
 use Rattle.query_model.specs.WriteFaults.{column_in, columns_for, columns_left, insert_faults, insert_faults_in, list_faults, not_a_column, takes_no_null, tuple_faults, twice, value_faults, wrong_count}
+use Rattle.history_model.specs.History.{is_doomed}
 use Rattle.history_model.specs.Since.{is_left_out}
 
--- A refusal that the statement itself gives rise to: neither a conflict with another session, nor a failure of the disk.
+-- an answer that others give rise to: a conflict with a session, the doom of one's own, or a failure of the disk
+abbrev pub is_of_others : Reply → Bool
+is_of_others reply = is_left_out reply || is_doomed reply
+
+-- a refusal that the statement itself gives rise to
 abbrev pub IsOfStatement : Refusal → Type 0
-IsOfStatement why = is_left_out (Refused why) ≡ false
+IsOfStatement why = is_of_others (Refused why) ≡ false
 
 abbrev pub AreOfStatement : List Refusal → Type 0
 AreOfStatement faults = AllByRecursion IsOfStatement faults

@@ -17,15 +17,16 @@ use Rattle.own_model.specs.Db.{Db}
 use Rattle.query_model.specs.BoundStatement.{bound_statement}
 use Rattle.run_model.specs.Run.{run}
 use Rattle.history_model.specs.Held.{Holding, lowest_other}
-use Rattle.history_model.specs.History.{History, down_after, happens, is_disk, is_failure, world as world_of}
+use Rattle.history_model.specs.History.{History, down_after, happens, is_disk, is_doomed, is_failure, world as world_of}
 use Rattle.history_model.specs.Reply.{answer, create_reply, granted, reply_in, reply_inside, reply_outside, taking, unless_busy, unless_down, unless_held, write_reply}
 use Rattle.history_model.specs.Since.{is_left_out}
 use Rattle.history_model.specs.World.{Block, SessionStanding, Outside, Open, Doomed, World, after_block, start}
 use Rattle.history_model.proofs.RunReplies.{binding-of_statement, commit-of_statement, committing-of_statement, fault-of_statement, run-of_statement, commit_refusal-of_statement}
+use Rattle.history_model.proofs.StatementRefusals.{is_of_others}
 
 -- what is the statement's own isn't for want of the disk
-own-works : (reply : Reply) → is_left_out reply ≡ false → is_failure reply ≡ false
-own-works reply own = (or_parts _ _ own).1
+own-works : (reply : Reply) → is_of_others reply ≡ false → is_failure reply ≡ false
+own-works reply own = (or_parts _ _ (or_parts (is_left_out reply) (is_doomed reply) own).0).1
 
 module _ (world : World) (session : ℕ) where
   -- a statement that takes rows: binding refuses it, another session holds a row, or it goes on

@@ -35,6 +35,10 @@ abbrev pub is_down : Reply → Bool
 is_down (Refused (refusal.Down place)) = true
 is_down _ = false
 
+abbrev pub is_doomed : Reply → Bool
+is_doomed (Refused (refusal.Doomed place)) = true
+is_doomed _ = false
+
 abbrev pub is_conflict : Reply → Bool
 is_conflict (Refused (refusal.Conflict session table key)) = true
 is_conflict _ = false

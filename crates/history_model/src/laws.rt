@@ -105,6 +105,11 @@ pub fn doomed_session_is_not_open()
         → (happens world entry).standing entry.session.0 ≡ Outside }
 {}
 
+/// Nobody else is told a doom: where an answer tells one at a place, its session stood doomed by the FORGET there.
+pub fn doom_is_told_to_the_doomed()
+    ensures { (world : World) (entry : Entry) (place : ℕ) → answer world entry ≡ Refused (refusal.Doomed (record { 0 = place })) → world.standing entry.session.0 ≡ Doomed place }
+{}
+
 /// After a call that the disk failed every call is answered with the place of that one.
 pub fn all_is_down_after_the_disk_failed()
     ensures { (base : Db) (history : History) (place later : ℕ) → reply base history place ≡ Some (Refused Disk) → place < later
