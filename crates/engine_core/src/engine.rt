@@ -12,7 +12,7 @@ ghost use Rattle.grammar_model.specs.Readable.{IsReadable};
 ghost use Rattle.own_base.specs.declared.number.Place.{Place};
 ghost use Rattle.history_model.specs.AsksDisk as spec;
 ghost use Rattle.history_model.specs.Commits.{commits};
-ghost use Rattle.history_model.specs.History.{world};
+ghost use Rattle.history_model.specs.History.{flat, world};
 ghost use Rattle.history_model.specs.MayBeUnmade.{MayBeUnmadeFrom};
 ghost use Rattle.history_model.specs.Serial.{IsEntry, IsHistory, Serial};
 ghost use Rattle.disk_model.specs.Judged.{IsJudged};
@@ -43,6 +43,7 @@ use std::alloc::{AllocError, Global};
 use std::marker::Model;
 use std::mem::drop;
 use store_disk::{StoreDisk, open_disk};
+use store_version::Version;
 use txn_core::Txns;
 
 /// An opened store: its state and the transactions of its sessions, the history that made them, and its disk. Contracts see the
@@ -172,6 +173,13 @@ impl<D: Disk> Engine<D> {
         ensures exact { IsNoRoomExact self.now.journal self.now.base self.now.start result.now }
     {
         &self.history
+    }
+
+    /// The state that the calls made so far have left; of one whose disk has failed nothing is said. Takes no memory.
+    pub fn version(&self) -> &Version
+        ensures { (world self.now.base self.now.history).down ≡ None → result.now ≡ flat self.now.base self.now.history }
+    {
+        &self.state.version
     }
 
     /// For how many entries more there is room, as far as 32 bits tell. Takes no memory.
