@@ -13,8 +13,8 @@ Each makes a table and then so many INSERTs of one row, every one durable before
                        as a new cluster has them
 
 What is told is wall time, with that of the table alone taken off, and the time of the processor beside it: of postgres that
-of the server's processes, and of psql. All of it is of the least round of several in turn. The folders lie in that which
-TMPDIR names.
+of the server's processes, and of psql. All of it is of the least round of several in turn. Where the system tells them, the
+instructions of this program and of SQLite are those of one more run. The folders lie in that which TMPDIR names.
 """
 import contextlib
 import os
@@ -24,7 +24,7 @@ import sys
 import tempfile
 import time
 
-from processor import spent
+from processor import instructions, spent, tells_instructions
 
 COMMITS, ROUNDS = 1_000, 20
 CREATE = "CREATE TABLE items (id INT PRIMARY KEY, n INT, name TEXT);\n"
@@ -170,9 +170,8 @@ class Commits:
         return take
 
     def own(self, calls):
-        store = self.fresh()
-        os.mkdir(store)
-        taken, told = fed([self.program, store, "step"], calls)
+        (program, store, mode), _ = self.run_of_own(calls)
+        taken, told = fed([program, store, mode], calls)
         if told.count(b" ok") != len(calls) or told.count(b"\n") != len(calls) + 1:
             sys.exit("unexpected replies")
         records = 31 + 5 + 5 + len("CREATE TABLE items ( id INT PRIMARY KEY , n INT , name TEXT )") + sum(map(record_bytes, range(len(calls) - 1)))
@@ -180,12 +179,38 @@ class Commits:
             sys.exit(f"the store has {os.path.getsize(os.path.join(store, 'a'))} bytes, and not {records}")
         return taken
 
-    def sqlite(self, mode):
-        def take(calls):
+    def run_of_own(self, calls):
+        """The command and the input of this program's run."""
+        store = self.fresh()
+        os.mkdir(store)
+        return [self.program, store, "step"], calls
+
+    def run_of_sqlite(self, mode):
+        def run(calls):
             front = [f"PRAGMA journal_mode={mode};\n", "PRAGMA synchronous=FULL;\n"]
             command = [self.command] if self.command else [sys.executable, "-c", BY_MODULE]
-            return fed([*command, self.fresh()], front + [call.replace("INT PRIMARY KEY", "INTEGER PRIMARY KEY") for call in calls])[0]
-        return take
+            return [*command, self.fresh()], front + [call.replace("INT PRIMARY KEY", "INTEGER PRIMARY KEY") for call in calls]
+        return run
+
+    def sqlite(self, mode):
+        return lambda calls: fed(*self.run_of_sqlite(mode)(calls))[0]
+
+    def instructions(self, calls):
+        """The instructions that the calls take behind the first, of those of whom the system tells them."""
+        beside = "sqlite3" if self.command else "Python's sqlite3"
+        runs = {"subjectdb": self.run_of_own, f"{beside}, WAL": self.run_of_sqlite("WAL"), f"{beside}, rollback": self.run_of_sqlite("DELETE")}
+        told = {}
+        for name, run in runs.items():
+            counts = []
+            for some in (calls[:1], calls):
+                command, lines = run(some)
+                with tempfile.NamedTemporaryFile("w") as script:
+                    script.writelines(lines)
+                    script.flush()
+                    counts.append(instructions(command, script.name))
+            if None not in counts:
+                told[name] = counts[1] - counts[0]
+        return told
 
     def who(self):
         beside = "sqlite3" if self.command else "Python's sqlite3"
@@ -205,12 +230,13 @@ def time_commits(program, folder, commits=COMMITS, rounds=ROUNDS):
                 base, all_of = take(calls[:1]), take(calls)
                 one = all_of.wall - base.wall, all_of.processor - base.processor
                 best[name] = min(best.get(name, one), one)
+        told = bench.instructions(calls) if tells_instructions() else {}
     finally:
         if bench.postgres:
             bench.postgres.stop()
     print(f"{f'{commits:,} commits of one row':<28}{'commits a second':>18}{'a commit':>12}{'processor':>12}{'of two syncs':>14}")
     for name, (wall, processor) in best.items():
         print(f"  {name:<26}{commits / wall:>18,.0f}{wall / commits * 1e6:>9.0f} µs{processor / commits * 1e6:>9.0f} µs"
-              f"{wall / best['two syncs'][0]:>14.2f}", flush=True)
+              f"{wall / best['two syncs'][0]:>14.2f}" + (f"  {told[name] / commits:,.0f} instructions each" if name in told else ""), flush=True)
     if bench.missing:
         print(f"  postgres: {', '.join(bench.missing)} isn't installed")

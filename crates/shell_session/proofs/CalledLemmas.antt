@@ -11,7 +11,7 @@ use Rattle.own_model.specs.declared.history.Verdict.TheVariants.{Took, DiskFault
 use Rattle.own_model.specs.declared.limit.TheConstants.{SESSIONS}
 use Rattle.own_model.specs.declared.refusal.Refusal.TheVariants.{Memory}
 use Rattle.own_model.specs.declared.reply.Reply.{Reply}
-use Rattle.own_model.specs.declared.reply.Reply.TheVariants.{Refused}
+use Rattle.own_model.specs.declared.reply.Reply.TheVariants.{Done, Refused}
 use Rattle.own_model.specs.declared.request.Request.{Request}
 use Rattle.own_model.specs.declared.request.Request.TheVariants.{Run, Syntax, Limit, End}
 use Rattle.own_model.specs.declared.script.ScriptCall.{ScriptCall}
@@ -22,23 +22,26 @@ use Rattle.outer_world.specs.FaultCount.{CountRose}
 use Rattle.outer_world.specs.LeavesOnly.{LeavesOnly}
 use Rattle.outer_world.proofs.Moments.{begun, weaker}
 use Rattle.history_model.specs.AsksDisk.{under}
-use Rattle.history_model.specs.History.{History, is_disk, is_failure, reply, standing, world}
+use Rattle.history_model.specs.History.{History, flat, is_disk, is_failure, reply, standing, world}
 use Rattle.history_model.specs.Made.{entry_of}
 use Rattle.history_model.specs.Reply.{answer}
 use Rattle.history_model.specs.World.{Block, Open}
 use Rattle.history_model.proofs.HistoryLemmas.{reply-last}
+use Rattle.reply_json.specs.declared.columns.TableNames.{TableNames}
 use Rattle.crash_model.specs.LeftBy.{IsLeftBy}
 use Rattle.engine_core.specs.Seen.{IsLeftByEither, LeavesUnmade, Makes, Seen, Writes, disk_of, entry}
 use Rattle.engine_core.specs.Stored.{is_fault}
 use Rattle.shell_session.specs.Answered.{IsAnswered, IsMadeAt}
 use Rattle.shell_session.specs.DiskView.{DiskView, view_of}
-use Rattle.shell_session.specs.Kept.{Keeps, effect_of, marked}
-use Rattle.shell_session.specs.Life.{IsCalled, Moves, is_checkpoint}
+use Rattle.shell_session.specs.Kept.{Keeps, effect_by, effect_of, marked}
+use Rattle.shell_session.specs.Life.{EndsLaid, IsCalled, Moves, is_checkpoint}
+use Rattle.shell_session.specs.Names.{is_create, table_names}
 use Rattle.shell_session.specs.Opening.{IsFailedIn, IsLeftOver, Opening, opening_of}
 use Rattle.shell_session.specs.declared.book.Book.{Book}
 use Rattle.shell_session.specs.declared.book.Effect.{Effect}
 use Rattle.shell_session.specs.declared.book.Effect.TheVariants.{Opens, Closes, Leaves}
 use Rattle.shell_session.proofs.FailedLemmas.{failed-kept, failed-more}
+use Rattle.shell_session.proofs.NameLemmas.{made-answer, named-after}
 use Rattle.shell_session.proofs.StandingLemmas.{marks_after, marks-made}
 
 -- a fault is told just where the verdict is one
@@ -106,9 +109,10 @@ module _ {D : Type 0} (leaves : D → Area → List ℕ → Type 0) (moment : D 
 noted-made : {D : Type 0} (base : Db) (before : History) (call : ScriptCall) (verdict : Verdict) (told : Reply) (old new : Book) (here : Opening D) (after : Opening D)
     → IsOfASession call → here.base ≡ base → here.history ≡ before → after.base ≡ base → after.history ≡ before ++ entry_of call verdict ∷ []
     → answer (world base before) (entry_of call verdict) ≡ told → Keeps old here
-    → new.marks ≡ marks_after old.marks call.session.0 (effect_of call.request) (is_failure told) → length new.marks ≡ 16 → new.failed ≡ (old.failed || is_disk told)
+    → new.marks ≡ marks_after old.marks call.session.0 (effect_by (effect_of call.request) told) (is_failure told) → length new.marks ≡ 16 → new.failed ≡ (old.failed || is_disk told)
+    → ((tables : List TableNames) → new.tables ≡ Some tables → tables ≡ table_names (flat after.base after.history).schema)
     → Keeps new after
-noted-made base before call verdict told old new here after session base_is history_is base_then history_then answered kept marks long failed =
+noted-made base before call verdict told old new here after session base_is history_is base_then history_then answered kept marks long failed named =
     let last = reply-last base before (entry_of call verdict) ∙ ap Some answered in
     record {
       long = long;
@@ -121,6 +125,7 @@ noted-made base before call verdict told old new here after session base_is hist
           let both = neither old.failed (is_disk told) (sym failed ∙ is) in
           rw marks (marks-made base before (entry_of call verdict) told answered old.marks kept.long session.0 session.1
           (λ other begun block was. kept.marks both.0 other begun block (rw (base_is, history_is) was)) session_open begun block (rw (base_then, history_then) at opened));
+      names = named;
     }
   where
     neither : (a b : Bool) → (a || b) ≡ false → (a ≡ false) × (b ≡ false)
@@ -135,16 +140,13 @@ noted-made base before call verdict told old new here after session base_is hist
 -- a call was answered, and noted
 pub noted : {D : Type 0} (view : DiskView D) (before after : Opening D) (call : ScriptCall) (place : Option ℕ) (told : Reply) (old new : Book) → IsOfASession call
     → IsCalled view before after call place told → Keeps old before
-    → new.marks ≡ (if is_some place then (if is_failure told then old.marks else marked old.marks call.session.0 (effect_of call.request)) else old.marks)
-    → length new.marks ≡ 16 → new.failed ≡ (old.failed || is_disk told) → Keeps new after
-noted view before after call (Some place) told old new session called kept marks long failed =
+    → new.marks ≡ (if is_some place then (if is_failure told then old.marks else marked old.marks call.session.0 (effect_by (effect_of call.request) told)) else old.marks)
+    → length new.marks ≡ 16 → new.failed ≡ (old.failed || is_disk told) → new.tables ≡ (if is_create call.request then None else old.tables) → Keeps new after
+noted view before after call (Some place) told old new session called kept marks long failed tables =
     let made = called.answered in
-    let answered : answer (world before.base before.history) (entry_of call made.verdict) ≡ told =
-    let last = reply-last before.base before.history (entry_of call made.verdict) in
-    let at = rw (made.history_is, made.place_is) at made.reply_is in
-    let same : Some (answer (world before.base before.history) (entry_of call made.verdict)) ≡ Some told = sym last ∙ at in cc in
-    noted-made before.base before.history call made.verdict told old new before after session refl refl called.base made.history_is answered kept marks long failed
-noted view before after call None told old new session called kept marks long failed =
+    noted-made before.base before.history call made.verdict told old new before after session refl refl called.base made.history_is
+    (made-answer before.base before.history after.history call place told made) kept marks long failed (named-after view before after call (Some place) told old new called kept tables)
+noted view before after call None told old new session called kept marks long failed tables =
     let same_base = called.base in
     let same_history = called.answered.history_is in
     let works : is_disk told ≡ false = ap is_disk called.answered.told_is in
@@ -154,6 +156,7 @@ noted view before after call None told old new session called kept marks long fa
       failed = λ is. rw (same_base, same_history) (kept.failed (sym same_failed ∙ is));
       whole = λ is fails. kept.whole (sym same_failed ∙ is) (rw (same_base, same_history) at fails);
       marks = λ is session_open begun block opened. rw marks (kept.marks (sym same_failed ∙ is) session_open begun block (rw (same_base, same_history) at opened));
+      names = named-after view before after call None told old new called kept tables;
     }
   where
     still : (a b : Bool) → b ≡ false → (a || b) ≡ a
@@ -177,16 +180,15 @@ noted-long marks session effect true false = marked-long marks session effect
 noted-long marks session effect false failed = refl
 
 -- a call was answered, told and noted
-pub noted-call : {D : Type 0} (view : DiskView D) (before after : Opening D) (call : ScriptCall) (place : Option Place) (told : Reply) (old mid new : Book) (effect : Effect) → IsOfASession call
-    → IsCalled view before after call (option_map (λ (p : Place). p.0) place) told → Keeps old before → mid.marks ≡ old.marks → mid.failed ≡ old.failed → effect ≡ effect_of call.request
-    → new.marks ≡ (if is_some place then (if is_failure told then mid.marks else marked mid.marks call.session.0 effect) else mid.marks) → new.failed ≡ (mid.failed || is_disk told)
-    → Keeps new after
-noted-call view before after call place told old mid new effect session called kept same_marks same_failed effect_is marks failed =
-    let same : new.marks ≡ (if is_some (option_map (λ (p : Place). p.0) place) then (if is_failure told then old.marks else marked old.marks call.session.0 (effect_of call.request)) else old.marks) =
-    rw (place-some place, ← same_marks, ← effect_is) marks in
+pub noted-call : {D : Type 0} (view : DiskView D) (before after : Opening D) (call : ScriptCall) (place : Option Place) (told : Reply) (old new : Book) (effect : Effect) → IsOfASession call
+    → IsCalled view before after call (option_map (λ (p : Place). p.0) place) told → Keeps old before → effect ≡ effect_of call.request
+    → new.marks ≡ (if is_some place then (if is_failure told then old.marks else marked old.marks call.session.0 (effect_by effect told)) else old.marks) → new.failed ≡ (old.failed || is_disk told)
+    → new.tables ≡ (if is_create call.request then None else old.tables) → Keeps new after
+noted-call view before after call place told old new effect session called kept effect_is marks failed tables =
+    let same : new.marks ≡ (if is_some (option_map (λ (p : Place). p.0) place) then (if is_failure told then old.marks else marked old.marks call.session.0 (effect_by (effect_of call.request) told)) else old.marks) =
+    rw (place-some place, ← effect_is) marks in
     noted view before after call (option_map (λ (p : Place). p.0) place) told old new session called kept same
-    (ap length same ∙ (noted-long old.marks call.session.0 (effect_of call.request) (is_some (option_map (λ (p : Place). p.0) place)) (is_failure told) ∙ kept.long))
-    (failed ∙ ap (λ was. was || is_disk told) same_failed)
+    (ap length same ∙ (noted-long old.marks call.session.0 (effect_by (effect_of call.request) told) (is_some (option_map (λ (p : Place). p.0) place)) (is_failure told) ∙ kept.long)) failed tables
 
 -- a CHECKPOINT leaves the marks
 checkpoint-leaves : (request : Request) → is_checkpoint request ≡ true → effect_of request ≡ Leaves
@@ -207,8 +209,42 @@ checkpoint-leaves (Syntax byte) is = cc
 checkpoint-leaves (Limit passed) is = cc
 checkpoint-leaves End is = cc
 
+-- and where it is done, so does its reply
 pub marks-left : (marks : List Bool) (session : ℕ) (effect : Effect) (request : Request) (made failed : Bool) → effect ≡ effect_of request → is_checkpoint request ≡ true
-    → (if made then (if failed then marks else marked marks session effect) else marks) ≡ marks
+    → (if made then (if failed then marks else marked marks session (effect_by effect Done)) else marks) ≡ marks
 marks-left marks session effect request true true effect_is is = refl
 marks-left marks session effect request true false effect_is is = ap (marked marks session) (effect_is ∙ checkpoint-leaves request is)
 marks-left marks session effect request false failed effect_is is = refl
+
+-- it is no CREATE
+pub checkpoint-plain : (request : Request) → is_checkpoint request ≡ true → is_create request ≡ false
+checkpoint-plain (Run (statement.Select select)) is = cc
+checkpoint-plain (Run (statement.Insert table columns rows)) is = cc
+checkpoint-plain (Run (statement.Update table sets cond)) is = cc
+checkpoint-plain (Run (statement.Delete table cond)) is = cc
+checkpoint-plain (Run (statement.CreateTable table)) is = cc
+checkpoint-plain (Run (statement.CreateView view)) is = cc
+checkpoint-plain (Run (statement.GdprGet table key)) is = cc
+checkpoint-plain (Run (statement.GdprForget table key)) is = cc
+checkpoint-plain (Run statement.Begin) is = cc
+checkpoint-plain (Run statement.Commit) is = cc
+checkpoint-plain (Run statement.Rollback) is = cc
+checkpoint-plain (Run statement.Checkpoint) is = refl
+checkpoint-plain (Run statement.Explain) is = cc
+checkpoint-plain (Syntax byte) is = cc
+checkpoint-plain (Limit passed) is = cc
+checkpoint-plain End is = cc
+
+-- a CHECKPOINT that is done ends the history
+pub laid-done : {D : Type 0} (view : DiskView D) (before after : Opening D) (call : ScriptCall) (place : Option ℕ) (told : Reply) → IsCalled view before after call place told → is_checkpoint call.request ≡ true
+    → told ≡ Done → EndsLaid after.base after.history
+laid-done view before after call (Some place) told called is done =
+    let made = called.answered in
+    record {
+      front = before.history;
+      last = entry_of call made.verdict;
+      history_is = made.history_is;
+      asked = is;
+      done = rw (called.base, ← done, ← made.place_is) made.reply_is;
+    }
+laid-done view before after call None told called is done = let never : Refused Memory ≡ Done = sym called.answered.told_is ∙ done in cc

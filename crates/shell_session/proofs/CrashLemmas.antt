@@ -30,7 +30,7 @@ fails Renewed = false
 module _ {D : Type 0} (view : DiskView D) where
   -- what each event did to the disk
   moves_of : (before : Opening D) (event : Event) (after : Opening D) → Happens view before event after → Moves view before after (fails event)
-  moves_of before (Called telling) after happens = happens.moves
+  moves_of before (Called telling) after happens = happens.0.moves
   moves_of before (Laid call place told) after happens = happens.0.moves
   moves_of before Renewed after happens = happens.moves
 
@@ -55,13 +55,13 @@ module _ {D : Type 0} (view : DiskView D) where
   call-fails before after call None told called failed = inl (rw (called.base, called.answered.history_is) at failed)
 
   event-failed : (before : Opening D) (event : Event) (after : Opening D) → Happens view before event after → HasFailed before ⊎ (fails event ≡ true) → HasFailed after
-  event-failed before (Called telling) after happens either = call-failed before after telling.call telling.place telling.told happens either
+  event-failed before (Called telling) after happens either = call-failed before after telling.call telling.place telling.told happens.0 either
   event-failed before (Laid call place told) after happens either = call-failed before after call place told happens.0 either
   event-failed before Renewed after happens (inl was) = absurd (happens.whole was)
   event-failed before Renewed after happens (inr is) = cc
 
   event-fails : (before : Opening D) (event : Event) (after : Opening D) → Happens view before event after → HasFailed after → HasFailed before ⊎ (fails event ≡ true)
-  event-fails before (Called telling) after happens failed = call-fails before after telling.call telling.place telling.told happens failed
+  event-fails before (Called telling) after happens failed = call-fails before after telling.call telling.place telling.told happens.0 failed
   event-fails before (Laid call place told) after happens failed = call-fails before after call place told happens.0 failed
   event-fails before Renewed after happens failed = absurd (none-failed after.base (rw happens.fresh at failed))
 

@@ -20,14 +20,16 @@ use Rattle.crash_model.specs.LeftBy.{IsLate, IsLeftBy, IsWhole}
 use Rattle.crash_model.specs.StoreIn.{IsStoreIn}
 use Rattle.crash_model.proofs.LeftLemmas.{whole-none}
 use Rattle.crash_model.proofs.StoreLemmas.{one-store}
+use Rattle.reply_json.specs.declared.columns.TableNames.{TableNames}
 use Rattle.crash_recover.specs.Opening.{AreAlike, IsLeft}
 use Rattle.crash_recover.specs.declared.open.OpenFault.{OpenFault}
 use Rattle.crash_recover.specs.declared.open.OpenFault.TheVariants as opening
 use Rattle.engine_core.specs.Seen.{Seen, disk_of}
 use Rattle.shell_session.specs.DiskView.{DiskView}
 use Rattle.shell_session.specs.Kept.{Keeps, IsMarked}
-use Rattle.shell_session.specs.Life.{IsRenewed, Moves}
-use Rattle.shell_session.specs.OnDisk.{IsFoundDamaged, IsNotOpened, IsNotRenewed, IsOpened, IsSameStore}
+use Rattle.shell_session.specs.Life.{EndsLaid, IsRenewed, Moves}
+use Rattle.shell_session.specs.Names.{table_names}
+use Rattle.shell_session.specs.OnDisk.{IsFoundDamaged, IsNotOpened, IsNotRenewed, IsOpened}
 use Rattle.shell_session.specs.Opening.{HasFailed, IsAtRest, IsFailedIn, IsLeftOver, Opening, opening_of}
 use Rattle.shell_session.specs.Status.{unopened}
 use Rattle.shell_session.specs.declared.book.Book.{Book}
@@ -107,113 +109,9 @@ module _ {D : Type 0} (holds : D → Area → List ℕ) (view : DiskView D) wher
     moments = opens.moments;
   }
 
-  -- a store that was opened is the same
-  pub opened-same : (disk : D) (engine : Seen D) → OpensStore disk engine → IsSameStore holds view disk (disk_of engine)
-  opened-same disk engine opens = record {
-    honesty = opens.honesty;
-    time = opens.time;
-    steady = opens.steady;
-    base = engine.base;
-    start = engine.start;
-    held = opens.base;
-    now = opens.left;
-    moments = opens.moments;
-  }
-
   module _ (only_now : (disk : D) (a b : List ℕ) → view.might_have_left disk (view.moment disk) a b → view.leaves disk A a × view.leaves disk B b) where
-    -- nothing was done to the disk, for want of memory
-    pub untouched-none : (disk : D) (fault : OpenFault) → fault ≡ opening.Memory → IsNotOpened holds view disk disk (unopened fault)
-    untouched-none disk fault is = record {
-      honesty = refl;
-      time = omega arith;
-      risen = omega arith;
-      rose = λ told. let never = disk_fault fault told in cc;
-      steady = λ other. refl;
-      damaged = λ area offset told. let never = damaged_fault fault area offset told in cc;
-      moments = λ can. begun view.leaves view.moment view.might_have_left only_now disk (IsLeft holds view.leaves disk) (λ a b in_a in_b. inl (in_a, in_b));
-    }
-
-    -- a store that was opened once is opened again, and is the same
-    module _ (reads_may_stay : (disk : D) (area : Area) → IsTrue (view.honest disk) → view.leaves disk area (holds disk area)) (old mid : D) (same : IsSameStore holds view old mid) where
-      held_then : IsTrue (view.honest old) → IsStoreIn (holds mid A) (holds mid B) same.base same.start
-      held_then can =
-          let can_mid = subst IsTrue (sym same.honesty) can in
-          same.now can (holds mid A) (holds mid B) (reads_may_stay mid A can_mid) (reads_may_stay mid B can_mid)
-
-      left_twice : IsTrue (view.honest old) → (a b : List ℕ) → IsLeft holds view.leaves mid a b → IsLeft holds view.leaves old a b
-      left_twice can a b (inl both) = inr (record { db = same.base; number = same.start; before = same.held can; after = same.now can a b both.0 both.1 })
-      left_twice can a b (inr alike) =
-          let one = one-store (holds mid A) (holds mid B) alike.db same.base alike.number same.start alike.before (held_then can) in
-          inr (record { db = same.base; number = same.start; before = same.held can; after = rw (← one.0, ← one.1) alike.after })
-
-      twice : (new : D) → IsTrue (view.honest old) → LeavesOnly view.moment view.might_have_left (IsLeft holds view.leaves mid) mid new
-          → LeavesOnly view.moment view.might_have_left (IsLeft holds view.leaves old) old new
-      twice new can moments =
-          then view.leaves view.moment view.might_have_left only_now old mid new (IsLeft holds view.leaves old) (same.moments can)
-          (weaker view.leaves view.moment view.might_have_left only_now mid new (IsLeft holds view.leaves mid) (IsLeft holds view.leaves old) (left_twice can) moments)
-
-      pub opened-again : (engine : Seen D) → OpensStore mid engine → IsOpened holds view old (opening_of engine)
-      opened-again engine opens =
-          let can_mid : IsTrue (view.honest old) → IsTrue (view.honest mid) = λ can. subst IsTrue (sym same.honesty) can in
-          let time = same.time in
-          let time_then = opens.time in
-          record {
-            fresh = opens.history;
-            honesty = opens.honesty ∙ same.honesty;
-            time = omega (arith, time, time_then);
-            steady = opens.steady ∙ same.steady;
-            held = λ can.
-                let one = one-store (holds mid A) (holds mid B) same.base engine.base same.start engine.start (held_then can) (opens.base (can_mid can)) in
-                rw (← one.0, ← one.1) (same.held can);
-            now = λ can a b in_a in_b. inl (rw opens.history (whole-none engine.base engine.start a b (opens.left (can_mid can) a b in_a in_b)));
-            moments = λ can. twice (disk_of engine) can (opens.moments (can_mid can));
-          }
-
-      pub none-again : (fault : OpenFault) (back : D) → OpensNone mid fault back → IsNotOpened holds view old back (unopened fault)
-      none-again fault back opens =
-          let can_mid : IsTrue (view.honest old) → IsTrue (view.honest mid) = λ can. subst IsTrue (sym same.honesty) can in
-          let time = same.time in
-          let time_then = opens.time in
-          let steady = same.steady in
-          let risen = opens.risen in
-          record {
-            honesty = opens.honesty ∙ same.honesty;
-            time = omega (arith, time, time_then);
-            risen = omega (arith, steady, risen);
-            rose = λ is. rw (← steady) (opens.rose (disk_fault fault is));
-            steady = λ other. opens.steady (λ is. other (ap unopened is)) ∙ steady;
-            damaged = λ area offset is can.
-                let damage = damaged_fault fault area offset is in
-                absurd (store-undamaged (holds mid A) (holds mid B) same.base same.start area offset (held_then can) (opens.damaged area offset damage (can_mid can)));
-            moments = λ can. twice back can (opens.moments (can_mid can));
-          }
-
-      -- memory was refused after it was opened once
-      pub same-none : (fault : OpenFault) → fault ≡ opening.Memory → IsNotOpened holds view old mid (unopened fault)
-      same-none fault is =
-          let steady = same.steady in
-          record {
-            honesty = same.honesty;
-            time = same.time;
-            risen = omega (arith, steady);
-            rose = λ told. let never = disk_fault fault told in cc;
-            steady = λ other. same.steady;
-            damaged = λ area offset told. let never = damaged_fault fault area offset told in cc;
-            moments = same.moments;
-          }
-
-    -- the store was opened once before, or it wasn't
-    module _ (reads_may_stay : (disk : D) (area : Area) → IsTrue (view.honest disk) → view.leaves disk area (holds disk area)) where
-      pub opened-either : (old mid : D) (engine : Seen D) → (mid ≡ old) ⊎ IsSameStore holds view old mid → OpensStore mid engine → IsOpened holds view old (opening_of engine)
-      opened-either old mid engine (inl same) opens = subst (λ disk. IsOpened holds view disk (opening_of engine)) same (opened-first mid engine opens)
-      opened-either old mid engine (inr same) opens = opened-again reads_may_stay old mid same engine opens
-
-      pub none-either : (old mid : D) (fault : OpenFault) (back : D) → (mid ≡ old) ⊎ IsSameStore holds view old mid → OpensNone mid fault back → IsNotOpened holds view old back (unopened fault)
-      none-either old mid fault back (inl same) opens = subst (λ disk. IsNotOpened holds view disk back (unopened fault)) same (opened-none mid fault back opens)
-      none-either old mid fault back (inr same) opens = none-again reads_may_stay old mid same fault back opens
-
     -- the store of an opening at rest, whose disk failed no call, is opened anew
-    module _ (reads_may_stay : (disk : D) (area : Area) → IsTrue (view.honest disk) → view.leaves disk area (holds disk area)) (before : Opening D) (whole : HasFailed before → ⊥) (at_rest : IsAtRest before)
+    module _ (reads_may_stay : (disk : D) (area : Area) → IsTrue (view.honest disk) → view.leaves disk area (holds disk area)) (before : Opening D) (laid : EndsLaid before.base before.history) (whole : HasFailed before → ⊥) (at_rest : IsAtRest before)
         (left : IsTrue (view.honest before.disk) → (a b : List ℕ) → view.leaves before.disk A a → view.leaves before.disk B b → IsLeftOver before a b) where
       abbrev number : ℕ
       number = before.start + length (commits before.base before.history)
@@ -235,6 +133,7 @@ module _ {D : Type 0} (holds : D → Area → List ℕ) (view : DiskView D) wher
       pub renewed-over : (engine : Seen D) → OpensStore before.disk engine → IsRenewed view before (opening_of engine)
       renewed-over engine opens = record {
         fresh = opens.history;
+        laid = laid;
         at_rest = at_rest;
         whole = whole;
         base = λ can. (one-store (holds before.disk A) (holds before.disk B) engine.base (flat before.base before.history) engine.start number (opens.base can) (held_before can)).0;
@@ -253,6 +152,7 @@ module _ {D : Type 0} (holds : D → Area → List ℕ) (view : DiskView D) wher
 
       pub renewed-none : (fault : OpenFault) (back : D) → OpensNone before.disk fault back → IsNotRenewed view before back (unopened fault)
       renewed-none fault back opens = record {
+        laid = laid;
         at_rest = at_rest;
         whole = whole;
         honesty = opens.honesty;
@@ -266,20 +166,31 @@ module _ {D : Type 0} (holds : D → Area → List ℕ) (view : DiskView D) wher
         moments = λ can. weaker view.leaves view.moment view.might_have_left only_now before.disk back (IsLeft holds view.leaves before.disk) (IsLeftOver before) (left_before can) (opens.moments can);
       }
 
--- a book of no calls
-pub keeps-none : {D : Type 0} (book : Book) (first : Opening D) → first.history ≡ [] → length book.marks ≡ 16 → book.failed ≡ false → Keeps book first
-keeps-none book first fresh long works = record {
-  long = long;
-  failed = λ is. let never : false ≡ true = sym works ∙ is in cc;
-  whole = λ is failed. none-failed first.base (rw fresh at failed);
-  marks = λ is session begun block stands. absurd (none-open first.base session begun block (rw fresh at stands));
-}
+-- a book that knows no names
+nameless-named : {D : Type 0} (book : Book) (opening : Opening D) → book.tables ≡ None → (tables : List TableNames) → book.tables ≡ Some tables → tables ≡ table_names (flat opening.base opening.history).schema
+nameless-named book opening nameless tables known = let never : ◌≡◌ {A = Option (List TableNames)} None (Some tables) = sym nameless ∙ known in cc
 
--- another book that tells the same
-pub keeps-same : {D : Type 0} (old new : Book) (opening : Opening D) → new.marks ≡ old.marks → new.failed ≡ old.failed → Keeps old opening → Keeps new opening
-keeps-same old new opening marks failed keeps = record {
+-- a book that tells the same, and the names that it knows
+pub keeps-named : {D : Type 0} (old new : Book) (opening : Opening D) → new.marks ≡ old.marks → new.failed ≡ old.failed
+    → ((tables : List TableNames) → new.tables ≡ Some tables → tables ≡ table_names (flat opening.base opening.history).schema) → Keeps old opening → Keeps new opening
+keeps-named old new opening marks failed named keeps = record {
   long = subst (λ (marks : List Bool). length marks ≡ 16) (sym marks) keeps.long;
   failed = λ is. keeps.failed (sym failed ∙ is);
   whole = λ is. keeps.whole (sym failed ∙ is);
   marks = λ is session begun block stood. subst (λ (marks : List Bool). IsMarked marks session) (sym marks) (keeps.marks (sym failed ∙ is) session begun block stood);
+  names = named;
 }
+
+-- a book of no calls, and of no names
+pub keeps-none : {D : Type 0} (book : Book) (first : Opening D) → first.history ≡ [] → length book.marks ≡ 16 → book.failed ≡ false → book.tables ≡ None → Keeps book first
+keeps-none book first fresh long works nameless = record {
+  long = long;
+  failed = λ is. let never : false ≡ true = sym works ∙ is in cc;
+  whole = λ is failed. none-failed first.base (rw fresh at failed);
+  marks = λ is session begun block stands. absurd (none-open first.base session begun block (rw fresh at stands));
+  names = nameless-named book first nameless;
+}
+
+-- another book that tells the same, and no names
+pub keeps-same : {D : Type 0} (old new : Book) (opening : Opening D) → new.marks ≡ old.marks → new.failed ≡ old.failed → new.tables ≡ None → Keeps old opening → Keeps new opening
+keeps-same old new opening marks failed nameless keeps = keeps-named old new opening marks failed (nameless-named new opening nameless) keeps

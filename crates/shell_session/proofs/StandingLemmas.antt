@@ -5,10 +5,13 @@ use Rattle.std.specs.List.{list_any}
 use Rattle.std.proofs.lemmas.Bool.{eq-eqb, eqb-false, eqb-true}
 use Rattle.std.proofs.lemmas.List.{get_or-set_same, get_or-set_other}
 use Rattle.std.proofs.lemmas.List.Folds.{list_any_at}
+use Rattle.own_base.specs.declared.number.Place.{Place}
 use Rattle.own_base.specs.declared.number.SessionNo.{SessionNo}
 use Rattle.own_model.specs.declared.history.Entry.{Entry}
 use Rattle.own_model.specs.declared.limit.TheConstants.{SESSIONS}
+use Rattle.own_model.specs.declared.refusal.Refusal.TheVariants as refusal
 use Rattle.own_model.specs.declared.reply.Reply.{Reply}
+use Rattle.own_model.specs.declared.reply.Reply.TheVariants.{Refused}
 use Rattle.own_model.specs.declared.request.Request.{Request}
 use Rattle.own_model.specs.declared.request.Request.TheVariants.{Run, Syntax, Limit, End}
 use Rattle.own_model.specs.declared.script.ScriptCall.{ScriptCall}
@@ -16,12 +19,13 @@ use Rattle.own_model.specs.declared.statement.Statement.{Statement}
 use Rattle.own_model.specs.declared.statement.Statement.TheVariants as statement
 use Rattle.own_model.specs.Db.{Db}
 use Rattle.script_model.specs.Split.{IsOfASession}
-use Rattle.history_model.specs.History.{History, after_request, after_stated, doomed_at, dooms, happens, is_conflict, is_failure, other_after, own_after, standing, world}
+use Rattle.history_model.specs.History.{History, after_request, after_stated, doomed_at, dooms, happens, is_conflict, is_doomed, is_failure, other_after, own_after, standing, world}
 use Rattle.history_model.specs.Made.{entry_of}
 use Rattle.history_model.specs.Reply.{answer}
 use Rattle.history_model.specs.World.{Block, SessionStanding, Outside, Open, Doomed, World}
 use Rattle.history_model.proofs.HistoryLemmas.{standing-append, standing-world, world-empty}
-use Rattle.shell_session.specs.Kept.{IsMarked, effect_of, marked}
+use Rattle.history_model.proofs.DoomTold.{told-doomed}
+use Rattle.shell_session.specs.Kept.{IsMarked, effect_by, effect_of, marked}
 use Rattle.shell_session.specs.declared.book.Effect.{Effect}
 use Rattle.shell_session.specs.declared.book.Effect.TheVariants.{Opens, Closes, Leaves}
 
@@ -86,11 +90,30 @@ other-open : (place : ℕ) (before : SessionStanding) (dooms_it : Bool) → IsOp
 other-open place before true opened = doomed-open place before opened
 other-open place before false opened = opened
 
+-- the doom that a reply tells
+doom_told : (told : Reply) → is_doomed told ≡ true → (place : Place) × (told ≡ Refused (refusal.Doomed place))
+doom_told (Refused (refusal.Doomed place)) is = (place, refl)
+doom_told _ is = let never : false ≡ true = is in cc
+
+-- a session that is told its doom is in no transaction after it
+module _ (place : ℕ) (before : SessionStanding) (request : Request) (conflicts : Bool) (told : Reply) (doomed : (by : Place) → told ≡ Refused (refusal.Doomed by) → before ≡ Doomed by.0)
+    (opened : IsOpen (after_request place before request conflicts)) where
+  told-open : IsOpenBy before (effect_by (effect_of request) told)
+  told-open = by (is_doomed told) refl
+    where
+      by : (is : Bool) → is_doomed told ≡ is → IsOpenBy before (if is then Closes else effect_of request)
+      by true is =
+          let doom = doom_told told is in
+          let after : IsOpen (after_request place (Doomed doom.0.0) request conflicts) = subst (λ stands. IsOpen (after_request place stands request conflicts)) (doomed doom.0 doom.1) opened in
+          let never : ◌≡◌ {A = SessionStanding} Outside (Open after.0 after.1) = after.2 in cc
+      by false is = request-open place before request conflicts opened
+
 -- what a session of its own is after its entry, by whether the answer came for want of the disk
-own-open : (place : ℕ) (before : SessionStanding) (request : Request) (conflicts fails : Bool) → IsOpen (if fails then before else after_request place before request conflicts)
-    → ((fails ≡ true) × IsOpen before) ⊎ ((fails ≡ false) × IsOpenBy before (effect_of request))
-own-open place before request conflicts true opened = inl (refl, opened)
-own-open place before request conflicts false opened = inr (refl, request-open place before request conflicts opened)
+own-open : (place : ℕ) (before : SessionStanding) (request : Request) (told : Reply) → ((by : Place) → told ≡ Refused (refusal.Doomed by) → before ≡ Doomed by.0) → (conflicts fails : Bool)
+    → IsOpen (if fails then before else after_request place before request conflicts)
+    → ((fails ≡ true) × IsOpen before) ⊎ ((fails ≡ false) × IsOpenBy before (effect_by (effect_of request) told))
+own-open place before request told doomed conflicts true opened = inl (refl, opened)
+own-open place before request told doomed conflicts false opened = inr (refl, told-open place before request conflicts told doomed opened)
 
 -- marks: that of another session stays,
 mark-other : (marks : List Bool) (session by : ℕ) (effect : Effect) → 1 ≤ by → session ≢ by → IsMarked marks session → IsMarked (marked marks by effect) session
@@ -166,16 +189,16 @@ module _ (base : Db) (before : History) (call : Entry) (told : Reply) (answered 
   pub marks-made : (marks : List Bool) → length marks ≡ 16 → 1 ≤ call.session.0 → call.session.0 ≤ SESSIONS
       → ((session begun : ℕ) (block : Block) → standing base before session ≡ Open begun block → IsMarked marks session)
       → (session begun : ℕ) (block : Block) → standing base (before ++ call ∷ []) session ≡ Open begun block
-      → IsMarked (marks_after marks call.session.0 (effect_of call.request) (is_failure told)) session
+      → IsMarked (marks_after marks call.session.0 (effect_by (effect_of call.request) told) (is_failure told)) session
   marks-made marks long from to kept session begun block opened =
       let was : (other : ℕ) → IsOpen ((world base before).standing other) → IsMarked marks other =
       λ other opened. kept other opened.0 opened.1 (standing-world base before other ∙ opened.2) in
       ⊎_elim
-      (λ same. subst (IsMarked (marks_after marks call.session.0 (effect_of call.request) (is_failure told))) (sym same)
-      (marks-own marks call.session.0 (effect_of call.request) ((world base before).standing call.session.0) (is_failure told) long from to
-      (own-open (world base before).place ((world base before).standing call.session.0) call.request (is_conflict told) (is_failure told)
+      (λ same. subst (IsMarked (marks_after marks call.session.0 (effect_by (effect_of call.request) told) (is_failure told))) (sym same)
+      (marks-own marks call.session.0 (effect_by (effect_of call.request) told) ((world base before).standing call.session.0) (is_failure told) long from to
+      (own-open (world base before).place ((world base before).standing call.session.0) call.request told (λ by is. told-doomed (world base before) call by.0 (answered ∙ is)) (is_conflict told) (is_failure told)
       (begun, block, sym stands-own ∙ (ap (standing base (before ++ call ∷ [])) (sym same) ∙ opened))) (was call.session.0)))
-      (λ other. marks-other marks session call.session.0 (effect_of call.request) (is_failure told) from other.1
+      (λ other. marks-other marks session call.session.0 (effect_by (effect_of call.request) told) (is_failure told) from other.1
       (was session (other-open (world base before).place ((world base before).standing session) (dooms (world base before) call told session)
       (begun, block, sym (stands-other session other.0) ∙ opened))))
       (same_or_not session call.session.0)

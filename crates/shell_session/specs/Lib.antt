@@ -2,6 +2,7 @@ pub mod Answered
 pub mod DiskView
 pub mod Kept
 pub mod Life
+pub mod Names
 pub mod OnDisk
 pub mod Opening
 pub mod Served

@@ -1,24 +1,28 @@
 -- The life of a shell: what happens one after another, over an opening of the store and then the next.
-use Rattle.std.specs.Prelude.{◌≡◌, ◌≤◌, ◌⊎◌, ℕ, ◌+◌, List, [], ◌∷◌, ◌++◌, length, Bool, true, false, Option, IsTrue}
+use Rattle.std.specs.Prelude.{◌≡◌, ◌≤◌, ◌⊎◌, ℕ, ◌+◌, List, [], ◌∷◌, ◌++◌, length, Bool, true, false, Option, Some, IsTrue}
 use Rattle.own_base.specs.declared.number.Area.TheVariants.{A, B}
+use Rattle.own_model.specs.declared.history.Entry.{Entry}
 use Rattle.own_model.specs.declared.reply.Reply.{Reply}
+use Rattle.own_model.specs.declared.reply.Reply.TheVariants.{Done}
 use Rattle.own_model.specs.declared.request.Request.{Request}
 use Rattle.own_model.specs.declared.request.Request.TheVariants.{Run}
 use Rattle.own_model.specs.declared.script.ScriptCall.{ScriptCall}
 use Rattle.own_model.specs.declared.statement.Statement.TheVariants.{Checkpoint}
+use Rattle.own_model.specs.Db.{Db}
 use Rattle.outer_world.specs.FaultCount.{CountRose}
 use Rattle.outer_world.specs.LeavesOnly.{LeavesOnly}
 use Rattle.history_model.specs.Commits.{commits}
-use Rattle.history_model.specs.History.{flat, is_disk}
+use Rattle.history_model.specs.History.{History, flat, is_disk, reply}
 use Rattle.reply_json.specs.declared.columns.TableNames.{TableNames}
 use Rattle.shell_session.specs.Answered.{IsAnswered}
 use Rattle.shell_session.specs.DiskView.{DiskView}
+use Rattle.shell_session.specs.Names.{reply_columns, table_names}
 use Rattle.shell_session.specs.Opening.{HasFailed, IsAtRest, IsLeftOver, Opening}
 use Rattle.shell_session.specs.Told.{told_text}
 use Rattle.shell_session.specs.declared.manner.Form.{Form}
 
 -- A call of the input and the line on which its text begins, 0 for an End; at which place it was made, if it was, and what it was
--- answered; and the names of columns that are known for the telling of it.
+-- answered; and the names that it is told with: those of its reply's columns, and those of the tables and views.
 pub record Telling : Type 0 where
   pub call : ScriptCall
   pub line : ℕ
@@ -58,19 +62,34 @@ pub record IsCalled {D : Type 0} (view : DiskView D) (before after : Opening D) 
   pub answered : IsAnswered before.base before.history after.history call place told
   pub moves : Moves view before after (is_disk told)
 
--- The store is opened anew, and no call is made yet. No session was in a transaction, and the disk had failed no call. Of an honest
--- disk the database is the flat one of the history before it, with all of its commits.
+-- the last call was a CHECKPOINT, and is done
+pub record EndsLaid (base : Db) (history : History) : Type 0 where
+  pub front : History
+  pub last : Entry
+  pub history_is : history ≡ front ++ last ∷ []
+  pub asked : is_checkpoint last.request ≡ true
+  pub done : reply base history (length front) ≡ Some Done
+
+-- The store is opened anew, and no call is made yet. No session was in a transaction, the disk had failed no call, and the last one was
+-- a CHECKPOINT. Of an honest disk the database is the flat one of the history before it, with all of its commits.
 pub record IsRenewed {D : Type 0} (view : DiskView D) (before after : Opening D) : Type 0 where
   pub fresh : after.history ≡ []
+  pub laid : EndsLaid before.base before.history
   pub at_rest : IsAtRest before
   pub whole : HasFailed before → ⊥
   pub base : IsTrue (view.honest before.disk) → after.base ≡ flat before.base before.history
   pub start : IsTrue (view.honest before.disk) → after.start ≡ before.start + length (commits before.base before.history)
   pub moves : Moves view before after false
 
+-- The names that a call is told with are those of the flat database behind it: of its tables and views, and of the columns of the
+-- reply where that shows the rows of a SELECT.
+pub record AreNames {D : Type 0} (after : Opening D) (telling : Telling) : Type 0 where
+  pub tables : telling.tables ≡ table_names (flat after.base after.history).schema
+  pub columns : telling.columns ≡ reply_columns telling.tables telling.call.request telling.told
+
 -- an event leads from one state of a life to the next
 abbrev pub Happens : {D : Type 0} → DiskView D → Opening D → Event → Opening D → Type 0
-Happens view before (Called telling) after = IsCalled view before after telling.call telling.place telling.told
+Happens view before (Called telling) after = IsCalled view before after telling.call telling.place telling.told × AreNames after telling
 Happens view before (Laid call place told) after = IsCalled view before after call place told × (is_checkpoint call.request ≡ true)
 Happens view before Renewed after = IsRenewed view before after
 

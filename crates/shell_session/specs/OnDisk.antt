@@ -11,7 +11,7 @@ use Rattle.disk_model.specs.JudgedArea as found
 use Rattle.crash_model.specs.StoreIn.{IsStoreIn}
 use Rattle.crash_recover.specs.Opening.{IsLeft}
 use Rattle.shell_session.specs.DiskView.{DiskView}
-use Rattle.shell_session.specs.Life.{Event, Happen, IsLeftOnTheWay}
+use Rattle.shell_session.specs.Life.{EndsLaid, Event, Happen, IsLeftOnTheWay}
 use Rattle.shell_session.specs.Opening.{HasFailed, IsAtRest, IsLeftOver, Opening}
 use Rattle.shell_session.specs.declared.ending.ShellFault.{ShellFault}
 use Rattle.shell_session.specs.declared.ending.ShellFault.TheVariants.{Disk, Damaged, Refused}
@@ -21,17 +21,6 @@ pub record IsFoundDamaged {D : Type 0} (holds : D → Area → List ℕ) (leaves
   pub judged : IsJudged (holds old A) (holds old B) (found.Damaged area offset)
   pub kept_a : Stays holds leaves A old new
   pub kept_b : Stays holds leaves B old new
-
--- The store of an honest disk was opened and closed again without a call: the disk holds it still, and so does what a crash leaves.
-pub record IsSameStore {D : Type 0} (holds : D → Area → List ℕ) (view : DiskView D) (old new : D) : Type 0 where
-  pub honesty : view.honest new ≡ view.honest old
-  pub time : view.moment old ≤ view.moment new
-  pub steady : view.faults new ≡ view.faults old
-  pub base : Db
-  pub start : ℕ
-  pub held : IsTrue (view.honest old) → IsStoreIn (holds old A) (holds old B) base start
-  pub now : IsTrue (view.honest old) → (a b : List ℕ) → view.leaves new A a → view.leaves new B b → IsStoreIn a b base start
-  pub moments : IsTrue (view.honest old) → LeavesOnly view.moment view.might_have_left (IsLeft holds view.leaves old) old new
 
 -- The store of a disk was opened, and no call was made yet. What an honest disk held is the store of the database that was opened;
 -- a crash leaves it too, and one on the way what one might have left before, or the same database.
@@ -55,9 +44,10 @@ pub record IsNotOpened {D : Type 0} (holds : D → Area → List ℕ) (view : Di
   pub damaged : (area : Area) (offset : ℕ) → why ≡ Damaged area offset → IsTrue (view.honest old) → IsFoundDamaged holds view.leaves old new area offset
   pub moments : IsTrue (view.honest old) → LeavesOnly view.moment view.might_have_left (IsLeft holds view.leaves old) old new
 
--- The store was to be opened anew, as no session was in a transaction, and was not: for a fault of the disk, where its count of
--- faults rose, or for want of memory. An honest disk isn't damaged there, and a crash leaves what the history says.
+-- The store was to be opened anew, behind a CHECKPOINT, as no session was in a transaction, and was not: for a fault of the disk,
+-- where its count of faults rose, or for want of memory. An honest disk isn't damaged there, and a crash leaves what the history says.
 pub record IsNotRenewed {D : Type 0} (view : DiskView D) (last : Opening D) (new : D) (why : ShellFault) : Type 0 where
+  pub laid : EndsLaid last.base last.history
   pub at_rest : IsAtRest last
   pub whole : HasFailed last → ⊥
   pub honesty : view.honest new ≡ view.honest last.disk

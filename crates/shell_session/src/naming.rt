@@ -1,12 +1,18 @@
+ghost use Rattle.std.specs.Prelude.{◌≡◌, ◌++◌, map, option_map, OnOk, IfOk};
+ghost use Rattle.std.specs.Option.{option_copied};
+ghost use Rattle.own_model.specs.declared.history.Entry.{Entry as Made};
+ghost use Rattle.shell_session.specs.Names.{column_name, columns_by, is_create, names_of_table, names_of_view, shows_names, table_names};
+
+use crate::manner::Form;
 use own_base::{List, MakeCopy, Name};
-use own_model::{
-    Column, CreateTable, CreateView, Entry, Part, Reply, Request, Schema, Statement, TableDef,
-};
+use own_model::{Column, Entry, Reply, Request, Schema, Statement, TableDef, ViewDef};
 use reply_json::{TableNames, select_columns};
 use std::alloc::{AllocError, Global};
 
 /// The names of a table's columns.
-fn table_columns(alloc: Global, columns: &[Column]) -> Result<List<Name>, AllocError> {
+fn table_columns(alloc: Global, columns: &[Column]) -> Result<List<Name>, AllocError>
+    ensures { IfOk result (λ names. names ≡ map column_name columns.now) }
+{
     let mut names = List::new(alloc);
     for column in columns {
         names.add(column.name.copy(alloc)?)?;
@@ -14,96 +20,86 @@ fn table_columns(alloc: Global, columns: &[Column]) -> Result<List<Name>, AllocE
     Ok(names)
 }
 
+/// A table with the names of its columns.
+fn names_of_table(alloc: Global, table: &TableDef) -> Result<TableNames, AllocError>
+    ensures { IfOk result (λ names. names ≡ names_of_table table.now) }
+{
+    let columns = table_columns(alloc, table.columns.items())?;
+    Ok(TableNames {
+        name: table.name.copy(alloc)?,
+        columns,
+    })
+}
+
+/// A view with the names of its columns.
+fn names_of_view(alloc: Global, view: &ViewDef) -> Result<TableNames, AllocError>
+    ensures { IfOk result (λ names. names ≡ names_of_view view.now) }
+{
+    let columns = view.names.copy(alloc)?;
+    Ok(TableNames {
+        name: view.name.copy(alloc)?,
+        columns,
+    })
+}
+
 /// Adds the names of the tables.
 fn add_tables(
     names: &mut List<TableNames>,
     alloc: Global,
     tables: &[TableDef],
-) -> Result<(), AllocError> {
+) -> Result<(), AllocError>
+    ensures { OnOk result (names.new ≡ names.old ++ map names_of_table tables.now) }
+{
     for table in tables {
-        names.add(TableNames {
-            name: table.name.copy(alloc)?,
-            columns: table_columns(alloc, table.columns.items())?,
-        })?;
+        names.add(names_of_table(alloc, table)?)?;
+    }
+    Ok(())
+}
+
+/// Adds the names of the views.
+fn add_views(
+    names: &mut List<TableNames>,
+    alloc: Global,
+    views: &[ViewDef],
+) -> Result<(), AllocError>
+    ensures { OnOk result (names.new ≡ names.old ++ map names_of_view views.now) }
+{
+    for view in views {
+        names.add(names_of_view(alloc, view)?)?;
     }
     Ok(())
 }
 
 /// The names of the tables and views of a schema, and of their columns.
-pub(crate) fn schema_names(alloc: Global, schema: &Schema) -> Result<List<TableNames>, AllocError> {
+pub(crate) fn schema_names(alloc: Global, schema: &Schema) -> Result<List<TableNames>, AllocError>
+    ensures { IfOk result (λ names. names ≡ table_names schema.now) }
+{
     let mut names = List::new(alloc);
     add_tables(&mut names, alloc, schema.tables.items())?;
-    for view in schema.views.items() {
-        names.add(TableNames {
-            name: view.name.copy(alloc)?,
-            columns: view.names.copy(alloc)?,
-        })?;
-    }
+    add_views(&mut names, alloc, schema.views.items())?;
     Ok(names)
 }
 
-/// The names of the columns that a CREATE TABLE says.
-fn created_columns(alloc: Global, parts: &[Part]) -> Result<List<Name>, AllocError> {
-    let mut names = List::new(alloc);
-    for part in parts {
-        if let Part::Column(column) = part {
-            names.add(column.name.copy(alloc)?)?;
-        }
-    }
-    Ok(names)
-}
-
-/// Adds the table that a CREATE TABLE made.
-fn add_created(
-    names: &mut List<TableNames>,
-    alloc: Global,
-    create: &CreateTable,
-) -> Result<(), AllocError> {
-    names.add(TableNames {
-        name: create.name.copy(alloc)?,
-        columns: created_columns(alloc, create.parts.items())?,
-    })
-}
-
-/// Adds the view that a CREATE VIEW made.
-fn add_view(
-    names: &mut List<TableNames>,
-    alloc: Global,
-    create: &CreateView,
-) -> Result<(), AllocError> {
-    let columns = select_columns(alloc, names.items(), &create.select)?;
-    names.add(TableNames {
-        name: create.name.copy(alloc)?,
-        columns,
-    })
-}
-
-/// The statement that an entry asked for.
-fn statement_of(entry: Option<&Entry>) -> Option<&Statement> {
-    match entry {
-        Some(
-            Entry {
-                request: Request::Run(statement),
-                ..
-            },
-        ) => Some(statement.get()),
-        _ => None,
+/// Whether a table or a view more is asked for.
+pub(crate) fn is_create(request: &Request) -> bool
+    ensures { result ≡ is_create request.now }
+{
+    match request {
+        Request::Run(statement) => matches!(
+            statement.get(),
+            Statement::CreateTable(_) | Statement::CreateView(_)
+        ),
+        _ => false,
     }
 }
 
-/// Adds what the last entry made, where it was a CREATE and is answered ok.
-pub(crate) fn add_made(
-    names: &mut List<TableNames>,
-    alloc: Global,
-    last: Option<&Entry>,
-    reply: &Reply,
-) -> Result<(), AllocError> {
-    match (statement_of(last), reply) {
-        (Some(Statement::CreateTable(create)), Reply::Done) => add_created(names, alloc, create),
-        (Some(Statement::CreateView(create)), Reply::Done) => {
-            add_view(names, alloc, create.get())
-        }
-        _ => Ok(()),
+/// Whether a reply is told with names.
+pub(crate) fn shows_names(form: Form, reply: &Reply) -> bool
+    ensures { result ≡ shows_names form reply.now }
+{
+    match form {
+        Form::Json => matches!(reply, Reply::Rows(_) | Reply::Got(_)),
+        Form::Lines => false,
     }
 }
 
@@ -113,11 +109,17 @@ pub(crate) fn reply_columns(
     names: &[TableNames],
     last: Option<&Entry>,
     reply: &Reply,
-) -> Result<List<Name>, AllocError> {
-    match (statement_of(last), reply) {
-        (Some(Statement::Select(select)), Reply::Rows(_)) => {
-            select_columns(alloc, names, select.get())
-        }
+) -> Result<List<Name>, AllocError>
+    ensures { IfOk result (λ columns. columns ≡ columns_by names.now (option_map (λ (entry : Made). entry.request) (option_copied last.entry)) reply.now) }
+{
+    let Some(entry) = last else {
+        return Ok(List::new(alloc));
+    };
+    match (&entry.request, reply) {
+        (Request::Run(statement), Reply::Rows(_)) => match statement.get() {
+            Statement::Select(select) => select_columns(alloc, names, select.get()),
+            _ => Ok(List::new(alloc)),
+        },
         _ => Ok(List::new(alloc)),
     }
 }

@@ -1,27 +1,22 @@
-ghost use Rattle.std.specs.Prelude.{◌≡◌, ◌⊎◌, ℕ, false, true, IfErr, IfOk, IsTrue, List as Seq};
+ghost use Rattle.std.specs.Prelude.{◌≡◌, ℕ, false, true, IfErr, IfOk, IsTrue, List as Seq};
 ghost use Rattle.own_base.specs.declared.number.Area.TheVariants.{A, B};
-ghost use Rattle.history_model.specs.History.{is_disk};
 ghost use Rattle.crash_model.specs.LeftBy.{IsLeftBy};
 ghost use Rattle.engine_core.specs.Seen.{disk_of};
 ghost use Rattle.shell_session.specs.DiskView.{view_of};
 ghost use Rattle.shell_session.specs.Kept.{Keeps};
-ghost use Rattle.shell_session.specs.Life.{is_checkpoint};
-ghost use Rattle.shell_session.specs.OnDisk.{IsNotOpened, IsNotRenewed, IsOpened, IsSameStore};
+ghost use Rattle.shell_session.specs.Life.{EndsLaid, is_checkpoint};
+ghost use Rattle.shell_session.specs.OnDisk.{IsNotOpened, IsNotRenewed, IsOpened};
 ghost use Rattle.shell_session.specs.Opening.{Opening, opening_of};
 ghost use Rattle.shell_session.specs.Served.{IsSilent};
 ghost use Rattle.shell_session.specs.Status.{unopened};
 
 use crate::answering::make_call;
 use crate::book::{Book, effect_of};
-use crate::manner::Form;
-use crate::naming::schema_names;
 use call_stream::CallStream;
 use crash_recover::OpenFault;
 use engine_core::{Closed, Engine};
 use outer_world::Disk;
-use own_base::List;
 use own_model::{Reply, Request, Statement};
-use reply_json::TableNames;
 use std::alloc::Global;
 use std::mem::drop;
 
@@ -49,71 +44,18 @@ pub(crate) fn disk_left<D: Disk>(engine: Engine<D>) -> D
     disk
 }
 
-/// Closes a store of which no call was made, and gives the names of the state that the opening left.
-fn names_in<D: Disk>(
-    alloc: Global,
-    engine: Engine<D>,
-) -> Result<(List<TableNames>, D), (OpenFault, D)>
-    ensures ok { IfOk result (λ told. told.1 ≡ disk_of engine) }
-    ensures err { IfErr result (λ back. (back.0 ≡ OpenFault.Memory) × (back.1 ≡ disk_of engine)) }
-{
-    let Closed {
-        opened,
-        history,
-        disk,
-    } = engine.close();
-    drop(history);
-    let names = schema_names(alloc, opened.schema());
-    drop(opened);
-    match names {
-        Ok(names) => Ok((names, disk)),
-        Err(_) => Err((OpenFault::Memory, disk)),
-    }
-}
-
-/// Opens the store of a disk to read its names: they are those of the state that the opening left.
-fn names_of<D: Disk>(alloc: Global, disk: D) -> Result<(List<TableNames>, D), (OpenFault, D)>
-    ensures ok { IfOk result (λ told. IsSameStore D.holds (view_of D.leaves D.moment D.might_have_left D.honest D.faults) disk told.1) }
-    ensures err { IfErr result (λ back. IsNotOpened D.holds (view_of D.leaves D.moment D.might_have_left D.honest D.faults) disk back.1 (unopened back.0)) }
-{
-    match Engine::open_with_room(alloc, disk, 0) {
-        Ok(engine) => names_in(alloc, engine),
-        Err(back) => Err(back),
-    }
-}
-
-/// The names that are told: none of them in lines.
-fn names_told<D: Disk>(
-    alloc: Global,
-    form: Form,
-    disk: D,
-) -> Result<(List<TableNames>, D), (OpenFault, D)>
-    ensures ok { IfOk result (λ told. (told.1 ≡ disk) ⊎ IsSameStore D.holds (view_of D.leaves D.moment D.might_have_left D.honest D.faults) disk told.1) }
-    ensures err { IfErr result (λ back. IsNotOpened D.holds (view_of D.leaves D.moment D.might_have_left D.honest D.faults) disk back.1 (unopened back.0)) }
-{
-    match form {
-        Form::Lines => Ok((List::new(alloc), disk)),
-        Form::Json => names_of(alloc, disk),
-    }
-}
-
 /// Opens the store of a disk.
-pub(crate) fn open<D: Disk>(alloc: Global, form: Form, disk: D) -> Result<Opened<D>, (OpenFault, D)>
+pub(crate) fn open<D: Disk>(alloc: Global, disk: D) -> Result<Opened<D>, (OpenFault, D)>
     ensures ok { IfOk result (λ opened. IsOpened D.holds (view_of D.leaves D.moment D.might_have_left D.honest D.faults) disk (opening_of opened.engine)) }
     ensures keeps { IfOk result (λ opened. Keeps opened.book (opening_of opened.engine)) }
     ensures err { IfErr result (λ back. IsNotOpened D.holds (view_of D.leaves D.moment D.might_have_left D.honest D.faults) disk back.1 (unopened back.0)) }
 {
-    let (names, disk) = match names_told(alloc, form, disk) {
-        Ok(told) => told,
-        Err(back) => return Err(back),
-    };
-    let book = Book::new(names);
     match Engine::open_with_room(alloc, disk, ROOM) {
-        Ok(engine) => Ok(Opened { engine, book }),
-        Err((fault, disk)) => {
-            drop(book);
-            Err((fault, disk))
-        }
+        Ok(engine) => Ok(Opened {
+            engine,
+            book: Book::new(),
+        }),
+        Err(back) => Err(back),
     }
 }
 
@@ -129,7 +71,7 @@ fn is_checkpoint(request: &Request) -> bool
 
 /// Whether a reply tells that it was done.
 fn is_done(reply: &Reply) -> bool
-    ensures { result ≡ true → is_disk reply.now ≡ false }
+    ensures { result ≡ true → reply.now ≡ Reply.Done }
 {
     matches!(reply, Reply::Done)
 }
@@ -140,7 +82,8 @@ fn lay_anew<D: Disk>(alloc: Global, opened: &mut Opened<D>) -> bool
     ensures silent { IsSilent (view_of D.leaves D.moment D.might_have_left D.honest D.faults) (opening_of opened.old.engine) (opening_of opened.new.engine) }
     ensures keeps { Keeps opened.new.book (opening_of opened.new.engine) }
     ensures done { result ≡ true → opened.old.book.failed ≡ false → opened.new.book.failed ≡ false }
-    ensures marks { opened.new.book.marks ≡ opened.old.book.marks }
+    ensures laid { result ≡ true → EndsLaid opened.new.engine.base opened.new.engine.history }
+    ensures marks { result ≡ true → opened.new.book.marks ≡ opened.old.book.marks }
 {
     let mut words = CallStream::new(alloc);
     if words.push(b"CHECKPOINT;").is_err() {
@@ -180,9 +123,12 @@ pub(crate) fn renewed<D: Disk>(
     if !lay_anew(alloc, &mut opened) {
         return Ok(opened);
     }
-    let Opened { engine, book } = opened;
+    let Opened { engine, mut book } = opened;
     match Engine::open_with_room(alloc, disk_left(engine), ROOM) {
-        Ok(engine) => Ok(Opened { engine, book }),
+        Ok(engine) => {
+            book.begin_anew();
+            Ok(Opened { engine, book })
+        }
         Err((fault, disk)) => {
             drop(book);
             Err((fault, disk))

@@ -1,11 +1,14 @@
-ghost use Rattle.std.specs.Prelude.{◌≡◌, ◌≢◌, IsTrue, Err, OnOk, option_map};
+ghost use Rattle.std.specs.Prelude.{◌≡◌, ◌≢◌, ℕ, List as Seq, IsTrue, Err, None, OnOk, false, option_map, true};
 ghost use Rattle.std.specs.List.{AllByRecursion};
 ghost use Rattle.outer_world.specs.FaultCount.{CountRose};
 ghost use Rattle.grammar_model.specs.Readable.{IsReadable};
 ghost use Rattle.script_model.specs.Split.{IsOfASession};
+ghost use Rattle.history_model.specs.History.{flat, world};
+ghost use Rattle.reply_json.specs.declared.columns.TableNames.{TableNames};
 ghost use Rattle.call_stream.specs.Taken.{IsPlain, IsRead, IsSound, open_calls};
 ghost use Rattle.shell_session.specs.DiskView.{view_of};
 ghost use Rattle.shell_session.specs.Kept.{Keeps};
+ghost use Rattle.shell_session.specs.Names.{columns_by, last_request, shows_names, table_names};
 ghost use Rattle.shell_session.specs.Opening.{opening_of};
 ghost use Rattle.shell_session.specs.Served.{IsOfServing, ServesCall, ServesCalls, ServesClosed, ServesEnd, fault_of};
 ghost use Rattle.shell_session.specs.Told.{HasWritten, told_text};
@@ -15,16 +18,16 @@ use crate::book::{Book, effect_of};
 use crate::ending::{ShellFault, stopped};
 use crate::manner::{Form, Manner};
 use crate::marking::mark;
-use crate::naming::{add_made, reply_columns};
+use crate::naming::{is_create, reply_columns, shows_names};
 use crate::notes::Notes;
 use crate::telling::tell;
 use call_stream::{CallStream, StreamCall, StreamEnd};
 use engine_core::Engine;
 use outer_world::{Disk, Sink};
-use own_base::{List, Name, SessionNo};
-use own_model::{Entry, Reply, ScriptCall};
+use own_base::SessionNo;
+use own_model::{Reply, ScriptCall};
 use reply_json::Told;
-use std::alloc::{AllocError, Global};
+use std::alloc::Global;
 use std::mem::drop;
 
 /// A call as it was asked for: its session and number, the line of the input on which its text begins, and the text.
@@ -36,32 +39,72 @@ struct Asked<'a> {
     text: &'a [u8],
 }
 
-/// The entry of a call that was made, which is the last one.
-fn entry_of<'a, D: Disk>(engine: &'a Engine<D>, answer: &Answer) -> Option<&'a Entry> {
-    match answer.place {
-        Some(_) => engine.history().last(),
-        None => None,
-    }
-}
-
-/// The names of the columns of a reply, where they are told; and the tables that the call made are known by name from now on.
-fn columns_told(
-    book: &mut Book,
+/// Writes what a call was answered, without names.
+fn tell_plain<W: Sink>(
     alloc: Global,
     form: Form,
-    made: Option<&Entry>,
-    reply: &Reply,
-) -> Result<List<Name>, AllocError>
-    ensures marks { book.new.marks ≡ book.old.marks }
-    ensures failed { book.new.failed ≡ book.old.failed }
+    asked: Asked<'_>,
+    answer: &Answer,
+    sink: &mut W,
+) -> Result<(), ShellFault>
+    requires { shows_names form answer.now.reply ≡ false }
+    ensures written { (columns : Seq (Seq ℕ)) (tables : Seq TableNames) → HasWritten result (W.written sink.old) (W.written sink.new)
+        (told_text form (option_map (λ place. place.0) answer.now.place) asked.entry.session.0 asked.entry.number asked.entry.line columns tables answer.now.reply) }
+    ensures fault { result ≡ Err ShellFault.Write → CountRose (W.faults sink.old) (W.faults sink.new) }
+    ensures steady { result ≢ Err ShellFault.Write → W.faults sink.new ≡ W.faults sink.old }
+    ensures unread { result ≢ Err ShellFault.Read }
+    ensures lawful { result ≢ Err ShellFault.Refused }
+    ensures own { IsOfServing (fault_of result) }
 {
-    match form {
-        Form::Json => {
-            add_made(&mut book.tables, alloc, made, reply)?;
-            reply_columns(alloc, book.tables.items(), made, reply)
-        }
-        Form::Lines => Ok(List::new(alloc)),
-    }
+    let told = Told {
+        place: answer.place,
+        session: asked.session,
+        call: asked.number,
+        line: asked.line,
+        columns: &[],
+        tables: &[],
+    };
+    tell(alloc, form, &told, &answer.reply, sink)
+}
+
+/// Writes what a call was answered as JSON, with the names of tables and columns as they are now.
+fn tell_named<W: Sink, D: Disk>(
+    engine: &Engine<D>,
+    book: &mut Book,
+    alloc: Global,
+    asked: Asked<'_>,
+    answer: &Answer,
+    sink: &mut W,
+) -> Result<(), ShellFault>
+    requires keeps { Keeps book.old (opening_of engine.now) }
+    requires up { (world engine.now.base engine.now.history).down ≡ None }
+    ensures written { HasWritten result (W.written sink.old) (W.written sink.new) (told_text Form.Json (option_map (λ place. place.0) answer.now.place) asked.entry.session.0 asked.entry.number asked.entry.line
+        (columns_by (table_names (flat engine.now.base engine.now.history).schema) (last_request engine.now.history) answer.now.reply) (table_names (flat engine.now.base engine.now.history).schema) answer.now.reply) }
+    ensures fault { result ≡ Err ShellFault.Write → CountRose (W.faults sink.old) (W.faults sink.new) }
+    ensures steady { result ≢ Err ShellFault.Write → W.faults sink.new ≡ W.faults sink.old }
+    ensures unread { result ≢ Err ShellFault.Read }
+    ensures lawful { result ≢ Err ShellFault.Refused }
+    ensures own { IsOfServing (fault_of result) }
+    ensures keeps { Keeps book.new (opening_of engine.now) }
+{
+    let Ok(()) = book.read_names(alloc, engine.version().schema()) else {
+        return Err(ShellFault::Memory);
+    };
+    let tables = book.names();
+    let Ok(columns) = reply_columns(alloc, tables, engine.history().last(), &answer.reply) else {
+        return Err(ShellFault::Memory);
+    };
+    let told = Told {
+        place: answer.place,
+        session: asked.session,
+        call: asked.number,
+        line: asked.line,
+        columns: columns.items(),
+        tables,
+    };
+    let written = tell(alloc, Form::Json, &told, &answer.reply, sink);
+    drop(columns);
+    written
 }
 
 /// Writes what a call was answered.
@@ -74,31 +117,22 @@ fn tell_answer<W: Sink, D: Disk>(
     answer: &Answer,
     sink: &mut W,
 ) -> Result<(), ShellFault>
-    ensures written { (columns : _) × (tables : _) × HasWritten result (W.written sink.old) (W.written sink.new)
-        (told_text form (option_map (λ place. place.0) answer.now.place) asked.entry.session.0 asked.entry.number asked.entry.line columns tables answer.now.reply) }
+    requires keeps { Keeps book.old (opening_of engine.now) }
+    requires up { shows_names form answer.now.reply ≡ true → (world engine.now.base engine.now.history).down ≡ None }
+    ensures written { HasWritten result (W.written sink.old) (W.written sink.new) (told_text form (option_map (λ place. place.0) answer.now.place) asked.entry.session.0 asked.entry.number asked.entry.line
+        (columns_by (table_names (flat engine.now.base engine.now.history).schema) (last_request engine.now.history) answer.now.reply) (table_names (flat engine.now.base engine.now.history).schema) answer.now.reply) }
     ensures fault { result ≡ Err ShellFault.Write → CountRose (W.faults sink.old) (W.faults sink.new) }
     ensures steady { result ≢ Err ShellFault.Write → W.faults sink.new ≡ W.faults sink.old }
     ensures unread { result ≢ Err ShellFault.Read }
     ensures lawful { result ≢ Err ShellFault.Refused }
     ensures own { IsOfServing (fault_of result) }
-    ensures marks { book.new.marks ≡ book.old.marks }
-    ensures failed { book.new.failed ≡ book.old.failed }
+    ensures keeps { Keeps book.new (opening_of engine.now) }
 {
-    let made = entry_of(engine, answer);
-    let Ok(columns) = columns_told(book, alloc, form, made, &answer.reply) else {
-        return Err(ShellFault::Memory);
-    };
-    let told = Told {
-        place: answer.place,
-        session: asked.session,
-        call: asked.number,
-        line: asked.line,
-        columns: columns.items(),
-        tables: book.tables.items(),
-    };
-    let written = tell(alloc, form, &told, &answer.reply, sink);
-    drop(columns);
-    written
+    if shows_names(form, &answer.reply) {
+        tell_named(engine, book, alloc, asked, answer, sink)
+    } else {
+        tell_plain(alloc, form, asked, answer, sink)
+    }
 }
 
 /// Makes a call, writes its reply, and shows somebody at a terminal where its text stops being a statement. It fails with
@@ -132,9 +166,11 @@ fn serve_call<W: Sink, N: Notes, D: Disk>(
         text,
     };
     let effect = effect_of(&call.request);
+    let creates = is_create(&call.request);
     let answer = make_call(engine, call);
-    let told = tell_answer(engine, book, alloc, manner.form, asked, &answer, sink);
     book.note(text.len(), asked.session, effect, &answer);
+    book.note_names(creates);
+    let told = tell_answer(engine, book, alloc, manner.form, asked, &answer, sink);
     if manner.prompts {
         mark(alloc, text, &answer.reply, notes);
     }

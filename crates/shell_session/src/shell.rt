@@ -218,7 +218,7 @@ pub fn serve_shell<R: Source, W: Sink, N: Notes, D: Disk>(
     let Ok(mut piece) = new_piece(alloc) else {
         return ended(Some(ShellFault::Memory), disk);
     };
-    match open(alloc, manner.form, disk) {
+    match open(alloc, disk) {
         Ok(opened) => {
             if manner.prompts {
                 greet(notes);

@@ -12,7 +12,7 @@ use outer_world::{FileDisk, NowGate, Sink, Source, StdinSource, StdoutSink, Unre
 use std::alloc::Global;
 use std::fs::{File, Files};
 use std::io::ErrorKind;
-use std::mem::drop;
+use std::mem::{drop, forget};
 use std::sync::Wait;
 use std::thread::Threads;
 use store_top::{Served, TopFault, run};
@@ -123,7 +123,8 @@ fn without_files(kind: ErrorKind) -> Ending
     }
 }
 
-/// How the program ends after a run.
+/// How the program ends after a run. What is left of its calls isn't given up piece by piece, since the process ends: the system
+/// takes its memory back as one.
 fn ended<D: Drop>(served: Served<D>) -> Ending
     ensures { result ≡ record { status = served.status; fault = served.fault } }
 {
@@ -134,8 +135,8 @@ fn ended<D: Drop>(served: Served<D>) -> Ending
         history,
         disk,
     } = served;
-    drop(opened);
-    drop(history);
+    forget(opened);
+    forget(history);
     drop(disk);
     Ending { status, fault }
 }

@@ -1,5 +1,5 @@
 use Rattle.std.proofs.Common.{IsTrue, List, ℕ, refl, sym, subst, ◌∙◌, ap}
-use Rattle.std.specs.Prelude.{false, ◌≡◌}
+use Rattle.std.specs.Prelude.{false, length, ◌≡◌}
 use Rattle.std.specs.List.{list_any}
 use Rattle.own_base.specs.declared.number.Area.TheVariants.{A, B}
 use Rattle.engine_core.specs.Seen.{disk_of}
@@ -16,10 +16,10 @@ returns-in-Ok-clause-ok g c = let view = view_of g.D.Disk.leaves g.D.Disk.moment
     let mid = c.lay_anew.new.opened in
     let here = opening_of mid.engine in
     let works : mid.book.failed ≡ false = c.lay_anew.ensures.done c.if-not-lay_anew.false (c.begin_anew.ensures.failed ∙ c.if-not-is_due.ensures.failed refl) in
-    let none : list_any (λ mark. mark) mid.book.marks ≡ false = rw (c.lay_anew.ensures.marks, c.begin_anew.ensures.marks) (c.if-not-is_due.ensures.marks refl) in
+    let none : list_any (λ mark. mark) mid.book.marks ≡ false = rw (c.lay_anew.ensures.marks c.if-not-lay_anew.false, c.begin_anew.ensures.marks) (c.if-not-is_due.ensures.marks refl) in
     let at_rest : IsAtRest here = λ session begun block stood. unmarked mid.book.marks session c.lay_anew.ensures.keeps.long none (c.lay_anew.ensures.keeps.marks works session begun block stood) in
     silent-renewed view (opening_of c.args.opened.engine) here (opening_of c.in-Ok.engine) c.lay_anew.ensures.silent
-    (renewed-over D.holds view g.met.D.Disk.only_now g.met.D.Disk.reads_may_stay here (c.lay_anew.ensures.keeps.whole works) at_rest
+    (renewed-over D.holds view g.met.D.Disk.only_now g.met.D.Disk.reads_may_stay here (c.lay_anew.ensures.laid c.if-not-lay_anew.false) (c.lay_anew.ensures.keeps.whole works) at_rest
     (subst (λ disk. IsTrue (D.honest disk) → (a b : List ℕ) → D.leaves disk A a → D.leaves disk B b → IsLeftOver here a b) c.disk_left.ensures.disk c.disk_left.ensures.left)
     c.in-Ok.engine (subst (λ disk. OpensStore D.holds view disk c.in-Ok.engine) c.disk_left.ensures.disk (record {
       base = c.in-Ok.ensures.base;
@@ -35,7 +35,8 @@ pub returns-in-Ok-clause-keeps : goal.returns-in-Ok-clause-keeps
 returns-in-Ok-clause-keeps g c =
     let mid = c.lay_anew.new.opened in
     let works : mid.book.failed ≡ false = c.lay_anew.ensures.done c.if-not-lay_anew.false (c.begin_anew.ensures.failed ∙ c.if-not-is_due.ensures.failed refl) in
-    keeps-none mid.book (opening_of c.in-Ok.engine) c.in-Ok.ensures.history c.lay_anew.ensures.keeps.long works
+    let again = c.begin_anew-1 in
+    keeps-none again.new.self (opening_of c.in-Ok.engine) c.in-Ok.ensures.history (ap length again.ensures.marks ∙ c.lay_anew.ensures.keeps.long) (again.ensures.failed ∙ works) again.ensures.tables
 
 pub returns-in-Err-clause-err : goal.returns-in-Err-clause-err
 returns-in-Err-clause-err g c = let view = view_of g.D.Disk.leaves g.D.Disk.moment g.D.Disk.might_have_left g.D.Disk.honest g.D.Disk.faults in
@@ -43,11 +44,11 @@ returns-in-Err-clause-err g c = let view = view_of g.D.Disk.leaves g.D.Disk.mome
     let mid = c.lay_anew.new.opened in
     let here = opening_of mid.engine in
     let works : mid.book.failed ≡ false = c.lay_anew.ensures.done c.if-not-lay_anew.false (c.begin_anew.ensures.failed ∙ c.if-not-is_due.ensures.failed refl) in
-    let none : list_any (λ mark. mark) mid.book.marks ≡ false = rw (c.lay_anew.ensures.marks, c.begin_anew.ensures.marks) (c.if-not-is_due.ensures.marks refl) in
+    let none : list_any (λ mark. mark) mid.book.marks ≡ false = rw (c.lay_anew.ensures.marks c.if-not-lay_anew.false, c.begin_anew.ensures.marks) (c.if-not-is_due.ensures.marks refl) in
     let at_rest : IsAtRest here = λ session begun block stood. unmarked mid.book.marks session c.lay_anew.ensures.keeps.long none (c.lay_anew.ensures.keeps.marks works session begun block stood) in (
       here,
       c.lay_anew.ensures.silent,
-      renewed-none D.holds view g.met.D.Disk.only_now g.met.D.Disk.reads_may_stay here (c.lay_anew.ensures.keeps.whole works) at_rest
+      renewed-none D.holds view g.met.D.Disk.only_now g.met.D.Disk.reads_may_stay here (c.lay_anew.ensures.laid c.if-not-lay_anew.false) (c.lay_anew.ensures.keeps.whole works) at_rest
           (subst (λ disk. IsTrue (D.honest disk) → (a b : List ℕ) → D.leaves disk A a → D.leaves disk B b → IsLeftOver here a b) c.disk_left.ensures.disk c.disk_left.ensures.left)
           c.in-Err.fault c.in-Err.disk (subst (λ disk. OpensNone D.holds view disk c.in-Err.fault c.in-Err.disk) c.disk_left.ensures.disk (record {
             moments = c.in-Err.ensures.moments_err;
@@ -64,4 +65,4 @@ returns-in-Err-clause-err g c = let view = view_of g.D.Disk.leaves g.D.Disk.mome
 
 pub lay_anew-requires : goal.lay_anew-requires
 lay_anew-requires g c =
-    keeps-same c.args.opened.book c.begin_anew.new.self (opening_of c.args.opened.engine) c.begin_anew.ensures.marks c.begin_anew.ensures.failed c.requires
+    keeps-same c.args.opened.book c.begin_anew.new.self (opening_of c.args.opened.engine) c.begin_anew.ensures.marks c.begin_anew.ensures.failed c.begin_anew.ensures.tables c.requires
