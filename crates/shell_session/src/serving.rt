@@ -4,7 +4,7 @@ ghost use Rattle.outer_world.specs.FaultCount.{CountRose};
 ghost use Rattle.grammar_model.specs.Readable.{IsReadable};
 ghost use Rattle.script_model.specs.Split.{IsOfASession};
 ghost use Rattle.history_model.specs.History.{flat, world};
-ghost use Rattle.reply_json.specs.declared.columns.TableNames.{TableNames};
+ghost use Rattle.reply_json.specs.declared.columns.TableNames.{TableNames as Named};
 ghost use Rattle.call_stream.specs.Taken.{IsPlain, IsRead, IsSound, open_calls};
 ghost use Rattle.shell_session.specs.DiskView.{view_of};
 ghost use Rattle.shell_session.specs.Kept.{Keeps};
@@ -24,9 +24,9 @@ use crate::telling::tell;
 use call_stream::{CallStream, StreamCall, StreamEnd};
 use engine_core::Engine;
 use outer_world::{Disk, Sink};
-use own_base::SessionNo;
+use own_base::{Name, SessionNo};
 use own_model::{Reply, ScriptCall};
-use reply_json::Told;
+use reply_json::{TableNames, Told};
 use std::alloc::Global;
 use std::mem::drop;
 
@@ -39,6 +39,30 @@ struct Asked<'a> {
     text: &'a [u8],
 }
 
+/// Which call a reply is to, and the names that it is told with.
+fn told_of<'a>(
+    asked: Asked<'_>,
+    answer: &Answer,
+    columns: &'a [Name],
+    tables: &'a [TableNames],
+) -> Told<'a>
+    ensures place { result.place ≡ answer.now.place }
+    ensures session { result.session ≡ asked.entry.session }
+    ensures call { result.call ≡ asked.entry.number }
+    ensures line { result.line ≡ asked.entry.line }
+    ensures columns { result.columns.now ≡ columns.now }
+    ensures tables { result.tables.now ≡ tables.now }
+{
+    Told {
+        place: answer.place,
+        session: asked.session,
+        call: asked.number,
+        line: asked.line,
+        columns,
+        tables,
+    }
+}
+
 /// Writes what a call was answered, without names.
 fn tell_plain<W: Sink>(
     alloc: Global,
@@ -48,7 +72,7 @@ fn tell_plain<W: Sink>(
     sink: &mut W,
 ) -> Result<(), ShellFault>
     requires { shows_names form answer.now.reply ≡ false }
-    ensures written { (columns : Seq (Seq ℕ)) (tables : Seq TableNames) → HasWritten result (W.written sink.old) (W.written sink.new)
+    ensures written { (columns : Seq (Seq ℕ)) (tables : Seq Named) → HasWritten result (W.written sink.old) (W.written sink.new)
         (told_text form (option_map (λ place. place.0) answer.now.place) asked.entry.session.0 asked.entry.number asked.entry.line columns tables answer.now.reply) }
     ensures fault { result ≡ Err ShellFault.Write → CountRose (W.faults sink.old) (W.faults sink.new) }
     ensures steady { result ≢ Err ShellFault.Write → W.faults sink.new ≡ W.faults sink.old }
@@ -56,14 +80,7 @@ fn tell_plain<W: Sink>(
     ensures lawful { result ≢ Err ShellFault.Refused }
     ensures own { IsOfServing (fault_of result) }
 {
-    let told = Told {
-        place: answer.place,
-        session: asked.session,
-        call: asked.number,
-        line: asked.line,
-        columns: &[],
-        tables: &[],
-    };
+    let told = told_of(asked, answer, &[], &[]);
     tell(alloc, form, &told, &answer.reply, sink)
 }
 
@@ -94,14 +111,7 @@ fn tell_named<W: Sink, D: Disk>(
     let Ok(columns) = reply_columns(alloc, tables, engine.history().last(), &answer.reply) else {
         return Err(ShellFault::Memory);
     };
-    let told = Told {
-        place: answer.place,
-        session: asked.session,
-        call: asked.number,
-        line: asked.line,
-        columns: columns.items(),
-        tables,
-    };
+    let told = told_of(asked, answer, columns.items(), tables);
     let written = tell(alloc, Form::Json, &told, &answer.reply, sink);
     drop(columns);
     written
