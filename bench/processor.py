@@ -73,13 +73,20 @@ def instructions(command, path):
 
 def least(command, path, runs, output=subprocess.PIPE):
     """What the command takes with the file as its input, by the least seconds of several runs, and what it wrote last."""
-    taken = []
+    return least_in_turn([(command, path)], runs, output)[0]
+
+
+def least_in_turn(commands, runs, output=subprocess.PIPE):
+    """The same of several commands, each with its file, which come one after the other in each round, so that what the machine does
+    beside them meets all alike."""
+    taken, told = [[] for _ in commands], [None] * len(commands)
     for _ in range(runs):
-        with open(path, "rb") as source:
-            begin = spent()
-            done = subprocess.run(command, stdin=source, stdout=output, check=True)
-            taken.append(spent() - begin)
-    return Cost(min(taken), instructions(command, path)), done.stdout
+        for number, (command, path) in enumerate(commands):
+            with open(path, "rb") as source:
+                begin = spent()
+                told[number] = subprocess.run(command, stdin=source, stdout=output, check=True).stdout
+                taken[number].append(spent() - begin)
+    return [(Cost(min(times), instructions(*one)), lines) for times, one, lines in zip(taken, commands, told)]
 
 
 class Watch:
