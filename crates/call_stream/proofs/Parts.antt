@@ -50,7 +50,7 @@ stretches-of (Comment line ∷ pieces) ending more (here, inner) may = ap (onto_
 stretches-of (SessionLine line ∷ pieces) ending more (here, inner) may = no_truth here
 stretches-of (Semicolon ∷ pieces) ending more (here, inner) may = no_truth here
 
-parts_from-cons : (session at : ℕ) (stretch : Stretch) (more : List Stretch) → parts_from session at (stretch ∷ more) ≡ call_in session at stretch ++ (bad_line (end_of at stretch) stretch.ending ++ parts_from (session_after session stretch.ending) (end_of at stretch + ending_len stretch.ending) more)
+pub parts_from-cons : (session at : ℕ) (stretch : Stretch) (more : List Stretch) → parts_from session at (stretch ∷ more) ≡ call_in session at stretch ++ (bad_line (end_of at stretch) stretch.ending ++ parts_from (session_after session stretch.ending) (end_of at stretch + ending_len stretch.ending) more)
 unfolding parts_from
 parts_from-cons session at stretch more = refl
 

@@ -27,7 +27,7 @@ no_faults count (Call text ∷ parts) right few =
     ap (λ b. (if b then [] else TooManyCalls text.at ∷ []) ++ faults_after (count + 1) parts) (lt-ltb count INPUT_CALLS less) ∙ no_faults (count + 1) parts right later
 no_faults count (BadLine at ∷ parts) right few = absurd (let wrong : ◌≡◌ {A = List ℕ} (at ∷ bad_lines parts) [] = right in cc)
 
-askings_len : (texts : List CallText) (requests : List Request) → AreAskedBy texts requests → length (askings_of texts requests) ≡ length texts
+pub askings_len : (texts : List CallText) (requests : List Request) → AreAskedBy texts requests → length (askings_of texts requests) ≡ length texts
 askings_len [] requests asked = refl
 askings_len (text ∷ texts) [] asked = absurd asked
 askings_len (text ∷ texts) (request ∷ requests) (here, asked) = omega (arith, askings_len texts requests asked)
