@@ -13,7 +13,7 @@ use Rattle.script_model.specs.Piece.{Piece, Byte, Quoted, Unclosed, Comment, Ses
 use Rattle.script_model.specs.Script.{askings_of, parts_of, texts_in}
 use Rattle.script_model.specs.Stretch.{Stretch, AtSemicolon, AtSession, onto_first, stretches}
 use Rattle.script_model.proofs.InputCalls.{texts-append}
-use Rattle.sql_reader.specs.scripts.Fronts.{is_inner, begins_after}
+use Rattle.sql_reader.specs.scripts.Fronts.{begins_after}
 use Rattle.sql_reader.proofs.Answering.{one_answer}
 use Rattle.sql_reader.proofs.Scripts.Numbering.{numbered_after-append}
 use Rattle.sql_reader.proofs.Scripts.OnePiece.{one_list, pieces_in}

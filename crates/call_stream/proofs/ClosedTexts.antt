@@ -1,5 +1,5 @@
 -- Where all texts that bytes close are given, none is closed besides.
-use Rattle.std.proofs.Common.{◌≡◌, ◌<◌, ◌+◌, ◌⊎◌, ℕ, Bool, true, false, List, [], ◌∷◌, ◌++◌, length, inl, inr, refl, sym, ap, ◌∙◌, subst, arith}
+use Rattle.std.proofs.Common.{◌≡◌, ◌⊎◌, ℕ, Bool, true, false, List, [], ◌∷◌, ◌++◌, inl, inr, refl, sym, ap, ◌∙◌, subst, arith}
 use Rattle.std.proofs.lemmas.List.{append-nil}
 use Rattle.own_model.specs.declared.script.ScriptCall.{ScriptCall}
 use Rattle.sql_lex.specs.Filler.{EndsLine}
@@ -7,7 +7,7 @@ use Rattle.script_model.specs.CallText.{CallText}
 use Rattle.script_model.specs.Piece.{Piece, Byte, Quoted, Unclosed, Comment, SessionLine, Semicolon, ArePieces, AreAllPieces, ends_line}
 use Rattle.script_model.specs.Script.{parts_of, texts_in}
 use Rattle.script_model.proofs.InputCalls.{texts-append}
-use Rattle.sql_reader.specs.scripts.Fronts.{is_inner, begins_after}
+use Rattle.sql_reader.specs.scripts.Fronts.{begins_after}
 use Rattle.sql_reader.proofs.Scripts.OnePiece.{one_list, pieces_in}
 use Rattle.sql_reader.proofs.Scripts.Scanning.{ArePieces-append}
 use Rattle.call_stream.specs.Given.{AreCallsOf, AreClosed, AreFront, AreOpen, AreTexts, HasAllClosed, HasGiven}

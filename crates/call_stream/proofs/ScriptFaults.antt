@@ -1,5 +1,5 @@
 -- The script of an input in which a stream has a fault.
-use Rattle.std.proofs.Common.{◌≡◌, ◌<◌, ◌≤◌, ◌+◌, ◌-◌, ◌⊎◌, ℕ, zero, suc, Bool, true, false, List, [], ◌∷◌, ◌++◌, length, get_or, take, inl, inr, refl, sym, ap, ◌∙◌, subst, arith, append_assoc}
+use Rattle.std.proofs.Common.{◌≡◌, ◌<◌, ◌≤◌, ◌+◌, ◌-◌, ◌⊎◌, ℕ, zero, suc, Bool, true, List, [], ◌∷◌, ◌++◌, length, get_or, take, inl, inr, refl, sym, ap, ◌∙◌, subst, arith, append_assoc}
 use Rattle.std.specs.Prelude.{None, Some, Err, Option, filter, if◌then◌else◌}
 use Rattle.std.specs.Str.{IsUtf8, IsValidUpTo, is_utf8}
 use Rattle.std.specs.Str.Lossy.{utf8_valid_len, valid_len_up_to}
@@ -9,17 +9,15 @@ use Rattle.std.proofs.lemmas.Str.{IsCharBoundary-after_ascii, IsCharBoundary-bef
 use Rattle.std.proofs.Math.Seq.{take-append-add, take-append_seam}
 use Rattle.sql_lex.specs.Filler.{EndsLine}
 use Rattle.own_model.specs.declared.limit.TheConstants.{INPUT_BYTES, INPUT_CALLS}
-use Rattle.own_model.specs.declared.script.InputFault.{InputFault}
 use Rattle.own_model.specs.declared.script.InputFault.TheVariants.{BadSession, TooManyCalls}
 use Rattle.own_model.specs.declared.script.ScriptCall.{ScriptCall}
 use Rattle.script_model.specs.CallText.{CallText, Mark, Part, Call, BadLine, bad_line, bad_unless, call_in, call_of, end_of, ending_len, marks_in, parts_from, session_after, trimmed}
-use Rattle.script_model.specs.Numbered.{count_of, is_of, numbered_after}
+use Rattle.script_model.specs.Numbered.{count_of, is_of}
 use Rattle.script_model.specs.Piece.{Piece, Byte, Quoted, Unclosed, Comment, SessionLine, Semicolon, ArePieces, AreAllPieces, bytes_of, ends_line}
-use Rattle.script_model.specs.Script.{IsScript, askings_of, faults_after, first_of, parts_of, texts_in, too_many}
+use Rattle.script_model.specs.Script.{IsScript, askings_of, faults_after, first_of, parts_of, texts_in}
 use Rattle.script_model.specs.Session.{session_of}
 use Rattle.script_model.specs.Stretch.{Ending, Stretch, AtEnd, AtSemicolon, AtSession, onto_first, stretches}
 use Rattle.script_model.proofs.InputCalls.{length-numbered, texts-append}
-use Rattle.sql_reader.specs.scripts.Fronts.{begins_after}
 use Rattle.sql_reader.proofs.Scripts.OnePiece.{one_list, pieces_in}
 use Rattle.call_stream.specs.Given.{AreCallsOf, AreClosed, AreFront, AreOpen, HasAllClosed, HasGiven, IsEndFault, IsFaultMet, bad_lines}
 use Rattle.call_stream.specs.ScriptFaults.{AreFewBefore, IsScriptFault, before_bad}
@@ -118,8 +116,10 @@ closed_end begins Semicolon [] bytes after closed are = inl ([], are.1 ∙ ap (�
 closed_end begins piece (next ∷ pieces) bytes after closed are =
     elim (closed_end (ends_line piece) next pieces are.0 after closed are.3) [
       | inl (before, split) ↦
-          inl (bytes_of piece ++ before,
-            are.1 ∙ ap (λ l. bytes_of piece ++ l) split ∙ sym (append_assoc (bytes_of piece) (before ++ 59 ∷ []) after) ∙ ap (λ l. l ++ after) (sym (append_assoc (bytes_of piece) before (59 ∷ []))))
+          inl (
+            bytes_of piece ++ before,
+            are.1 ∙ ap (λ l. bytes_of piece ++ l) split ∙ sym (append_assoc (bytes_of piece) (before ++ 59 ∷ []) after) ∙ ap (λ l. l ++ after) (sym (append_assoc (bytes_of piece) before (59 ∷ []))),
+          )
       | inr ends ↦ inr ends
     ]
 

@@ -1,12 +1,12 @@
 -- The calls of a whole input are its script, where the limits aren't passed.
-use Rattle.std.proofs.Common.{◌≡◌, ◌<◌, ◌≤◌, ◌+◌, ℕ, suc, Bool, true, false, List, [], ◌∷◌, ◌++◌, length, refl, sym, ap, ◌∙◌, arith}
+use Rattle.std.proofs.Common.{◌≡◌, ◌<◌, ◌≤◌, ◌+◌, ℕ, List, [], ◌∷◌, ◌++◌, length, refl, sym, ap, ◌∙◌, arith}
 use Rattle.std.specs.Prelude.{Ok, if◌then◌else◌}
 use Rattle.std.proofs.lemmas.Bool.{lt-ltb}
 use Rattle.std.proofs.lemmas.List.{length-append}
 use Rattle.std.proofs.lemmas.Str.{utf8_valid_len-IsUtf8}
 use Rattle.own_model.specs.declared.limit.TheConstants.{INPUT_BYTES, INPUT_CALLS}
 use Rattle.own_model.specs.declared.request.Request.{Request}
-use Rattle.own_model.specs.declared.script.InputFault.TheVariants.{BadSession, TooManyCalls}
+use Rattle.own_model.specs.declared.script.InputFault.TheVariants.{TooManyCalls}
 use Rattle.own_model.specs.declared.script.ScriptCall.{ScriptCall}
 use Rattle.script_model.specs.Asked.{AreAskedBy}
 use Rattle.script_model.specs.CallText.{CallText, Part, Call, BadLine}
