@@ -1,5 +1,5 @@
 -- A call more.
-use Rattle.std.proofs.Common.{◌≡◌, ◌+◌, ℕ, List, [], ◌∷◌, ◌++◌, refl, sym, ap, ◌∙◌, subst}
+use Rattle.std.proofs.Common.{◌≡◌, List, [], ◌∷◌, ◌++◌, refl, sym, ap, ◌∙◌}
 use Rattle.own_model.specs.declared.request.Request.{Request}
 use Rattle.own_model.specs.declared.script.ScriptCall.{ScriptCall}
 use Rattle.script_model.specs.Asked.{IsAskedBy, AreAskedBy}

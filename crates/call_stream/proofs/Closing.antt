@@ -1,26 +1,23 @@
 -- What closes the text of a stretch.
-use Rattle.std.proofs.Common.{◌≡◌, ◌≢◌, ◌<◌, ◌≤◌, ◌+◌, ◌-◌, ◌⊎◌, ℕ, zero, suc, Bool, true, false, List, [], ◌∷◌, ◌++◌, length, get_or, take, drop, map, All, inl, inr, refl, sym, ap, ◌∙◌, subst, arith, append_assoc}
-use Rattle.std.specs.Prelude.{◌==◌, ◌&&◌, slice_range, codes}
-use Rattle.std.specs.List.{AllByRecursion, flat_map}
+use Rattle.std.proofs.Common.{◌≡◌, ◌≢◌, ◌<◌, ◌≤◌, ◌+◌, ◌-◌, ◌⊎◌, ℕ, zero, suc, Bool, true, false, List, [], ◌∷◌, ◌++◌, length, get_or, take, drop, All, inl, inr, refl, sym, ap, ◌∙◌, subst, arith}
+use Rattle.std.specs.Prelude.{◌==◌, ◌&&◌, codes}
 use Rattle.std.specs.Str.{IsUtf8, IsCharBoundary}
 use Rattle.std.proofs.lemmas.Bool.{cases_Bool, cases_lt, eqb-true}
 use Rattle.std.proofs.lemmas.Bool.Decides.{Decides-eqb}
-use Rattle.std.proofs.lemmas.List.{append-nil, length-append, length-drop, take-append-drop, drop-drop, drop_more, take_at, drop-append-le, get_or-take, take-append-le}
-use Rattle.std.proofs.lemmas.List.Elements.{All-nil, All-cons, All-head, All-tail, All-drop, All-from_recursion}
+use Rattle.std.proofs.lemmas.List.{length-append, length-drop, take-append-drop, drop-drop, drop_more, take_at, drop-append-le, get_or-take}
+use Rattle.std.proofs.lemmas.List.Elements.{All-head, All-tail, All-drop, All-from_recursion}
 use Rattle.std.proofs.lemmas.Slice.Eq.{starts_is}
-use Rattle.std.proofs.lemmas.Str.{IsCharBoundary-start, IsCharBoundary-end, IsCharBoundary-before_ascii, IsCharBoundary-after_ascii}
+use Rattle.std.proofs.lemmas.Str.{IsCharBoundary-start, IsCharBoundary-before_ascii, IsCharBoundary-after_ascii}
 use Rattle.sql_lex.specs.Filler.{EndsLine}
-use Rattle.script_model.specs.Piece.{Piece, SessionLine, Semicolon, bytes_of, starts, ArePieces}
-use Rattle.script_model.specs.Stretch.{Stretch, AtSemicolon, AtSession}
-use Rattle.sql_reader.specs.scripts.Fronts.{is_inner, begins_after}
-use Rattle.call_stream.specs.Settled.{AreSettled}
+use Rattle.script_model.specs.Piece.{SessionLine, Semicolon, bytes_of, starts}
+use Rattle.script_model.specs.Stretch.{AtSemicolon, AtSession}
 use Rattle.call_stream.specs.Scans.{IsEdge, IsLow, IsScanned, IsMet}
 use Rattle.call_stream.specs.Stretches.{IsClosed, line_of, next_of}
 use Rattle.call_stream.specs.declared.scan.Closing.{Closing}
 use Rattle.call_stream.specs.declared.scan.Closing.TheVariants as closing
-use Rattle.call_stream.specs.declared.scan.Place.TheVariants.{Between, Line}
+use Rattle.call_stream.specs.declared.scan.Place.TheVariants.{Line}
 use Rattle.call_stream.specs.declared.scan.Scan.{Scan}
-use Rattle.call_stream.proofs.Scanning.{piece_is, cut, between_at, line_at, open_at, one_settled, settled_push}
+use Rattle.call_stream.proofs.Scanning.{piece_is, cut, between_at, open_at, one_settled, settled_push}
 
 starts-split : (bytes needle : List ℕ) → starts bytes needle ≡ true → bytes ≡ needle ++ drop (length needle) bytes
 starts-split bytes needle is = (starts_is Decides-eqb bytes needle _ refl).0 is

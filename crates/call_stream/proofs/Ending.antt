@@ -1,17 +1,14 @@
 -- What is open where the bytes end.
-use Rattle.std.proofs.Common.{◌≡◌, ◌≢◌, ◌<◌, ◌≤◌, ◌+◌, ◌-◌, ℕ, Bool, true, false, List, [], ◌∷◌, ◌++◌, length, get_or, take, drop, map, All, inl, inr, refl, sym, ap, ◌∙◌, subst, arith, append_assoc}
-use Rattle.std.specs.Prelude.{◌==◌, ◌&&◌, if◌then◌else◌, slice_range, codes}
-use Rattle.std.specs.List.{AllByRecursion, flat_map}
+use Rattle.std.proofs.Common.{◌≡◌, ◌≢◌, ◌≤◌, ◌+◌, ℕ, Bool, true, false, List, [], ◌∷◌, ◌++◌, length, drop, All, inl, inr, refl, sym, ap, ◌∙◌, subst, arith}
+use Rattle.std.specs.Prelude.{◌&&◌, slice_range, codes}
+use Rattle.std.specs.List.{AllByRecursion}
 use Rattle.std.proofs.lemmas.Bool.{cases_Bool}
 use Rattle.std.proofs.lemmas.Bool.Decides.{Decides-eqb}
 use Rattle.std.proofs.lemmas.List.{append-nil, length-append, length-drop, drop_all, drop-drop}
 use Rattle.std.proofs.lemmas.List.Elements.{All-drop}
 use Rattle.std.proofs.lemmas.Slice.Eq.{starts_is}
-use Rattle.script_model.specs.CallText.{marks_of, marks_in}
 use Rattle.script_model.specs.Piece.{Piece, Byte, Quoted, Unclosed, Comment, SessionLine, Semicolon, bytes_of, starts, IsPiece, ArePieces}
-use Rattle.script_model.specs.Stretch.{Stretch, Ending, AtSemicolon, AtSession, AtEnd}
-use Rattle.sql_reader.specs.scripts.Fronts.{is_inner, begins_after}
-use Rattle.sql_reader.specs.scripts.Stretches.{ending_pieces}
+use Rattle.sql_reader.specs.scripts.Fronts.{is_inner}
 use Rattle.sql_reader.proofs.Scripts.Marking.{each_append}
 use Rattle.sql_reader.proofs.Scripts.Scanning.{ArePieces-append}
 use Rattle.call_stream.specs.Given.{AreOpen}
@@ -20,7 +17,7 @@ use Rattle.call_stream.specs.Stretches.{line_of}
 use Rattle.call_stream.specs.declared.scan.Place.{Place}
 use Rattle.call_stream.specs.declared.scan.Place.TheVariants.{Between, Dash, Line, Quote}
 use Rattle.call_stream.specs.declared.scan.Scan.{Scan}
-use Rattle.call_stream.proofs.Scanning.{cut, between_at, open_at}
+use Rattle.call_stream.proofs.Scanning.{cut, open_at}
 
 abbrev inner_piece : Piece → Type 0
 inner_piece piece = is_inner piece ≡ true

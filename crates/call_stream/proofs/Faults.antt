@@ -1,23 +1,21 @@
 -- Why a stream gives no further call.
-use Rattle.std.proofs.Common.{◌≡◌, ◌≢◌, ◌<◌, ◌≤◌, ◌+◌, ◌-◌, ℕ, zero, suc, Bool, true, false, List, [], ◌∷◌, ◌++◌, length, get_or, set, take, drop, inl, inr, refl, sym, ap, ◌∙◌, subst, arith, append_assoc}
-use Rattle.std.specs.Prelude.{None, Some, ◌&&◌, slice_range, codes, if◌then◌else◌}
+use Rattle.std.proofs.Common.{◌≡◌, ◌<◌, ◌≤◌, ◌+◌, ◌-◌, ℕ, zero, suc, Bool, true, false, List, [], ◌∷◌, ◌++◌, length, get_or, set, take, drop, inl, inr, refl, sym, ap, ◌∙◌, subst, arith}
+use Rattle.std.specs.Prelude.{None, ◌&&◌, slice_range, codes, if◌then◌else◌}
 use Rattle.std.specs.Str.{IsUtf8, IsValidUpTo}
-use Rattle.std.specs.Str.Lossy.{utf8_valid_len}
 use Rattle.std.proofs.lemmas.Bool.{cases_eq, cases_lt}
 use Rattle.std.proofs.lemmas.List.{append-nil, length-append, length-take, length-drop, length-set, get_or-set_same, get_or-set_other}
 use Rattle.std.proofs.lemmas.Str.{IsUtf8-append, IsUtf8-drop, IsCharBoundary-from_take, utf8_valid_len-IsValidUpTo}
 use Rattle.std.proofs.Math.Seq.{take-append-add, take-append_seam, drop-append_seam}
 use Rattle.own_model.specs.declared.script.ScriptCall.{ScriptCall}
-use Rattle.script_model.specs.CallText.{CallText, BadLine, call_in, bad_line, bad_unless, end_of, ending_len, session_after, parts_from}
+use Rattle.script_model.specs.CallText.{CallText, BadLine, bad_line, bad_unless, end_of, ending_len, session_after, parts_from}
 use Rattle.script_model.specs.Piece.{ArePieces, starts}
 use Rattle.script_model.specs.Script.{parts_of, texts_in}
 use Rattle.script_model.specs.Session.{session_of}
-use Rattle.script_model.specs.Stretch.{AtSession, AtEnd, stretches}
-use Rattle.sql_reader.specs.scripts.Fronts.{begins_after}
+use Rattle.script_model.specs.Stretch.{AtSession}
 use Rattle.sql_reader.specs.scripts.Stretches.{ending_pieces, call_with}
 use Rattle.call_stream.specs.Given.{AreTexts, HasAllClosed, IsEndFault, IsFaultMet, bad_lines}
-use Rattle.call_stream.specs.Scans.{IsMet, IsScanned}
-use Rattle.call_stream.specs.Stretches.{IsClosed, IsEndingOf, IsLast, IsReadFault, is_line, line_of, next_of, session_open}
+use Rattle.call_stream.specs.Scans.{IsMet}
+use Rattle.call_stream.specs.Stretches.{IsClosed, IsLast, IsReadFault, is_line, line_of, next_of, session_open}
 use Rattle.call_stream.specs.Taken.{HasTaken, IsEndsFault, IsLastFault, IsRead, IsSound, pending, count_now}
 use Rattle.call_stream.specs.declared.fault.StreamFault.{StreamFault}
 use Rattle.call_stream.specs.declared.fault.StreamFault.TheVariants as fault
@@ -28,10 +26,10 @@ use Rattle.call_stream.specs.declared.scan.Place.TheVariants.{Between, Dash, Lin
 use Rattle.call_stream.specs.declared.scan.Scan.{Scan}
 use Rattle.call_stream.specs.declared.stream.CallStream.{CallStream}
 use Rattle.call_stream.proofs.Ending.{open_pieces, session_then}
-use Rattle.call_stream.proofs.Finishing.{ending_where, whole_are, whole_parts, wrong_line}
+use Rattle.call_stream.proofs.Finishing.{whole_are, whole_parts, wrong_line}
 use Rattle.call_stream.proofs.Lasting.{last_line}
 use Rattle.call_stream.proofs.Parts.{parts_from-end, parts_then, after_is, bad_lines-append, no_bad_call, stretch_length}
-use Rattle.call_stream.proofs.Taking.{call_at, front_then, goes_on, is, take_len}
+use Rattle.call_stream.proofs.Taking.{call_at, front_then, goes_on, is}
 
 -- what comes after text that is text
 text_rest : (front rest : List ℕ) → IsUtf8 front → IsUtf8 (front ++ rest) → IsUtf8 rest

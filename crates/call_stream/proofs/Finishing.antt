@@ -1,25 +1,22 @@
 -- A stream at the end of its input.
-use Rattle.std.proofs.Common.{◌≡◌, ◌≢◌, ◌<◌, ◌≤◌, ◌+◌, ◌-◌, ℕ, Bool, true, false, List, [], ◌∷◌, ◌++◌, length, take, drop, map, refl, sym, ap, ◌∙◌, subst, arith, append_assoc}
+use Rattle.std.proofs.Common.{◌≡◌, ◌<◌, ◌+◌, ◌-◌, ℕ, Bool, true, false, List, [], ◌∷◌, ◌++◌, length, take, drop, map, refl, sym, ap, ◌∙◌, subst, arith, append_assoc}
 use Rattle.std.specs.Prelude.{Option, None, Some, slice_range, slice_index, slice_set, if◌then◌else◌, is_some}
 use Rattle.std.specs.List.{flat_map}
 use Rattle.std.specs.Str.{IsUtf8}
-use Rattle.std.proofs.lemmas.Bool.{cases_Bool}
 use Rattle.std.proofs.lemmas.Str.{IsUtf8-append}
-use Rattle.std.proofs.lemmas.List.{append-nil, length-append, length-take, length-drop, map-append}
+use Rattle.std.proofs.lemmas.List.{append-nil, length-take, length-drop, map-append}
 use Rattle.std.proofs.lemmas.List.Concat.{flat_map-append}
 use Rattle.std.proofs.Math.Seq.{take-append-add}
-use Rattle.own_model.specs.declared.limit.TheConstants.{SESSIONS, STATEMENT_BYTES}
 use Rattle.own_model.specs.declared.script.ScriptCall.{ScriptCall}
-use Rattle.script_model.specs.Asked.{AreAskedBy, IsAskedWhere}
-use Rattle.script_model.specs.CallText.{CallText, Part, Call, call_in, marks_of, marks_in, is_closed, end_of, ending_len, session_after, bad_line, bad_unless, parts_from}
+use Rattle.script_model.specs.Asked.{AreAskedBy}
+use Rattle.script_model.specs.CallText.{CallText, call_in, marks_of, marks_in, is_closed, end_of, ending_len, session_after, bad_line, bad_unless, parts_from}
 use Rattle.script_model.specs.Numbered.{call_after, numbered_after, calls_of}
 use Rattle.script_model.specs.Piece.{Piece, ArePieces, AreAllPieces}
 use Rattle.script_model.specs.Script.{parts_of, texts_in, askings_of}
 use Rattle.script_model.specs.Session.{session_of}
-use Rattle.script_model.specs.Stretch.{Stretch, Ending, AtSession, AtEnd, stretches}
+use Rattle.script_model.specs.Stretch.{Ending, AtSession, AtEnd}
 use Rattle.script_model.proofs.InputCalls.{texts-append}
 use Rattle.sql_reader.specs.scripts.Counts.{AreCounted, asking}
-use Rattle.sql_reader.specs.scripts.Fronts.{begins_after}
 use Rattle.sql_reader.specs.scripts.Stretches.{ending_pieces, call_with}
 use Rattle.sql_reader.specs.scripts.TextCalls.{ends_after}
 use Rattle.sql_reader.proofs.Scripts.Counting.{AreCounted-push}
@@ -27,10 +24,9 @@ use Rattle.sql_reader.proofs.Scripts.Ends.{calls_of-text}
 use Rattle.sql_reader.proofs.Scripts.Marking.{byte_in, pieces_bytes, call_is}
 use Rattle.sql_reader.proofs.Scripts.Scanning.{ArePieces-append}
 use Rattle.call_stream.specs.Given.{AreCallsOf, HasWholeCalls, bad_lines}
-use Rattle.call_stream.specs.Stretches.{IsCallIn, IsCallOf, IsLast, feeds, line_of, session_open}
-use Rattle.call_stream.specs.Taken.{HasEnd, HasTaken, IsLastRead, IsOpenShown, IsShown, IsSound, open_calls, pending, count_now}
+use Rattle.call_stream.specs.Stretches.{IsCallIn, IsLast, feeds, line_of}
+use Rattle.call_stream.specs.Taken.{HasEnd, HasTaken, IsSound, pending, count_now}
 use Rattle.call_stream.specs.declared.call.StreamCall.{StreamCall}
-use Rattle.call_stream.specs.declared.call.StreamEnd.{StreamEnd}
 use Rattle.call_stream.specs.declared.scan.Scan.{Scan}
 use Rattle.call_stream.specs.declared.stream.CallStream.{CallStream}
 use Rattle.call_stream.proofs.Calling.{call_push}

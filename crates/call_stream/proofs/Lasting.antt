@@ -1,21 +1,21 @@
 -- The text of the stretch that the end of the input leaves.
-use Rattle.std.proofs.Common.{◌≡◌, ◌≢◌, ◌<◌, ◌≤◌, ◌+◌, ◌-◌, ℕ, Bool, true, false, List, [], ◌∷◌, ◌++◌, length, get_or, take, drop, map, All, inl, inr, refl, sym, ap, ◌∙◌, subst, arith, append_assoc}
-use Rattle.std.specs.Prelude.{◌==◌, ◌&&◌, if◌then◌else◌, slice_range, codes}
+use Rattle.std.proofs.Common.{◌≡◌, ◌<◌, ◌≤◌, ◌+◌, ◌-◌, ℕ, Bool, true, false, List, [], ◌∷◌, ◌++◌, length, get_or, drop, map, All, inl, inr, refl, sym, ap, ◌∙◌, subst, arith, append_assoc}
+use Rattle.std.specs.Prelude.{◌&&◌, if◌then◌else◌, slice_range, codes}
 use Rattle.std.specs.List.{AllByRecursion, flat_map}
 use Rattle.std.specs.Str.{IsUtf8, IsCharBoundary}
 use Rattle.std.proofs.lemmas.Bool.{cases_Bool, cases_lt, cases_eq, eq-eqb, ne_eqb}
-use Rattle.std.proofs.lemmas.List.{append-nil, length-append, length-drop, get_or-drop, drop_more, take_all, drop-drop}
+use Rattle.std.proofs.lemmas.List.{append-nil, length-drop, get_or-drop, drop_more, take_all, drop-drop}
 use Rattle.std.proofs.lemmas.List.Concat.{flat_map-append}
 use Rattle.std.proofs.lemmas.List.Elements.{All-head}
 use Rattle.std.proofs.lemmas.Str.{IsCharBoundary-end, IsCharBoundary-before_ascii}
 use Rattle.sql_lex.specs.Bytes.{is_space}
-use Rattle.script_model.specs.CallText.{Mark, mark_of, marks_of, marks_in}
-use Rattle.script_model.specs.Piece.{Piece, Byte, Unclosed, Comment, SessionLine, IsWithoutQuote, starts, ArePieces}
-use Rattle.script_model.specs.Stretch.{Stretch, Ending, AtSession, AtEnd}
+use Rattle.script_model.specs.CallText.{mark_of, marks_of}
+use Rattle.script_model.specs.Piece.{Piece, Byte, Unclosed, Comment, starts, ArePieces}
+use Rattle.script_model.specs.Stretch.{Ending, AtSession, AtEnd}
 use Rattle.sql_reader.specs.scripts.Fronts.{Holds, AreEmpty, is_inner}
 use Rattle.sql_reader.specs.scripts.Stretches.{Spans, ending_pieces}
 use Rattle.sql_reader.proofs.Scripts.FrontPieces.{space_low, unclosed_front}
-use Rattle.sql_reader.proofs.Scripts.Marking.{each_append, tight_some, Spans-empty, Spans-first, Spans-later}
+use Rattle.sql_reader.proofs.Scripts.Marking.{each_append, Spans-empty, Spans-first, Spans-later}
 use Rattle.call_stream.specs.Scans.{IsScanned, held}
 use Rattle.call_stream.specs.Stretches.{IsLast, is_line, line_of, session_open}
 use Rattle.call_stream.specs.declared.scan.Place.{Place}

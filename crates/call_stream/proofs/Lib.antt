@@ -1,4 +1,6 @@
+pub mod Beginnings
 pub mod Calling
+pub mod ClosedTexts
 pub mod Closing
 pub mod Ending
 pub mod EndsGiven
@@ -9,6 +11,7 @@ pub mod Lasting
 pub mod Parts
 pub mod Plain
 pub mod Scanning
+pub mod ScriptFaults
 pub mod Scripts
 pub mod Starting
 pub mod Taking

@@ -1,13 +1,12 @@
 -- The parts of an input, stretch by stretch.
-use Rattle.std.proofs.Common.{◌≡◌, ◌≢◌, ◌<◌, ◌≤◌, ◌+◌, ℕ, Bool, true, false, List, [], ◌∷◌, ◌++◌, length, drop, map, codes, Some, None, refl, sym, ap, ◌∙◌, subst, arith, append_assoc}
+use Rattle.std.proofs.Common.{◌≡◌, ◌≢◌, ◌+◌, ℕ, Bool, true, false, List, [], ◌∷◌, ◌++◌, length, map, codes, refl, ap, ◌∙◌, arith, append_assoc}
 use Rattle.std.specs.List.{AllByRecursion, flat_map}
-use Rattle.std.proofs.lemmas.List.{append-nil, length-append, length-map, length-drop, map-append}
+use Rattle.std.proofs.lemmas.List.{append-nil, length-append, length-map, map-append}
 use Rattle.std.proofs.lemmas.List.Concat.{flat_map-append}
 use Rattle.script_model.specs.CallText.{Mark, Part, Call, BadLine, CallText, mark_of, marks_of, marks_in, trimmed, empty_front, call_of, call_in, is_closed, end_of, ending_len, session_after, bad_line, parts_from}
 use Rattle.script_model.specs.Piece.{Piece, Byte, Quoted, Unclosed, Comment, SessionLine, Semicolon, ArePieces}
-use Rattle.script_model.specs.Script.{parts_of, texts_in}
+use Rattle.script_model.specs.Script.{parts_of}
 use Rattle.script_model.specs.Stretch.{Stretch, Ending, AtSemicolon, AtSession, AtEnd, onto_first, stretches}
-use Rattle.script_model.proofs.InputCalls.{texts-append}
 use Rattle.sql_reader.specs.scripts.Fronts.{is_inner, begins_after}
 use Rattle.sql_reader.specs.scripts.Stretches.{ending_pieces, call_with}
 use Rattle.sql_reader.proofs.Scripts.Marking.{byte_in, pieces_bytes, trimmed-empty}
@@ -50,7 +49,7 @@ stretches-of (Comment line ∷ pieces) ending more (here, inner) may = ap (onto_
 stretches-of (SessionLine line ∷ pieces) ending more (here, inner) may = no_truth here
 stretches-of (Semicolon ∷ pieces) ending more (here, inner) may = no_truth here
 
-parts_from-cons : (session at : ℕ) (stretch : Stretch) (more : List Stretch) → parts_from session at (stretch ∷ more) ≡ call_in session at stretch ++ (bad_line (end_of at stretch) stretch.ending ++ parts_from (session_after session stretch.ending) (end_of at stretch + ending_len stretch.ending) more)
+pub parts_from-cons : (session at : ℕ) (stretch : Stretch) (more : List Stretch) → parts_from session at (stretch ∷ more) ≡ call_in session at stretch ++ (bad_line (end_of at stretch) stretch.ending ++ parts_from (session_after session stretch.ending) (end_of at stretch + ending_len stretch.ending) more)
 unfolding parts_from
 parts_from-cons session at stretch more = refl
 

@@ -1,17 +1,14 @@
 -- What is asked for can be read, and by a session.
-use Rattle.std.proofs.Common.{◌≡◌, ◌<◌, ◌≤◌, ◌+◌, ◌-◌, ℕ, Bool, true, false, List, [], ◌∷◌, ◌++◌, length, refl, sym, subst, arith}
+use Rattle.std.proofs.Common.{◌≡◌, ◌≤◌, ◌+◌, ℕ, Bool, true, false, List, [], ◌∷◌, length, refl, sym, subst, arith}
 use Rattle.std.specs.Prelude.{Option, None, Some, nat_lt, if◌then◌else◌}
 use Rattle.std.specs.List.{AllByRecursion}
 use Rattle.std.proofs.lemmas.Bool.{ltb-false}
 use Rattle.own_model.specs.declared.limit.TheConstants.{SESSIONS, STATEMENT_BYTES}
 use Rattle.own_model.specs.declared.request.Request.{Request}
 use Rattle.own_model.specs.declared.request.Request.TheVariants.{End}
-use Rattle.own_model.specs.declared.script.ScriptCall.{ScriptCall}
 use Rattle.grammar_model.specs.Readable.{IsReadable}
 use Rattle.grammar_model.proofs.Requests.{answer_readable}
 use Rattle.script_model.specs.Asked.{IsAskedWhere}
-use Rattle.script_model.specs.Split.{IsOfASession}
-use Rattle.sql_reader.proofs.Scripts.Marking.{each_append}
 use Rattle.call_stream.specs.Stretches.{IsCallIn, IsCallOf}
 use Rattle.call_stream.specs.Taken.{IsPlain, IsPlainCall, ends_at}
 use Rattle.call_stream.specs.declared.call.StreamCall.{StreamCall}

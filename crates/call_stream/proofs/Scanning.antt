@@ -1,8 +1,8 @@
 -- How a stretch is gone over, a byte at a time.
-use Rattle.std.proofs.Common.{◌≡◌, ◌≢◌, ◌<◌, ◌≤◌, ◌+◌, ◌-◌, ◌⊎◌, ℕ, zero, suc, Bool, true, false, List, [], ◌∷◌, ◌++◌, length, get_or, take, drop, map, reverse, All, inl, inr, refl, sym, ap, ◌∙◌, subst, arith, append_assoc}
+use Rattle.std.proofs.Common.{◌≡◌, ◌≢◌, ◌<◌, ◌≤◌, ◌+◌, ◌-◌, ℕ, Bool, true, false, List, [], ◌∷◌, ◌++◌, length, get_or, take, drop, map, reverse, inl, inr, refl, sym, ap, ◌∙◌, subst, arith, append_assoc}
 use Rattle.std.specs.Prelude.{◌==◌, ◌&&◌, if◌then◌else◌, not, slice_range, codes}
-use Rattle.std.specs.List.{AllByRecursion, flat_map}
-use Rattle.std.proofs.lemmas.Bool.{cases_Bool, both_ways, ne_eqb, eq-eqb, eqb-true, cases_eq}
+use Rattle.std.specs.List.{flat_map}
+use Rattle.std.proofs.lemmas.Bool.{cases_Bool, both_ways, ne_eqb, eq-eqb, cases_eq}
 use Rattle.std.proofs.lemmas.Bool.Decides.{Decides-eqb}
 use Rattle.std.proofs.lemmas.List.{append-nil, length-append, length-map, length-drop, length-take, map-append, reverse-append, take-append-drop, drop-drop, drop_more, take_more, get_or-drop, drop-append-le, take-append-le, get_or_append_left}
 use Rattle.std.proofs.lemmas.List.Concat.{flat_map-append}
@@ -10,15 +10,15 @@ use Rattle.std.proofs.lemmas.List.Elements.{All-nil, All-cons, All-append}
 use Rattle.std.proofs.lemmas.Slice.Eq.{starts_is}
 use Rattle.sql_lex.specs.Bytes.{is_space}
 use Rattle.sql_lex.specs.Filler.{EndsLine}
-use Rattle.script_model.specs.Piece.{Piece, Byte, Quoted, Unclosed, Comment, SessionLine, Semicolon, bytes_of, ends_line, starts, IsPiece, ArePieces, IsWithoutQuote}
+use Rattle.script_model.specs.Piece.{Piece, Byte, Quoted, Comment, bytes_of, ends_line, starts, IsPiece, ArePieces}
 use Rattle.script_model.specs.CallText.{Mark, mark_of, mark_in_comment, marks_of}
-use Rattle.sql_reader.specs.scripts.Fronts.{AreEmpty, Holds, IsTight, begins_full, is_inner, begins_after}
+use Rattle.sql_reader.specs.scripts.Fronts.{AreEmpty, Holds, begins_full, is_inner, begins_after}
 use Rattle.sql_reader.specs.scripts.Stretches.{Spans}
 use Rattle.sql_reader.proofs.Scripts.FrontPieces.{space_low}
 use Rattle.sql_reader.proofs.Scripts.Marking.{byte_in, pieces_bytes, each_append, Spans-empty, Spans-first, Spans-later}
 use Rattle.sql_reader.proofs.Scripts.Scanning.{begins_after-push, ArePieces-append}
 use Rattle.call_stream.specs.Settled.{AreSettled}
-use Rattle.call_stream.specs.Scans.{IsLine, IsQuote, IsOpenPiece, IsLow, IsEdge, IsScanned, IsMet, passed, held, opened}
+use Rattle.call_stream.specs.Scans.{IsOpenPiece, IsLow, IsEdge, IsScanned, passed, held, opened}
 use Rattle.call_stream.specs.declared.scan.Place.{Place}
 use Rattle.call_stream.specs.declared.scan.Place.TheVariants.{Between, Dash, Line, Quote}
 use Rattle.call_stream.specs.declared.scan.Scan.{Scan}

@@ -1,12 +1,12 @@
 -- The calls of a whole input are its script, where the limits aren't passed.
-use Rattle.std.proofs.Common.{◌≡◌, ◌<◌, ◌≤◌, ◌+◌, ℕ, suc, Bool, true, false, List, [], ◌∷◌, ◌++◌, length, refl, sym, ap, ◌∙◌, arith}
+use Rattle.std.proofs.Common.{◌≡◌, ◌<◌, ◌≤◌, ◌+◌, ℕ, List, [], ◌∷◌, ◌++◌, length, refl, sym, ap, ◌∙◌, arith}
 use Rattle.std.specs.Prelude.{Ok, if◌then◌else◌}
 use Rattle.std.proofs.lemmas.Bool.{lt-ltb}
 use Rattle.std.proofs.lemmas.List.{length-append}
 use Rattle.std.proofs.lemmas.Str.{utf8_valid_len-IsUtf8}
 use Rattle.own_model.specs.declared.limit.TheConstants.{INPUT_BYTES, INPUT_CALLS}
 use Rattle.own_model.specs.declared.request.Request.{Request}
-use Rattle.own_model.specs.declared.script.InputFault.TheVariants.{BadSession, TooManyCalls}
+use Rattle.own_model.specs.declared.script.InputFault.TheVariants.{TooManyCalls}
 use Rattle.own_model.specs.declared.script.ScriptCall.{ScriptCall}
 use Rattle.script_model.specs.Asked.{AreAskedBy}
 use Rattle.script_model.specs.CallText.{CallText, Part, Call, BadLine}
@@ -27,7 +27,7 @@ no_faults count (Call text ∷ parts) right few =
     ap (λ b. (if b then [] else TooManyCalls text.at ∷ []) ++ faults_after (count + 1) parts) (lt-ltb count INPUT_CALLS less) ∙ no_faults (count + 1) parts right later
 no_faults count (BadLine at ∷ parts) right few = absurd (let wrong : ◌≡◌ {A = List ℕ} (at ∷ bad_lines parts) [] = right in cc)
 
-askings_len : (texts : List CallText) (requests : List Request) → AreAskedBy texts requests → length (askings_of texts requests) ≡ length texts
+pub askings_len : (texts : List CallText) (requests : List Request) → AreAskedBy texts requests → length (askings_of texts requests) ≡ length texts
 askings_len [] requests asked = refl
 askings_len (text ∷ texts) [] asked = absurd asked
 askings_len (text ∷ texts) (request ∷ requests) (here, asked) = omega (arith, askings_len texts requests asked)

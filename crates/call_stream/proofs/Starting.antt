@@ -1,5 +1,5 @@
 -- A stream that has begun, one that takes bytes in, and one that gives bytes up.
-use Rattle.std.proofs.Common.{◌≡◌, ◌<◌, ◌≤◌, ◌+◌, ◌-◌, ℕ, Bool, true, false, List, [], ◌∷◌, ◌++◌, length, take, drop, refl, sym, ap, ◌∙◌, subst, arith, append_assoc}
+use Rattle.std.proofs.Common.{◌≡◌, ◌<◌, ◌≤◌, ◌+◌, ◌-◌, ℕ, Bool, true, List, [], ◌++◌, length, drop, refl, sym, ap, ◌∙◌, subst, arith, append_assoc}
 use Rattle.std.proofs.lemmas.List.{append-nil, length-append, length-drop, length-take, drop-drop}
 use Rattle.std.proofs.lemmas.List.Sums.{count_by-le-length}
 use Rattle.std.proofs.lemmas.Str.{IsUtf8-nil}
@@ -8,10 +8,9 @@ use Rattle.own_model.specs.declared.limit.TheConstants.{SESSIONS}
 use Rattle.own_model.specs.declared.script.ScriptCall.{ScriptCall}
 use Rattle.script_model.specs.CallText.{CallText, parts_from}
 use Rattle.script_model.specs.Stretch.{stretches}
-use Rattle.script_model.specs.Piece.{Piece, ArePieces}
+use Rattle.script_model.specs.Piece.{ArePieces}
 use Rattle.sql_reader.specs.scripts.Counts.{AreCounted}
 use Rattle.sql_reader.proofs.Scripts.Numbering.{numbered_after-nil}
-use Rattle.call_stream.specs.Given.{AreFront, AreCallsOf}
 use Rattle.call_stream.specs.Scans.{IsScanned}
 use Rattle.call_stream.specs.Stretches.{feeds}
 use Rattle.call_stream.specs.Taken.{GivesUp, HasTaken, IsSound, pending}
@@ -19,7 +18,6 @@ use Rattle.call_stream.specs.declared.scan.Scan.{Scan}
 use Rattle.call_stream.specs.declared.stream.CallStream.{CallStream}
 use Rattle.call_stream.specs.declared.stream.TheConstants.{STREAM_BYTES, HELD_BYTES}
 use Rattle.call_stream.proofs.Scanning.{scanned_more}
-use Rattle.call_stream.proofs.Taking.{take_len}
 
 -- a stream that has taken nothing in
 pub record IsNew (stream : CallStream) : Type 0 where

@@ -1,5 +1,5 @@
 -- A stream goes on after a stretch that is closed.
-use Rattle.std.proofs.Common.{◌≡◌, ◌≢◌, ◌<◌, ◌≤◌, ◌+◌, ◌-◌, ℕ, Bool, true, false, List, [], ◌∷◌, ◌++◌, length, get_or, take, drop, map, refl, sym, ap, ◌∙◌, subst, arith, append_assoc}
+use Rattle.std.proofs.Common.{◌≡◌, ◌≢◌, ◌<◌, ◌≤◌, ◌+◌, ◌-◌, ℕ, Bool, true, false, List, [], ◌∷◌, ◌++◌, length, take, drop, map, refl, sym, ap, ◌∙◌, subst, arith, append_assoc}
 use Rattle.std.specs.Prelude.{Option, None, Some, slice_range, slice_index, slice_set, nat_lt, if◌then◌else◌, is_some, ◌==◌, cond}
 use Rattle.std.specs.List.{flat_map}
 use Rattle.std.specs.Str.{IsUtf8}
@@ -8,16 +8,14 @@ use Rattle.std.proofs.lemmas.List.{append-nil, length-append, length-take, lengt
 use Rattle.std.proofs.lemmas.List.Concat.{flat_map-append}
 use Rattle.std.proofs.lemmas.List.Sums.{sum_by-append}
 use Rattle.std.proofs.Math.Seq.{take-append-add}
-use Rattle.own_model.specs.declared.limit.TheConstants.{SESSIONS, STATEMENT_BYTES}
-use Rattle.own_model.specs.declared.request.Request.{Request}
+use Rattle.own_model.specs.declared.limit.TheConstants.{STATEMENT_BYTES}
 use Rattle.own_model.specs.declared.script.ScriptCall.{ScriptCall}
 use Rattle.script_model.specs.Asked.{IsAskedWhere}
 use Rattle.script_model.specs.CallText.{CallText, Part, Call, call_in, marks_of, marks_in, is_closed, end_of, ending_len, session_after, or_before, bad_line, bad_unless, parts_from}
-use Rattle.script_model.specs.Numbered.{call_after, count_of}
+use Rattle.script_model.specs.Numbered.{call_after}
 use Rattle.script_model.specs.Piece.{Piece, ArePieces}
-use Rattle.script_model.specs.Script.{parts_of, texts_in}
-use Rattle.script_model.specs.Session.{session_of}
-use Rattle.script_model.specs.Stretch.{Stretch, Ending, AtSemicolon, AtSession, AtEnd, stretches}
+use Rattle.script_model.specs.Script.{texts_in}
+use Rattle.script_model.specs.Stretch.{Ending, AtSemicolon, AtSession, AtEnd, stretches}
 use Rattle.script_model.proofs.InputCalls.{texts-append}
 use Rattle.sql_reader.specs.scripts.Counts.{AreCounted, asking}
 use Rattle.sql_reader.specs.scripts.Fronts.{begins_after}
@@ -25,10 +23,9 @@ use Rattle.sql_reader.specs.scripts.Stretches.{ending_pieces, call_with}
 use Rattle.sql_reader.proofs.Scripts.Counting.{AreCounted-push}
 use Rattle.sql_reader.proofs.Scripts.Marking.{byte_in, pieces_bytes, call_is}
 use Rattle.sql_reader.proofs.Scripts.Scanning.{ArePieces-append}
-use Rattle.call_stream.specs.Settled.{AreSettled}
 use Rattle.call_stream.specs.Given.{AreFront, AreCallsOf, AreClosed, bad_lines}
-use Rattle.call_stream.specs.Scans.{IsScanned, IsMet}
-use Rattle.call_stream.specs.Stretches.{IsCallIn, IsCallOf, IsClosed, IsEndingOf, IsRead, IsSessionAfter, closes, feeds, line_of, next_of}
+use Rattle.call_stream.specs.Scans.{IsMet}
+use Rattle.call_stream.specs.Stretches.{IsCallIn, IsClosed, IsEndingOf, IsRead, IsSessionAfter, closes, feeds, line_of, next_of}
 use Rattle.call_stream.specs.Taken.{GivesUp, HasNext, HasPassed, HasTaken, IsShown, IsSound, pending, count_now}
 use Rattle.call_stream.specs.declared.call.StreamCall.{StreamCall}
 use Rattle.call_stream.specs.declared.scan.Closing.{Closing}
@@ -38,7 +35,7 @@ use Rattle.call_stream.specs.declared.stream.CallStream.{CallStream}
 use Rattle.call_stream.specs.declared.stretch.Read.{Read}
 use Rattle.call_stream.proofs.Closing.{closed}
 use Rattle.call_stream.proofs.Calling.{call_push}
-use Rattle.call_stream.proofs.Parts.{after_is, begins_ending, closed_ending, stretch_length, parts_then, bad_lines-append, no_bad_call, call_further}
+use Rattle.call_stream.proofs.Parts.{after_is, begins_ending, closed_ending, stretch_length, parts_then, bad_lines-append, call_further}
 
 -- what closes a stretch isn't the end of the input
 pub goes_on : (bytes : List ℕ) (scan : Scan) (found : Closing) (ending : Ending) → IsEndingOf bytes scan found ending → ending ≢ AtEnd

@@ -1,12 +1,12 @@
 -- What a stretch holds that is gone over.
-use Rattle.std.specs.Prelude.{◌≡◌, ◌<◌, ◌≤◌, ℕ, ◌+◌, ◌-◌, Bool, true, false, List, [], ◌∷◌, ◌++◌, length, take, drop, slice_range, slice_index, count_by, nat_lt, ◌==◌, ◌&&◌, ◌||◌, not, if◌then◌else◌, codes, Option, None, Some}
+use Rattle.std.specs.Prelude.{◌≡◌, ◌<◌, ◌≤◌, ℕ, ◌+◌, Bool, true, false, List, [], ◌++◌, length, take, drop, slice_range, count_by, nat_lt, ◌==◌, ◌&&◌, ◌||◌, not, if◌then◌else◌, codes, Option, None, Some}
 use Rattle.std.specs.List.{AllByRecursion}
 use Rattle.std.specs.Str.{IsUtf8, IsCharBoundary, IsValidUpTo}
 use Rattle.own_model.specs.declared.limit.TheConstants.{SESSIONS, STATEMENT_BYTES}
 use Rattle.own_model.specs.declared.request.Request.{Request}
 use Rattle.script_model.specs.Asked.{IsAskedWhere}
 use Rattle.script_model.specs.CallText.{marks_in}
-use Rattle.script_model.specs.Piece.{Piece, ArePieces, starts}
+use Rattle.script_model.specs.Piece.{ArePieces, starts}
 use Rattle.script_model.specs.Session.{session_of}
 use Rattle.script_model.specs.Stretch.{Stretch, Ending, AtSemicolon, AtSession, AtEnd}
 use Rattle.sql_reader.specs.scripts.Fronts.{is_inner}
@@ -18,7 +18,7 @@ use Rattle.call_stream.specs.declared.fault.StreamFault.TheVariants as fault
 use Rattle.call_stream.specs.declared.scan.Closing.{Closing}
 use Rattle.call_stream.specs.declared.scan.Closing.TheVariants as closing
 use Rattle.call_stream.specs.declared.scan.Place.{Place}
-use Rattle.call_stream.specs.declared.scan.Place.TheVariants.{Between, Dash, Line, Quote}
+use Rattle.call_stream.specs.declared.scan.Place.TheVariants.{Dash, Line, Quote}
 use Rattle.call_stream.specs.declared.scan.Scan.{Scan}
 use Rattle.call_stream.specs.declared.stretch.Read.{Read}
 

@@ -1,4 +1,4 @@
-use Rattle.std.proofs.Common.{◌≡◌, ◌+◌, ◌-◌, ◌++◌, get_or, sym, subst, arith}
+use Rattle.std.proofs.Common.{◌+◌, ◌-◌, ◌++◌, get_or, sym, subst, arith}
 use Rattle.std.specs.List.{AllByRecursion}
 use Rattle.std.proofs.lemmas.List.{append-nil}
 use Rattle.sql_reader.proofs.Scripts.Ends.{EndsTo, EndsTo-start, EndsTo-all}

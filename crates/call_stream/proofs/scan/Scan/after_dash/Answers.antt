@@ -1,4 +1,4 @@
-use Rattle.std.proofs.Common.{sym, ◌∙◌, subst, arith}
+use Rattle.std.proofs.Common.{sym, subst}
 use Rattle.call_stream.specs.Scans.{IsScanned}
 use Rattle.call_stream.proofs.Scanning.{opens_line, puts_dash}
 use Rattle.call_stream.proofs.scan.Scan.after_dash.Goals as goal

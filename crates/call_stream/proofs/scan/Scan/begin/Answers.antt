@@ -1,4 +1,4 @@
-use Rattle.std.proofs.Common.{sym, ◌∙◌, subst, arith}
+use Rattle.std.proofs.Common.{sym, ◌∙◌, subst}
 use Rattle.call_stream.specs.Scans.{IsScanned}
 use Rattle.call_stream.proofs.Scanning.{opens_quote, opens_dash, passes_space, holds_byte}
 use Rattle.call_stream.proofs.scan.Scan.begin.Goals as goal

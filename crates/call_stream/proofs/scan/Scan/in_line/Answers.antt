@@ -1,4 +1,4 @@
-use Rattle.std.proofs.Common.{sym, ◌∙◌, subst, arith}
+use Rattle.std.proofs.Common.{sym, ◌∙◌, subst}
 use Rattle.call_stream.specs.Scans.{IsScanned}
 use Rattle.call_stream.proofs.Scanning.{goes_on_line, ends_comment}
 use Rattle.call_stream.proofs.scan.Scan.in_line.Goals as goal

@@ -1,4 +1,4 @@
-use Rattle.std.proofs.Common.{sym, ◌∙◌, subst, ap, take, drop, length, ◌+◌, ◌-◌, ◌≤◌, ◌<◌, ◌≡◌, get_or, All, true, false}
+use Rattle.std.proofs.Common.{sym, ◌∙◌, subst, ap, drop, length, ◌+◌, ◌-◌, ◌≤◌, ◌≡◌, get_or, All, true}
 use Rattle.std.proofs.lemmas.List.{take_rest}
 use Rattle.sql_lex.specs.Bytes.{is_space}
 use Rattle.call_stream.specs.Stretches.{IsLast, session_open}

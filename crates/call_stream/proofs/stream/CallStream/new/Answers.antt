@@ -1,5 +1,5 @@
 use Rattle.std.proofs.Common.{refl, sym, ap, ◌∙◌, length}
-use Rattle.call_stream.proofs.Starting.{IsNew, sound_new, taken_new}
+use Rattle.call_stream.proofs.Starting.{sound_new, taken_new}
 use Rattle.call_stream.proofs.stream.CallStream.new.Goals as goal
 
 pub returns-clause-sound : goal.returns-clause-sound

@@ -1,4 +1,4 @@
-use Rattle.std.proofs.Common.{◌≡◌, ◌<◌, ◌≤◌, length, sym, ap, ◌∙◌, subst, arith}
+use Rattle.std.proofs.Common.{length, sym, ap, ◌∙◌, arith}
 use Rattle.call_stream.proofs.Taking.{passed_some, passed_none}
 use Rattle.call_stream.proofs.stream.CallStream.next.Goals as goal
 

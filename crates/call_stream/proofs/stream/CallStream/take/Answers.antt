@@ -1,4 +1,4 @@
-use Rattle.std.proofs.Common.{◌≡◌, ◌<◌, ◌≤◌, sym, ap, ◌∙◌, subst, arith}
+use Rattle.std.proofs.Common.{arith}
 use Rattle.call_stream.specs.Stretches.{closes}
 use Rattle.call_stream.specs.Taken.{count_now, pending}
 use Rattle.call_stream.proofs.Closing.{closed}
