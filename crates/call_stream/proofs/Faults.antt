@@ -7,13 +7,14 @@ use Rattle.std.proofs.lemmas.List.{append-nil, length-append, length-take, lengt
 use Rattle.std.proofs.lemmas.Str.{IsUtf8-append, IsUtf8-drop, IsCharBoundary-from_take, utf8_valid_len-IsValidUpTo}
 use Rattle.std.proofs.Math.Seq.{take-append-add, take-append_seam, drop-append_seam}
 use Rattle.own_model.specs.declared.script.ScriptCall.{ScriptCall}
-use Rattle.script_model.specs.CallText.{CallText, BadLine, bad_line, bad_unless, end_of, ending_len, session_after, parts_from}
+use Rattle.script_model.specs.CallText.{CallText, Part, BadLine, bad_line, bad_unless, end_of, ending_len, session_after, parts_from}
 use Rattle.script_model.specs.Piece.{ArePieces, starts}
 use Rattle.script_model.specs.Script.{parts_of, texts_in}
 use Rattle.script_model.specs.Session.{session_of}
 use Rattle.script_model.specs.Stretch.{AtSession}
+use Rattle.script_model.proofs.InputCalls.{texts-append}
 use Rattle.sql_reader.specs.scripts.Stretches.{ending_pieces, call_with}
-use Rattle.call_stream.specs.Given.{AreTexts, HasAllClosed, IsEndFault, IsFaultMet, bad_lines}
+use Rattle.call_stream.specs.Given.{AreCallsOf, AreTexts, HasAllClosed, IsEndFault, IsFaultMet, bad_lines}
 use Rattle.call_stream.specs.Scans.{IsMet}
 use Rattle.call_stream.specs.Stretches.{IsClosed, IsLast, IsReadFault, is_line, line_of, next_of, session_open}
 use Rattle.call_stream.specs.Taken.{HasTaken, IsEndsFault, IsLastFault, IsRead, IsSound, pending, count_now}
@@ -29,6 +30,7 @@ use Rattle.call_stream.proofs.Ending.{open_pieces, session_then}
 use Rattle.call_stream.proofs.Finishing.{whole_are, whole_parts, wrong_line}
 use Rattle.call_stream.proofs.Lasting.{last_line}
 use Rattle.call_stream.proofs.Parts.{parts_from-end, parts_then, after_is, bad_lines-append, no_bad_call, stretch_length}
+use Rattle.call_stream.proofs.Scripts.{calls_len}
 use Rattle.call_stream.proofs.Taking.{call_at, front_then, goes_on, is}
 
 -- what comes after text that is text
@@ -76,6 +78,17 @@ all_closed stream bytes texts calls taken sound read =
 bad_found : (bytes : List ℕ) (scan : Scan) (at : ℕ) (closes : IsClosed bytes scan closing.Session) → session_of (line_of bytes scan) ≡ None → bad_line at closes.stretch.ending ≡ bad_line at (AtSession (line_of bytes scan))
 bad_found bytes scan at closes none = ap (bad_line at) closes.ends
 
+-- a call and a session line that isn't right hold one text at most
+call_few : (session at : ℕ) (closed : Bool) (bytes : List ℕ) (byte : ℕ) → length (texts_in (call_with session at closed bytes ++ BadLine byte ∷ [])) ≤ 1
+call_few session at closed [] byte = omega arith
+call_few session at closed (first ∷ bytes) byte = omega arith
+
+-- so there is at most one besides those that are given
+one_more : (texts : List CallText) (calls : List ScriptCall) (parts all call : List Part) (byte : ℕ) → AreCallsOf texts calls → texts ≡ texts_in parts → length (texts_in (call ++ BadLine byte ∷ [])) ≤ 1 → all ≡ parts ++ (call ++ BadLine byte ∷ []) → length (texts_in all) ≤ length calls + 1
+one_more texts calls parts all call byte is texts_are few whole =
+    let last = call ++ BadLine byte ∷ [] in
+    omega (arith, ap (λ l. length (texts_in l)) whole, ap length (texts-append parts last), length-append (texts_in parts) (texts_in last), ap length texts_are, calls_len texts calls is, few)
+
 pub fault_met : (old : CallStream) (bytes : List ℕ) (texts : List CallText) (calls : List ScriptCall) → HasTaken old bytes texts calls → IsSound old → (found : Closing) → IsMet (pending old) old.scan found → (wrong : StreamFault) → IsReadFault (pending old) old.scan old.before (count_now old) found wrong → IsFaultMet bytes calls wrong
 fault_met old bytes texts calls taken sound found met (fault.NotText byte) (valid, up_to, byte_is) =
     let own = take (next_of old.scan found) (pending old) in
@@ -102,6 +115,8 @@ fault_met old bytes texts calls taken sound closing.Session met (fault.BadSessio
       IsUtf8-append taken.front own taken.valid text,
       ap bad_lines parts ∙ bad_lines-append taken.parts (call ++ BadLine byte ∷ []) ∙ (λ i. taken.right i ++ bad_lines-append call (BadLine byte ∷ []) i)
           ∙ ap (λ l. l ++ byte ∷ []) (no_bad_call old.session (old.before + old.scan.start) false (slice_range (pending old) old.scan.start old.scan.end)),
+      one_more texts calls taken.parts (parts_of (taken.pieces ++ (closes.stretch.pieces ++ ending_pieces closes.stretch.ending))) call byte taken.calls_of_texts taken.texts_are
+          (call_few old.session (old.before + old.scan.start) false (slice_range (pending old) old.scan.start old.scan.end) byte) parts,
     )
 fault_met old bytes texts calls taken sound closing.Semicolon met (fault.BadSession byte) (same, text, none, byte_is) = absurd (let wrong : closing.Semicolon ≡ closing.Session = same in cc)
 fault_met old bytes texts calls taken sound found met (fault.TooManyCalls byte) (full, some, byte_is) = (old.session, sym (taken.counted.each old.session sound.some sound.within) ∙ full)

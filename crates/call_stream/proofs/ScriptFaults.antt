@@ -14,19 +14,19 @@ use Rattle.own_model.specs.declared.script.ScriptCall.{ScriptCall}
 use Rattle.script_model.specs.CallText.{CallText, Mark, Part, Call, BadLine, bad_line, bad_unless, call_in, call_of, end_of, ending_len, marks_in, parts_from, session_after, trimmed}
 use Rattle.script_model.specs.Numbered.{count_of, is_of}
 use Rattle.script_model.specs.Piece.{Piece, Byte, Quoted, Unclosed, Comment, SessionLine, Semicolon, ArePieces, AreAllPieces, bytes_of, ends_line}
-use Rattle.script_model.specs.Script.{IsScript, askings_of, faults_after, first_of, parts_of, texts_in}
+use Rattle.script_model.specs.Script.{IsScript, faults_after, first_of, parts_of, texts_in}
 use Rattle.script_model.specs.Session.{session_of}
 use Rattle.script_model.specs.Stretch.{Ending, Stretch, AtEnd, AtSemicolon, AtSession, onto_first, stretches}
-use Rattle.script_model.proofs.InputCalls.{length-numbered, texts-append}
+use Rattle.script_model.proofs.InputCalls.{texts-append}
 use Rattle.sql_reader.proofs.Scripts.OnePiece.{one_list, pieces_in}
-use Rattle.call_stream.specs.Given.{AreCallsOf, AreClosed, AreFront, AreOpen, HasAllClosed, HasGiven, IsEndFault, IsFaultMet, bad_lines}
+use Rattle.call_stream.specs.Given.{AreClosed, AreFront, AreOpen, HasAllClosed, HasGiven, IsEndFault, IsFaultMet, bad_lines}
 use Rattle.call_stream.specs.ScriptFaults.{AreFewBefore, IsScriptFault, before_bad}
 use Rattle.call_stream.specs.declared.fault.StreamFault.{StreamFault}
 use Rattle.call_stream.specs.declared.fault.StreamFault.TheVariants as fault
 use Rattle.call_stream.proofs.Beginnings.{parts_after, parts_closed, pieces_first}
 use Rattle.call_stream.proofs.ClosedTexts.{alone, never, no_truth}
 use Rattle.call_stream.proofs.Parts.{bad_lines-append, parts_from-cons, parts_from-end, parts_from-none, stretch_of}
-use Rattle.call_stream.proofs.Scripts.{askings_len}
+use Rattle.call_stream.proofs.Scripts.{calls_len}
 
 -- The longest front of bytes that is text.
 up_to_front : (bytes : List ℕ) (most : ℕ) → IsUtf8 (take (valid_len_up_to bytes most) bytes)
@@ -226,9 +226,6 @@ before_few [] = omega arith
 before_few (Call text ∷ parts) = omega (arith, before_few parts)
 before_few (BadLine at ∷ parts) = omega arith
 
-calls_len : (texts : List CallText) (calls : List ScriptCall) → AreCallsOf texts calls → length calls ≡ length texts
-calls_len texts calls is = ap length is.calls_are ∙ length-numbered [] (askings_of texts is.requests) ∙ askings_len texts is.requests is.asked
-
 -- where all that bytes close is given, one more call at most comes before a session line that names no session
 pub few_given : (bytes : List ℕ) (texts : List CallText) (calls : List ScriptCall) → HasGiven bytes texts calls → HasAllClosed bytes texts → length calls < INPUT_CALLS → AreFewBefore bytes
 few_given bytes texts calls given all few pieces are =
@@ -239,6 +236,21 @@ few_given bytes texts calls given all few pieces are =
     let split : before_bad (parts_of pieces) ≡ texts ++ before_bad after =
     ap (λ l. before_bad (parts_of l)) same ∙ ap before_bad (parts_closed mine.pieces all.pieces mine.is_front.closed) ∙ before_all (parts_of mine.pieces) after mine.right ∙ ap (λ l. l ++ before_bad after) (sym mine.texts_are) in
     omega (arith, few, calls_len texts calls given.calls_of_texts, ap length split, length-append texts (before_bad after), before_few after, one)
+
+-- what comes after such a line makes no difference
+before_same : (parts more : List Part) (byte : ℕ) (later : List ℕ) → bad_lines parts ≡ byte ∷ later → before_bad (parts ++ more) ≡ before_bad parts
+before_same [] more byte later bad = absurd (let wrong : ◌≡◌ {A = List ℕ} [] (byte ∷ later) = bad in cc)
+before_same (Call text ∷ parts) more byte later bad = ap (λ l. text ∷ l) (before_same parts more byte later bad)
+before_same (BadLine at ∷ parts) more byte later bad = refl
+
+-- nor does it where a stream meets that line
+pub few_met : (bytes more : List ℕ) (calls : List ScriptCall) (byte : ℕ) → IsFaultMet bytes calls (fault.BadSession byte) → length calls < INPUT_CALLS → AreFewBefore (bytes ++ more)
+few_met bytes more calls byte (front, rest, pieces, is, valid, bad, next) few whole are =
+    let found = pieces_first bytes front rest more pieces whole is are in
+    let after = parts_after pieces found.0 in
+    let same : before_bad (parts_of whole) ≡ before_bad (parts_of pieces) =
+    ap (λ l. before_bad (parts_of l)) found.1 ∙ ap before_bad (parts_closed pieces found.0 is.closed) ∙ before_same (parts_of pieces) after byte [] bad in
+    omega (arith, few, next, ap length same, before_few (parts_of pieces))
 
 -- An input has no fewer bytes than texts.
 piece_some : (piece : Piece) → 0 < length (bytes_of piece)
@@ -310,7 +322,7 @@ met_fault bytes more texts calls (fault.NotText byte) given (front, rest, pieces
     let place = front_cut bytes front rest pieces is (omega arith) more in
     let same : byte ≡ utf8_valid_len (bytes ++ more) = byte_is ∙ sym (ap utf8_valid_len split ∙ no_text_more front (rest ++ more) place (omega (arith, byte_is))) in
     (short, omega (arith, within, ap length split, length-append front (rest ++ more)), same)
-met_fault bytes more texts calls (fault.BadSession byte) given (front, rest, pieces, is, valid, bad) = λ short text few.
+met_fault bytes more texts calls (fault.BadSession byte) given (front, rest, pieces, is, valid, bad, next) = λ short text few.
     let whole = pieces_in true (bytes ++ more) in
     let found = pieces_first bytes front rest more pieces whole.0 is whole.1 in
     let after = parts_after pieces found.0 in

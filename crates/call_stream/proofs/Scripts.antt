@@ -15,7 +15,7 @@ use Rattle.script_model.specs.Script.{IsScript, askings_of, faults_after, first_
 use Rattle.script_model.proofs.InputCalls.{length-numbered}
 use Rattle.sql_reader.specs.scripts.TextCalls.{ends_after}
 use Rattle.sql_reader.proofs.Scripts.Ends.{calls_of-text}
-use Rattle.call_stream.specs.Given.{HasWholeCalls, bad_lines}
+use Rattle.call_stream.specs.Given.{AreCallsOf, HasWholeCalls, bad_lines}
 
 -- nothing is wrong with few parts without a bad session line
 no_faults : (count : ℕ) (parts : List Part) → bad_lines parts ≡ [] → count + length (texts_in parts) ≤ INPUT_CALLS → faults_after count parts ≡ []
@@ -27,10 +27,14 @@ no_faults count (Call text ∷ parts) right few =
     ap (λ b. (if b then [] else TooManyCalls text.at ∷ []) ++ faults_after (count + 1) parts) (lt-ltb count INPUT_CALLS less) ∙ no_faults (count + 1) parts right later
 no_faults count (BadLine at ∷ parts) right few = absurd (let wrong : ◌≡◌ {A = List ℕ} (at ∷ bad_lines parts) [] = right in cc)
 
-pub askings_len : (texts : List CallText) (requests : List Request) → AreAskedBy texts requests → length (askings_of texts requests) ≡ length texts
+askings_len : (texts : List CallText) (requests : List Request) → AreAskedBy texts requests → length (askings_of texts requests) ≡ length texts
 askings_len [] requests asked = refl
 askings_len (text ∷ texts) [] asked = absurd asked
 askings_len (text ∷ texts) (request ∷ requests) (here, asked) = omega (arith, askings_len texts requests asked)
+
+-- each text is a call
+pub calls_len : (texts : List CallText) (calls : List ScriptCall) → AreCallsOf texts calls → length calls ≡ length texts
+calls_len texts calls is = ap length is.calls_are ∙ length-numbered [] (askings_of texts is.requests) ∙ askings_len texts is.requests is.asked
 
 pub script_of : (bytes : List ℕ) (calls : List ScriptCall) → HasWholeCalls bytes calls → length bytes ≤ INPUT_BYTES → length calls ≤ INPUT_CALLS → IsScript bytes (Ok calls)
 script_of bytes calls whole short few =

@@ -68,12 +68,12 @@ pub record HasAllClosed (bytes : List ℕ) (texts : List CallText) : Type 0 wher
   pub are_open : AreOpen pieces
 
 -- A fault of what closes next: its bytes up to there aren't UTF-8 from this one on; or the session line that closes it
--- names no session; or the session has no number left for it. The texts before it are those given.
+-- names no session, and at most one text comes before it besides those given; or the session has no number left for it.
 abbrev pub IsFaultMet : List ℕ → List ScriptCall → StreamFault → Type 0
 IsFaultMet bytes calls (fault.NotText byte) =
     (front rest : List ℕ) × (pieces : List Piece) × AreFront bytes front rest pieces × (byte < length front) × (byte ≡ utf8_valid_len front)
 IsFaultMet bytes calls (fault.BadSession byte) =
-    (front rest : List ℕ) × (pieces : List Piece) × AreFront bytes front rest pieces × IsUtf8 front × (bad_lines (parts_of pieces) ≡ byte ∷ [])
+    (front rest : List ℕ) × (pieces : List Piece) × AreFront bytes front rest pieces × IsUtf8 front × (bad_lines (parts_of pieces) ≡ byte ∷ []) × (length (texts_in (parts_of pieces)) ≤ length calls + 1)
 IsFaultMet bytes calls (fault.TooManyCalls byte) = (session : ℕ) × (count_of session calls ≡ 4294967295)
 IsFaultMet bytes calls fault.TooLong = ⊥
 IsFaultMet bytes calls fault.Memory = Unit {0}

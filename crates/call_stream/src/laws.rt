@@ -9,6 +9,7 @@ ghost use Rattle.call_stream.specs.Given.{HasAllClosed, HasGiven, HasWholeCalls,
 ghost use Rattle.call_stream.specs.ScriptFaults.{AreFewBefore, IsScriptFault};
 ghost use Rattle.call_stream.specs.Taken.{HasTaken};
 ghost use Rattle.call_stream.specs.declared.fault.StreamFault.{StreamFault};
+ghost use Rattle.call_stream.specs.declared.fault.StreamFault.TheVariants.{BadSession};
 ghost use Rattle.call_stream.specs.declared.stream.CallStream.{CallStream};
 
 /// What a stream has given are the calls of the first texts that its bytes close, whatever comes after them.
@@ -38,9 +39,11 @@ pub fn whole_is_a_script()
     ensures { (bytes : List ℕ) (calls : List ScriptCall) → HasWholeCalls bytes calls → length bytes ≤ INPUT_BYTES → length calls ≤ INPUT_CALLS → IsScript bytes (Ok calls) }
 {}
 
-/// A fault that a stream meets in an input is that of its script, whatever comes after it.
+/// A fault that a stream meets in an input is that of its script, whatever comes after it. The calls before it are few where
+/// fewer are given than an input may have.
 pub fn met_faults_are_the_scripts()
-    ensures { (bytes more : List ℕ) (texts : List CallText) (calls : List ScriptCall) (why : StreamFault) → HasGiven bytes texts calls → IsFaultMet bytes calls why → IsScriptFault (bytes ++ more) why }
+    ensures fault { (bytes more : List ℕ) (texts : List CallText) (calls : List ScriptCall) (why : StreamFault) → HasGiven bytes texts calls → IsFaultMet bytes calls why → IsScriptFault (bytes ++ more) why }
+    ensures few { (bytes more : List ℕ) (calls : List ScriptCall) (byte : ℕ) → IsFaultMet bytes calls (BadSession byte) → length calls < INPUT_CALLS → AreFewBefore (bytes ++ more) }
 {}
 
 /// So is one that the end of an input shows. The calls before it are few where all that are closed are given, and are fewer
