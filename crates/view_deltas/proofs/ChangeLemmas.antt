@@ -9,7 +9,7 @@ use Rattle.own_base.specs.declared.value.Key.{Key}
 use Rattle.own_model.specs.declared.schema.TableDef.{TableDef}
 use Rattle.own_model.specs.Db.{Row, key_of}
 use Rattle.own_model.proofs.KeyOrder.{key_order}
-use Rattle.page_model.specs.Changed.{with_change, with_changes}
+use Rattle.page_model.specs.Changed.{with_changes}
 use Rattle.page_model.specs.Found.{found}
 use Rattle.page_model.specs.Rising.{IsRising}
 use Rattle.page_model.proofs.ChangedLemmas.{each_with_changes, rising_filter, rising_with_changes}
@@ -81,7 +81,7 @@ rows_passing table passes rows rising =
     rising_filter (key_of table) key_order no_key no_row passes rows rising
 
 -- what is found in rows that all pass a test passes, and is told by its key
-found_stands : (table : TableDef) (key : Key) (rows : List Row) → Each IsStoredRow rows → IfSome (row_at table rows key) (StandsUnder table key)
+pub found_stands : (table : TableDef) (key : Key) (rows : List Row) → Each IsStoredRow rows → IfSome (row_at table rows key) (StandsUnder table key)
 unfolding found
 found_stands table key [] stored = tt
 found_stands table key (row ∷ rows) stored = by (is_eq (key_cmp (key_of table row) key)) refl (found_stands table key rows stored.1)

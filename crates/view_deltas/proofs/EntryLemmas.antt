@@ -1,5 +1,5 @@
 -- What one change does to what is kept at places.
-use Rattle.std.proofs.Common.{◌≡◌, refl, sym, ◌∙◌, ap, subst, List, Option, Some, None}
+use Rattle.std.proofs.Common.{◌≡◌, refl, sym, ◌∙◌, ap, subst, List, Option}
 use Rattle.std.specs.Prelude.{Bool, true, false, cond, IfSome}
 use Rattle.std.specs.Ordering.{is_eq}
 use Rattle.page_model.specs.Changed.{with_change}

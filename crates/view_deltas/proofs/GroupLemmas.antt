@@ -1,9 +1,8 @@
 -- What is kept for a grouped view follows a row that comes in or goes out.
-use Rattle.std.proofs.Common.{◌≡◌, ℕ, refl, sym, ◌∙◌, ap, subst, List, [], ◌∷◌, ◌++◌, length, Option, Some, None, arith}
-use Rattle.std.specs.Prelude.{Bool, true, false, cond, not, ◌&&◌, ◌==◌, filter, unwrap_or}
+use Rattle.std.proofs.Common.{◌≡◌, refl, sym, ◌∙◌, ap, subst, List, [], ◌∷◌, ◌++◌, length, Option, Some, None, arith}
+use Rattle.std.specs.Prelude.{Bool, true, false, cond, not, ◌&&◌, ◌==◌, unwrap_or}
 use Rattle.std.specs.Option.{option_to_list}
-use Rattle.std.specs.Ordering.{is_eq, ordering_then}
-use Rattle.std.specs.declared.cmp.Ordering.TheVariants.{Equal}
+use Rattle.std.specs.Ordering.{is_eq}
 use Rattle.std.proofs.lemmas.Bool.{eqb-true}
 use Rattle.std.proofs.lemmas.Cmp.{tied_itself}
 use Rattle.std.proofs.lemmas.List.Elements.{filter-append}
@@ -23,7 +22,7 @@ use Rattle.view_deltas.specs.Entries.{kept_at, PutsAt}
 use Rattle.view_deltas.specs.Groups.{Counts, group_rows, in_group, KeepsGroups, Renews, shown_at, side_of, tally_at, where_shown}
 use Rattle.view_deltas.specs.Place.{Place, place_cmp, side_cmp}
 use Rattle.view_deltas.specs.PlaceOrder.{place_exact, side_exact, side_total}
-use Rattle.view_deltas.specs.TableRows.{AreRows, changed, Fits, Follows, row_at}
+use Rattle.view_deltas.specs.TableRows.{Follows}
 use Rattle.view_deltas.specs.Tally.{tally, with_row}
 use Rattle.view_deltas.specs.declared.grouped.GroupedView.{GroupedView}
 use Rattle.view_deltas.specs.declared.way.Way.{Way}

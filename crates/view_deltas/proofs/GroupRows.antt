@@ -1,10 +1,9 @@
 -- What is kept for a grouped view are the rows of its query.
-use Rattle.std.proofs.Common.{◌≡◌, ℕ, zero, suc, ◌+◌, ℤ, pos, ◌+ℤ◌, eqb, refl, sym, ◌∙◌, ap, subst, List, [], ◌∷◌, map, length, get_or, Option, Some, None, arith}
+use Rattle.std.proofs.Common.{◌≡◌, ℕ, zero, suc, ◌+◌, ℤ, pos, ◌+ℤ◌, eqb, refl, sym, ◌∙◌, ap, subst, List, [], ◌∷◌, map, length, Option, Some, None, arith}
 use Rattle.std.specs.Prelude.{Bool, true, false, cond, not, ◌&&◌, ◌==◌, filter, filter_map, fold, Contains}
-use Rattle.std.specs.List.{AllByRecursion as Each, All, cons_option}
+use Rattle.std.specs.List.{AllByRecursion as Each, cons_option}
 use Rattle.std.specs.List.Sorted.{IsStrictlySortedBy}
-use Rattle.std.specs.Option.{option_and_then}
-use Rattle.std.specs.Ordering.{int_cmp, is_eq, ordering_then}
+use Rattle.std.specs.Ordering.{is_eq, ordering_then}
 use Rattle.std.specs.declared.cmp.Ordering.{Ordering}
 use Rattle.std.specs.declared.cmp.Ordering.TheVariants.{Less, Equal, Greater}
 use Rattle.std.proofs.lemmas.Bool.{eqb-true}
@@ -12,11 +11,8 @@ use Rattle.std.proofs.lemmas.Bool.Decides.{nat_tests}
 use Rattle.std.proofs.lemmas.Cmp.{tied_itself}
 use Rattle.std.proofs.lemmas.Int.{ints}
 use Rattle.std.proofs.lemmas.List.Elements.{recursion_from_All}
-use Rattle.std.proofs.lemmas.List.Sums.{fold-append}
-use Rattle.own_base.specs.Key.{key_cmp}
 use Rattle.own_base.specs.declared.number.ColNo.{ColNo}
 use Rattle.own_base.specs.declared.value.Key.{Key}
-use Rattle.own_base.specs.declared.value.Key.TheVariants as key
 use Rattle.own_base.specs.declared.value.Value.{Value}
 use Rattle.own_base.specs.declared.value.Value.TheVariants.{Null, Int, Text, Sum}
 use Rattle.own_model.specs.declared.bound.BoundItem.{BoundItem}
@@ -45,7 +41,7 @@ use Rattle.view_deltas.specs.declared.grouped.GroupedView.{GroupedView}
 use Rattle.view_deltas.specs.declared.number_tally.NumberTally.{NumberTally}
 use Rattle.view_deltas.specs.declared.way.Way.TheVariants.{In}
 use Rattle.view_deltas.proofs.EntryLemmas.{place_of}
-use Rattle.view_deltas.proofs.KeptLemmas.{kept_first, rising_map, same_kept}
+use Rattle.view_deltas.proofs.KeptLemmas.{kept_first, same_kept}
 use Rattle.view_deltas.proofs.PlainLemmas.{then_equal, then_less}
 
 -- The numbers of a column, as the sum of a query has them.
@@ -161,7 +157,7 @@ cell_stored [] column stored = tt
 cell_stored (value ∷ row) zero stored = stored.0
 cell_stored (value ∷ row) (suc column) stored = cell_stored row column stored.1
 
-row_stored : (row : Row) → IsStoredRow row → (column : ℕ) → IsStored (cell row column)
+pub row_stored : (row : Row) → IsStoredRow row → (column : ℕ) → IsStored (cell row column)
 row_stored row stored column = cell_stored row column (recursion_from_All IsStored row stored)
 
 -- where a filter leaves nothing all fail, and else one passes

@@ -11,10 +11,10 @@ use Rattle.own_model.specs.declared.bound.BoundSelect.{BoundSelect}
 use Rattle.own_model.specs.declared.schema.TableDef.{TableDef}
 use Rattle.own_model.specs.Db.{Row}
 use Rattle.view_deltas.specs.Entries.{kept_at, PutsAt}
-use Rattle.view_deltas.specs.Place.{Place, place_cmp}
+use Rattle.view_deltas.specs.Place.{Place}
 use Rattle.view_deltas.specs.Plain.{KeepsPlain, plain_at}
 use Rattle.view_deltas.specs.Shown.{shown_of}
-use Rattle.view_deltas.specs.TableRows.{changed, Fits, Follows, row_at}
+use Rattle.view_deltas.specs.TableRows.{Follows, row_at}
 use Rattle.view_deltas.proofs.ChangeLemmas.{row_changed}
 
 -- an order that goes on with an equality is the first, and with another it isn't equal

@@ -1,17 +1,16 @@
 -- What is counted for a group with a row more or less.
-use Rattle.std.proofs.Common.{◌≡◌, ℕ, ℤ, pos, suc, ◌+◌, ◌-◌, ◌+ℤ◌, ◌-ℤ◌, refl, sym, ◌∙◌, ap, List, [], ◌∷◌, ◌++◌, length, map, Option, Some, None, arith}
+use Rattle.std.proofs.Common.{◌≡◌, ℕ, ℤ, suc, ◌+◌, ◌-◌, ◌+ℤ◌, ◌-ℤ◌, refl, ◌∙◌, ap, List, [], ◌∷◌, ◌++◌, length, map, Option, Some, None, arith}
 use Rattle.std.proofs.lemmas.Int.{ints}
 use Rattle.own_model.specs.declared.bound.BoundItem.{BoundItem}
 use Rattle.own_model.specs.declared.bound.BoundItem.TheVariants as item
 use Rattle.own_model.specs.Db.{Row}
 use Rattle.query_model.specs.Query.{number_in}
 use Rattle.view_deltas.specs.Counted.{Counted}
-use Rattle.view_deltas.specs.Numbers.{numbers_in, with_number, with_number_of}
+use Rattle.view_deltas.specs.Numbers.{numbers_in, with_number_of}
 use Rattle.view_deltas.specs.Tally.{item_tally, item_with, tally, with_row}
 use Rattle.view_deltas.specs.declared.item_tally.ItemTally.{ItemTally}
 use Rattle.view_deltas.specs.declared.item_tally.ItemTally.TheVariants.{Group, Count, Sum}
 use Rattle.view_deltas.specs.declared.number_tally.NumberTally.{NumberTally}
-use Rattle.view_deltas.specs.declared.way.Way.{Way}
 use Rattle.view_deltas.specs.declared.way.Way.TheVariants.{In, Out}
 
 abbrev made : ℕ → ℤ → NumberTally

@@ -1,5 +1,5 @@
 -- What is kept for a grouped view.
-use Rattle.std.specs.Prelude.{◌≡◌, ℕ, List, ◌++◌, Bool, true, false, not, ◌&&◌, ◌==◌, Option, None, Some, filter, length, if◌then◌else◌}
+use Rattle.std.specs.Prelude.{◌≡◌, ℕ, List, ◌++◌, Bool, true, false, not, ◌&&◌, ◌==◌, Option, None, Some, filter, if◌then◌else◌}
 use Rattle.std.specs.Option.{option_and_then, option_map_or, option_to_list}
 use Rattle.std.specs.Ordering.{is_eq}
 use Rattle.own_base.specs.declared.number.ColNo.{ColNo}

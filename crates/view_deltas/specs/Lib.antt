@@ -2,10 +2,17 @@ pub mod Changes
 pub mod Counted
 pub mod Entries
 pub mod Groups
+pub mod Inserted
+pub mod JoinFollowed
+pub mod Joined
+pub mod Kept
+pub mod Keys
 pub mod Numbers
 pub mod Place
 pub mod PlaceOrder
 pub mod Plain
 pub mod Shown
+pub mod Sides
 pub mod TableRows
 pub mod Tally
+pub mod ViewOf

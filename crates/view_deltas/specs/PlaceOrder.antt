@@ -6,7 +6,6 @@ use Rattle.std.specs.Cmp.Lexicographic.{options_total}
 use Rattle.std.specs.Ordering.{ordering_then}
 use Rattle.std.specs.declared.cmp.Ordering.{Ordering}
 use Rattle.std.specs.declared.cmp.Ordering.TheVariants.{Less, Equal, Greater}
-use Rattle.own_base.specs.Key.{key_cmp}
 use Rattle.own_base.specs.declared.value.Key.{Key}
 use Rattle.own_model.proofs.KeyOrder.{key_order}
 use Rattle.ordered_pairs.specs.KeyExact.{key_exact}

@@ -1,5 +1,4 @@
-use Rattle.std.proofs.Common.{List, sym, subst}
-use Rattle.own_model.specs.Db.{Row}
+use Rattle.std.proofs.Common.{sym, subst}
 use Rattle.view_deltas.specs.Changes.{after_changes}
 use Rattle.view_deltas.specs.Groups.{KeepsGroups}
 use Rattle.view_deltas.specs.declared.grouped.GroupedView.{GroupedView}
