@@ -1,4 +1,4 @@
-use Rattle.std.proofs.Common.{◌≡◌, ℕ, sym, ◌∙◌}
+use Rattle.std.proofs.Common.{◌≡◌, refl, sym, ◌∙◌}
 use Rattle.std.specs.Prelude.{Option, None, Some, option_map}
 use Rattle.own_base.specs.declared.number.Place.{Place}
 use Rattle.history_model.proofs.HistoryLemmas.{flat-world}
@@ -6,7 +6,7 @@ use Rattle.engine_core.proofs.engine.Engine.version.Goals as goal
 
 -- where no place is told, there is none
 none_told : (down : Option Place) → option_map (λ (place : Place). place.0) down ≡ None → down ≡ None
-none_told None is = is
+none_told None is = refl
 none_told (Some place) is = let never : Some place.0 ≡ None = is in cc
 
 -- the state is the world's flat database
