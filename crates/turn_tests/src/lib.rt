@@ -2,9 +2,6 @@
 //! that nothing depends on who came first.
 #![tactic(auto)]
 
-#[cfg(test)]
 mod adding;
-#[cfg(test)]
 mod log;
-#[cfg(test)]
 mod threads;

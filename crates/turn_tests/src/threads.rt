@@ -39,6 +39,31 @@ fn add_beside<R: Threads + Wait + Sync>(
     )
 }
 
+/// Two threads add beside each other.
+#[tactic(auto, using(crate::proofs::Logs::turn_sync))]
+fn add_both<R: Threads + Wait + Sync>(
+    rt: &R,
+    turn: &Turn<Log>,
+    one: Pass,
+    two: Pass,
+) -> (Pass, Pass)
+    requires one { IsPassOf turn.now one × (is_lead one ≡ false) × ((view_of one).session ≡ 1) }
+    requires two { IsPassOf turn.now two × (is_lead two ≡ false) × ((view_of two).session ≡ 2) }
+    ensures { IsPassOf turn.now result.0 × IsPassOf turn.now result.1 }
+{
+    join(
+        rt,
+        || -> Pass
+            requires { IsSync R.row × IsPassOf turn.now one × (is_lead one ≡ false) × ((view_of one).session ≡ 1) }
+            ensures { IsPassOf turn.entry.now result }
+        { add_all(rt, turn, one, ONE, CALLS) },
+        || -> Pass
+            requires { IsPassOf turn.now two × (is_lead two ≡ false) × ((view_of two).session ≡ 2) }
+            ensures { IsPassOf turn.entry.now result }
+        { add_all(rt, turn, two, TWO, CALLS) },
+    )
+}
+
 #[test]
 fn each_entry_of_two_threads_stands_once_and_in_order(rt: HostRuntime) {
     let made = Turn::new(rt.alloc(), Log::new(rt.alloc()));
