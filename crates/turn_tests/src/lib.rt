@@ -2,6 +2,11 @@
 //! that nothing depends on who came first.
 #![tactic(auto)]
 
+#[cfg(test)]
 mod adding;
+#[cfg(test)]
+mod beside;
+#[cfg(test)]
 mod log;
-mod threads;
+#[cfg(test)]
+mod tables;

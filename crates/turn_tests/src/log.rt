@@ -6,6 +6,14 @@ use own_model::{Entry, Request, Verdict};
 use std::alloc::Global;
 use turn_model::Keeps;
 
+/// What keeps entries, and takes more of them.
+pub(crate) trait Adds: Keeps {
+    /// Adds the entry of an End, if there is memory.
+    fn add(&mut self, session: SessionNo, call: u32)
+        ensures entries { (Self.history self.new ≡ Self.history self.old) ⊎ (Self.history self.new ≡ Self.history self.old ++ end_of session call ∷ []) }
+        ensures start { Self.start self.new ≡ Self.start self.old };
+}
+
 /// A value that keeps entries alone.
 #[derive(Drop)]
 pub(crate) struct Log {
@@ -24,17 +32,8 @@ impl Keeps for Log {
     }
 }
 
-impl Log {
-    pub(crate) fn new(alloc: Global) -> Log {
-        Log {
-            entries: Vec::new(alloc),
-        }
-    }
-
-    /// Adds an entry, if there is memory.
-    pub(crate) fn add(&mut self, session: SessionNo, call: u32)
-        ensures { (self.new.entries.items ≡ self.old.entries.items) ⊎ (self.new.entries.items ≡ self.old.entries.items ++ end_of session call ∷ []) }
-    {
+impl Adds for Log {
+    fn add(&mut self, session: SessionNo, call: u32) {
         if self.entries.reserve(1).is_ok() {
             self.entries.push_reserved(Entry {
                 session,
@@ -44,12 +43,20 @@ impl Log {
             });
         }
     }
+}
+
+impl Log {
+    pub(crate) fn new(alloc: Global) -> Log {
+        Log {
+            entries: Vec::new(alloc),
+        }
+    }
 
     /// Whether a session's calls are those from 0 up to this number, each once and in order.
-    pub(crate) fn has_in_order(&self, session: u8, calls: u32) -> bool {
+    pub(crate) fn has_in_order(&self, session: SessionNo, calls: u32) -> bool {
         self.entries
             .iter()
-            .filter(|entry| entry.session.0 == session)
+            .filter(|entry| entry.session.0 == session.0)
             .map(|entry| entry.call)
             .eq(0..calls)
     }

@@ -1,13 +1,12 @@
 -- What a history holds may be sent to another thread, and lent to others.
 use denote.RattleType.{RattleType}
-use denote.Param.Send.{IsSend, IsSync, AllSend, enum_send, enum_sync, recorded_send, sendable, struct_send}
+use denote.Exit.{no}
+use denote.Param.{arg, param}
+use denote.Param.Send.{IsSend, IsSync, arg_send, enum_send, enum_sync, param_send, sendable}
+use Prim.Native.Nat.{ℕ}
 use denote.Enum.Declared.{shape}
-use denote.Struct.Declared as struct
-use denote.Struct.Field.{bool-field, rows}
-use denote.Struct.Struct.{Struct}
-use denote.Struct.Tuple.{TupleAt, parts, type_at}
-use mathlib.Core.List.{List, [], ◌∷◌}
-use mir.Syntax.{Sym}
+use denote.Struct.Field.{bool-field}
+use mir.Syntax.{Ty}
 use Rattle.own_base.proofs.boxed.Boxed.TheSendSync as boxed
 use Rattle.own_base.proofs.list.List.TheSendSync as list
 use Rattle.own_base.proofs.number.SessionNo.TheSendSync as session
@@ -71,16 +70,16 @@ view_send = search (sendable, name.the_send, select_field_send) depth 20
 pub view_sync : IsSync CreateView.the_row
 view_sync = search (sendable, name.the_sync, select_field_sync) depth 20
 
--- statements: what stands in them, a list for `search`, and each kind with its parts
+-- statements, of what stands in them
 ruleset in_send = (sendable, table.the_field_send, boxed.the_send, list.the_send, name.the_send, value.the_send, key.the_field_send, expr.the_field_send, cond_send, select_send, view_send)
 
 ruleset in_sync = (sendable, table.the_field_sync, boxed.the_sync, list.the_sync, name.the_sync, value.the_sync, key.the_field_sync, expr.the_field_sync, cond_sync, select_sync, view_sync)
 
 statement_field_send : IsSend (Statement.the_field).row
-statement_field_send = enum_send (shape Statement.the_type) ((search in_send depth 10, tt), ((search in_send depth 10, tt), ((search in_send depth 10, (search in_send depth 10, (search in_send depth 10, tt))), ((search in_send depth 10, (search in_send depth 10, (search in_send depth 10, tt))), ((search in_send depth 10, (search in_send depth 10, tt)), ((search in_send depth 10, tt), (tt, (tt, (tt, ((search in_send depth 10, (search in_send depth 10, tt)), ((search in_send depth 10, (search in_send depth 10, tt)), (tt, (tt, tt)))))))))))))
+statement_field_send = enum_send (shape Statement.the_type) (search in_send depth 40)
 
 statement_field_sync : IsSync (Statement.the_field).row
-statement_field_sync = enum_sync (shape Statement.the_type) ((search in_sync depth 10, tt), ((search in_sync depth 10, tt), ((search in_sync depth 10, (search in_sync depth 10, (search in_sync depth 10, tt))), ((search in_sync depth 10, (search in_sync depth 10, (search in_sync depth 10, tt))), ((search in_sync depth 10, (search in_sync depth 10, tt)), ((search in_sync depth 10, tt), (tt, (tt, (tt, ((search in_sync depth 10, (search in_sync depth 10, tt)), ((search in_sync depth 10, (search in_sync depth 10, tt)), (tt, (tt, tt)))))))))))))
+statement_field_sync = enum_sync (shape Statement.the_type) (search in_sync depth 40)
 
 pub statement_send : IsSend Statement.the_row
 statement_send = search (sendable, statement_field_send) depth 3
@@ -89,10 +88,10 @@ pub statement_sync : IsSync Statement.the_row
 statement_sync = search (sendable, statement_field_sync) depth 3
 
 -- requests
-request_field_send : IsSend (Request.the_field).row
+pub request_field_send : IsSend (Request.the_field).row
 request_field_send = search (sendable, boxed.the_send, limit.the_field_send, statement_send) depth 20
 
-request_field_sync : IsSync (Request.the_field).row
+pub request_field_sync : IsSync (Request.the_field).row
 request_field_sync = search (sendable, boxed.the_sync, limit.the_field_sync, statement_sync) depth 20
 
 pub request_send : IsSend Request.the_row
@@ -108,10 +107,6 @@ entry_send = search (sendable, session.the_field_send, verdict.the_field_send, r
 pub entry_sync : IsSync Entry.the_row
 entry_sync = search (sendable, session.the_field_sync, verdict.the_field_sync, request_field_sync) depth 20
 
--- a closure, where all that it captures may be sent
-parts_send : (Ts : List RattleType) → AllSend Ts → AllSend (rows (parts Ts))
-parts_send [] sent = tt
-parts_send (T ∷ Ts) sent = (sent.0, parts_send Ts sent.1)
-
-pub closure_send : (ν : Sym) (Ts : List RattleType) → AllSend Ts → IsSend (TupleAt ν Ts)
-closure_send ν Ts sent = let T = type_at ν Ts in recorded_send (Struct (struct.shape T)) T.D T.to T.to_one (struct_send (struct.shape T) (parts_send Ts sent))
+-- what is passed on as a type argument
+pub passed_send : (i : ℕ) (δ : Ty) (R : RattleType) → IsSend R → IsSend (param i (arg δ no R))
+passed_send i δ R sent = param_send i (arg δ no R) (arg_send δ no R sent)
