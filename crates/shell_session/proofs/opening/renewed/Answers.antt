@@ -35,7 +35,7 @@ pub returns-in-Ok-clause-keeps : goal.returns-in-Ok-clause-keeps
 returns-in-Ok-clause-keeps g c =
     let mid = c.lay_anew.new.opened in
     let works : mid.book.failed ≡ false = c.lay_anew.ensures.done c.if-not-lay_anew.false (c.begin_anew.ensures.failed ∙ c.if-not-is_due.ensures.failed refl) in
-    let again = c.begin_anew-1 in
+    let again = c.begin_anew-in-Ok in
     keeps-none again.new.self (opening_of c.in-Ok.engine) c.in-Ok.ensures.history (ap length again.ensures.marks ∙ c.lay_anew.ensures.keeps.long) (again.ensures.failed ∙ works) again.ensures.tables
 
 pub returns-in-Err-clause-err : goal.returns-in-Err-clause-err
