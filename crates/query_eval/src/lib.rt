@@ -28,3 +28,4 @@ mod views;
 pub use kept::kept_in_table;
 pub use reply::select_reply;
 pub use row_list::RowList;
+pub use selection::select_kept;

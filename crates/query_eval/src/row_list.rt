@@ -21,7 +21,7 @@ impl<'a> Model for RowList<'a> {
 
 impl<'a> RowList<'a> {
     /// No rows. It takes no memory.
-    pub(crate) fn new(alloc: Global) -> RowList<'a>
+    pub fn new(alloc: Global) -> RowList<'a>
         ensures { result ≡ [] }
     {
         RowList {
@@ -30,7 +30,7 @@ impl<'a> RowList<'a> {
     }
 
     /// One row more, last.
-    pub(crate) fn push(&mut self, row: &'a Row) -> Result<(), AllocError>
+    pub fn push(&mut self, row: &'a Row) -> Result<(), AllocError>
         ensures { OnOk result (self.new ≡ self.old ++ row.now ∷ []) }
     {
         self.rows.push(row)?;

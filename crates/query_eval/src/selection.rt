@@ -1,7 +1,8 @@
-ghost use Rattle.std.specs.Prelude.{◌≡◌, List as Seq, Some, false, map, IfOk};
+ghost use Rattle.std.specs.Prelude.{◌≡◌, List as Seq, Some, false, filter, map, IfOk};
 ghost use Rattle.own_model.specs.declared.limit.TheConstants.{REPLY_ROWS as MOST};
 ghost use Rattle.own_model.specs.Db.{Row as Values};
 ghost use Rattle.query_model.specs.Query.{in_order, projected, query_rows, reply_of, selected};
+ghost use Rattle.query_model.specs.Truth.{keeps};
 ghost use Rattle.query_eval.specs.Enough.{IsEnough};
 ghost use Rattle.query_eval.specs.Sources.{IsTableOf};
 ghost use Rattle.query_eval.specs.Tables.{AreTables};
@@ -9,6 +10,7 @@ ghost use Rattle.query_eval.specs.Tables.{AreTables};
 use crate::in_order::put_in_order;
 use crate::kept::{kept_in_table, kept_rows};
 use crate::lent_rows::LentRows;
+use crate::row_list::RowList;
 use crate::shown::shown_rows;
 use own_base::Row;
 use own_model::{BoundSelect, LimitName, REPLY_ROWS, Refusal, Reply, Source1, StoreView};
@@ -44,6 +46,20 @@ pub(crate) fn select_rows(
 {
     let kept = kept_rows(alloc, rows, query.cond.as_ref())?;
     plain_reply(alloc, LentRows::of_list(alloc, &kept)?, query)
+}
+
+/// The reply to a select that isn't grouped, from those rows of its source that WHERE keeps, as they are lent in the source's
+/// order.
+#[tactic(auto, unfolding(query_model::specs::Query::selected))]
+pub fn select_kept(
+    alloc: Global,
+    kept: &RowList<'_>,
+    query: &BoundSelect,
+) -> Result<Reply, AllocError>
+    requires { query.now.grouped ≡ false }
+    ensures { IfOk result (λ reply. (rows : Seq Values) → filter (keeps query.now.cond) rows ≡ kept.now → reply ≡ reply_of (selected query.now rows)) }
+{
+    plain_reply(alloc, LentRows::of_list(alloc, kept)?, query)
 }
 
 /// The reply to a select that isn't grouped, from a table of a store.

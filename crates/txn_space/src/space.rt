@@ -1,4 +1,4 @@
-ghost use Rattle.std.specs.Prelude.{ℕ, List, ◌≡◌, ◌<◌, [], IfOk, MatchOption, OnErr, OnOk, length, slice_get};
+ghost use Rattle.std.specs.Prelude.{ℕ, List, ◌≡◌, ◌≢◌, ◌<◌, [], IfOk, MatchBool, MatchOption, OnErr, OnOk, length, slice_get};
 ghost use Rattle.std.specs.List.{AllByRecursion};
 ghost use Rattle.std.specs.Option.{option_copied};
 ghost use Rattle.own_model.specs.Db.{Row as Values};
@@ -171,6 +171,16 @@ impl Space {
         ensures { MatchOption result (entries_at self.now table.0 ≡ []) (λ entries. items entries.now ≡ entries_at self.now table.0) }
     {
         self.tables.items().get(table.0 as usize)
+    }
+
+    /// Whether a transaction leaves the rows of a table as they are: it has put none and taken none away. Takes no memory.
+    pub fn leaves(&self, table: TableNo) -> bool
+        ensures { MatchBool result (entries_at self.now table.0 ≡ []) (entries_at self.now table.0 ≢ []) }
+    {
+        match self.entries(table) {
+            None => true,
+            Some(entries) => entries.len() == 0,
+        }
     }
 
     /// How many rows a table has. Takes no memory.
