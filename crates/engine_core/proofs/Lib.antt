@@ -25,7 +25,6 @@ mod RepresentsLemmas
 mod Sizes
 mod StatedEvents
 mod Stood
-mod TableSources
 mod UnmadeEvents
 pub mod Writes
 pub mod EngineStands

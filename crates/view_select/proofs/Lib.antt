@@ -1,0 +1,4 @@
+pub mod ShownRuns
+pub mod TableSources
+pub mod ViewSelects
+pub mod WellFormedViews
