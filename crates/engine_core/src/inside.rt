@@ -74,7 +74,13 @@ fn serve_stated(
             let shown = Shown {
                 version: &state.version,
             };
-            let replied = state.txns.statement(alloc, &shown, entry.session, &bound);
+            let replied = state.txns.statement(
+                alloc,
+                &shown,
+                state.version.views(),
+                entry.session,
+                &bound,
+            );
             drop(bound);
             match replied {
                 Ok(reply) => Ok(reply),

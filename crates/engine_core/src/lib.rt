@@ -12,6 +12,7 @@ mod inside;
 mod installing;
 mod outside;
 mod prepared;
+mod reading;
 mod serving;
 mod state;
 mod step;

@@ -21,6 +21,7 @@ use crate::asker::Asker;
 use crate::checkpoint::checkpoint;
 use crate::creating::create;
 use crate::installing::install;
+use crate::reading::read;
 use crate::state::State;
 use crate::subjects::{forget, get_reply};
 use crate::writing::write;
@@ -28,11 +29,9 @@ use outer_world::Disk;
 use own_base::Place;
 use own_model::{Bound, Entry, Refusal, Reply, Statement, Verdict};
 use plan_bind::bind;
-use query_eval::select_reply;
 use std::alloc::{AllocError, Global};
 use std::mem::drop;
 use store_disk::StoreDisk;
-use store_version::Shown;
 
 /// The answer to a bound statement outside a transaction.
 #[tactic(auto, unfolding(run_model::specs::Run::run_bound))]
@@ -46,10 +45,7 @@ fn answer_meant(alloc: Global, asker: &Asker<'_>, bound: &Bound) -> Result<Answe
 {
     match bound {
         Bound::Select(query) => {
-            let shown = Shown {
-                version: &asker.state.version,
-            };
-            let reply = select_reply(alloc, &shown, query)?;
+            let reply = read(alloc, &asker.state.version, query)?;
             Ok(Answer::told(alloc, reply))
         }
         Bound::Insert { .. } | Bound::Update { .. } | Bound::Delete { .. } => {

@@ -168,7 +168,7 @@ fn looked_reply(
         shown: Shown { version },
         looks: Cell::new(0),
     };
-    let reply = reply_to_statement(rt, &counted, txns, SessionNo(1), bound);
+    let reply = reply_to_statement(rt, &counted, version.views(), txns, SessionNo(1), bound);
     (reply, counted.looks.get())
 }
 

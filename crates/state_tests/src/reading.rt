@@ -70,7 +70,9 @@ fn check_txn(rt: &(impl Abort + AllocGlobal), version: &Version, bound: &Bound)
 {
     let mut txn = Txn::new(rt.alloc());
     let shown = Shown { version };
-    let reply = txn.run(rt.alloc(), &shown, bound).expect(rt, "memory");
+    let reply = txn
+        .run(rt.alloc(), &shown, version.views(), bound)
+        .expect(rt, "memory");
     check_lines(rt, reply, "ok 2");
     let changes = txn.changes(rt.alloc(), &shown).expect(rt, "memory");
     check_names(rt, &changes, &[(0, 2)]);

@@ -7,6 +7,7 @@ ghost use Rattle.run_model.specs.Run.{run_bound};
 ghost use Rattle.state_model.specs.Sound.{IsWellFormed, Sound};
 ghost use Rattle.txn_core.specs.SessionStates.{is_open, state_by};
 ghost use Rattle.txn_core.specs.Runs.{IsRowStatement};
+ghost use Rattle.view_select.specs.ShowsViews.{ShowsViews};
 ghost use Rattle.engine_core.specs.Asked.{IsMeant};
 ghost use Rattle.state_tests.specs.Ready.{AreReady};
 
@@ -22,6 +23,7 @@ use std::mem::drop;
 use std::process::Abort;
 use store_version::{Shown, Version};
 use txn_core::Txns;
+use view_deltas::Views;
 
 const STORE: &str = "\
 CREATE TABLE acc (id INT PRIMARY KEY, n INT)
@@ -41,11 +43,13 @@ fn refused(rt: &impl Abort, why: Refusal) -> Reply
 pub fn reply_to_statement<V: Linked>(
     rt: &(impl Abort + AllocGlobal),
     version: &V,
+    views: &Views,
     txns: &mut Txns,
     session: SessionNo,
     bound: &Bound,
 ) -> Reply
     requires sound { Sound (V.db version.now) }
+    requires views { ShowsViews (V.db version.now) views.now }
     requires session { session.0 ≤ SESSIONS }
     requires ready { AreReady (V.db version.now) txns.old }
     requires open { is_open (state_by txns.old.states session.0) ≡ true }
@@ -53,7 +57,7 @@ pub fn reply_to_statement<V: Linked>(
     requires well_formed { (db : Db) → IsWellFormed db → db.schema ≡ (V.db version.now).schema → IsWellFormed (run_bound db bound.now).db }
     ensures { AreReady (V.db version.now) txns.new }
 {
-    match txns.statement(rt.alloc(), version, session, bound) {
+    match txns.statement(rt.alloc(), version, views, session, bound) {
         Ok(reply) => reply,
         Err(why) => refused(rt, why),
     }
@@ -78,7 +82,7 @@ fn check_statement(
     drop(statement);
     assert!(rt; txns.is_open(session));
     let shown = Shown { version };
-    let reply = reply_to_statement(rt, &shown, txns, session, &bound);
+    let reply = reply_to_statement(rt, &shown, version.views(), txns, session, &bound);
     drop(bound);
     check_lines(rt, reply, wanted)
 }

@@ -8,3 +8,4 @@ mod PartsAfter
 pub mod PutLemmas
 mod SameOwners
 pub mod TheirParts
+mod ViewsKept

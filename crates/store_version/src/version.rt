@@ -3,6 +3,7 @@ ghost use Rattle.own_model.specs.Db.{empty};
 ghost use Rattle.owner_graph.specs.Graph.{IsGraphOf};
 ghost use Rattle.link_model.specs.Whose.{owners_at, reach_at};
 ghost use Rattle.micro_db.specs.Kept.{StandsFor};
+ghost use Rattle.view_select.specs.ShowsViews.{ShowsViews};
 
 use crate::owned::OwnedRows;
 use crate::rows::Rows;
@@ -13,13 +14,15 @@ use own_model::Schema;
 use owner_graph::Graph;
 use std::alloc::{AllocError, Global};
 use std::marker::Model;
+use view_deltas::Views;
 
-/// The state of a store, which contracts see as the database: its rows, whose each row is, and for each data subject copies
-/// of its rows.
+/// The state of a store, which contracts see as the database: its rows, whose each row is, for each data subject copies of its
+/// rows, and the rows of its views.
 #[derive(Drop)]
 pub struct Version {
     pub(crate) owned: OwnedRows,
     pub(crate) micro: MicroDb,
+    pub(crate) views: Views,
 }
 
 impl Model for Version {
@@ -34,8 +37,9 @@ impl Model for Version {
     ghost view = { λ version. version.owned };
 
     ghost use Rattle.micro_db.specs.Kept.{StandsFor};
+    ghost use Rattle.view_select.specs.ShowsViews.{ShowsViews};
 
-    ghost invariant = { λ version. StandsFor version.owned version.micro };
+    ghost invariant = { λ version. StandsFor version.owned version.micro × ShowsViews version.owned version.views };
 }
 
 /// A version that is prepared, and may take the place of the one that it was prepared from.
@@ -65,6 +69,7 @@ impl Version {
         Ok(Version {
             owned,
             micro: MicroDb::new(),
+            views: Views::new(alloc),
         })
     }
 
@@ -88,6 +93,13 @@ impl Version {
         ensures { result.now ≡ self.now.schema }
     {
         self.rows().schema()
+    }
+
+    /// Lends what is kept for its views: the rows that each shows. Takes no memory.
+    pub fn views(&self) -> &Views
+        ensures { ShowsViews self.now result.now }
+    {
+        &self.views
     }
 
     /// Lends the rows. Takes no memory.
@@ -124,7 +136,12 @@ impl MakeCopy for Version {
     fn copy(&self, alloc: Global) -> Result<Version, AllocError> {
         let owned = self.owned.copied(alloc)?;
         let micro = self.micro.copy(alloc)?;
-        Ok(Version { owned, micro })
+        let views = self.views.copy(alloc)?;
+        Ok(Version {
+            owned,
+            micro,
+            views,
+        })
     }
 }
 

@@ -13,3 +13,4 @@ pub mod Runs
 pub mod SoundBases
 pub mod RepresentsLemmas
 pub mod Statements
+mod ViewsLeft

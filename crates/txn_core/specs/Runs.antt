@@ -21,6 +21,9 @@ use Rattle.txn_space.specs.Entries.{entries_at, entry_key}
 use Rattle.txn_space.specs.Sound.{IsSpaceOf}
 use Rattle.write_eval.specs.Write.{IsWrite}
 use Rattle.query_eval.specs.Views.{AreViewsThere}
+use Rattle.state_model.specs.Sound.{IsWellFormed}
+use Rattle.view_deltas.specs.declared.kept_view.KeptView.{KeptView}
+use Rattle.view_select.specs.ShowsViews.{ShowsViews}
 
 -- rows that transactions may stand on: by rising key, few enough for those of a transaction beside them, and views of tables
 -- that are there
@@ -28,6 +31,10 @@ pub record IsStore (db : Db) : Type 0 where
   pub rising : AreRising db.schema.tables db.rows
   pub few : (number : ℕ) → length (rows_at db.rows number) < 2 ^ 62
   pub views : AreViewsThere db.schema
+
+-- what is kept for views shows those of a database that statements leave
+abbrev pub IsShownBy : Db → List KeptView → Type 0
+IsShownBy db kept = IsWellFormed db × ShowsViews db kept
 
 -- a SELECT whose source is there, or a write, as binding leaves them
 abbrev pub IsRowStatement : Schema → Bound → Type 0

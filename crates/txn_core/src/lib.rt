@@ -3,6 +3,7 @@
 
 mod conflict;
 pub mod laws;
+mod reading;
 mod running;
 mod session_state;
 mod sessions;

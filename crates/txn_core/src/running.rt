@@ -1,42 +1,23 @@
 ghost use Rattle.std.specs.Prelude.{◌≡◌, ◌≢◌, IfErr, IfOk, OnErr};
 ghost use Rattle.own_model.specs.declared.refusal.Refusal.TheVariants.{Memory};
 ghost use Rattle.own_model.specs.declared.reply.Reply.TheVariants.{Refused};
-ghost use Rattle.query_model.specs.Query.{query_rows, reply_of};
-ghost use Rattle.readable_model.specs.Sources.{IsThere};
 ghost use Rattle.state_model.specs.Rows.{AreRowsOf};
 ghost use Rattle.run_model.specs.Run.{run_bound};
 ghost use Rattle.txn_space.specs.Changed.{changed_db};
 ghost use Rattle.txn_space.specs.Sound.{IsSpaceOf};
 ghost use Rattle.write_eval.specs.Write.{IsWrite};
-ghost use Rattle.txn_core.specs.Runs.{HasRun, IsRowStatement, IsStore};
+ghost use Rattle.txn_core.specs.Runs.{HasRun, IsRowStatement, IsShownBy, IsStore};
 ghost use Rattle.txn_core.specs.Single.{NetTo};
 
+use crate::reading::read_in;
 use crate::single_write::single;
 use own_base::{Change, List};
-use own_model::{Bound, BoundSelect, Footprint, Refusal, Reply, Schema, StoreView};
+use own_model::{Bound, Footprint, Refusal, Reply, Schema, StoreView};
 use plan_bind::footprint;
-use query_eval::select_reply;
 use std::alloc::{AllocError, Global};
 use std::mem::drop;
 use txn_space::Space;
-
-/// The reply to a bound SELECT over the rows as a transaction changed them.
-fn read_in<V: StoreView>(
-    alloc: Global,
-    space: &Space,
-    version: &V,
-    query: &BoundSelect,
-    scanned: &Footprint,
-) -> Result<Reply, AllocError>
-    requires store { IsStore (V.db version.now) }
-    requires space { IsSpaceOf (V.db version.now).schema.tables space.now }
-    requires rows { AreRowsOf (V.db version.now).schema.tables (changed_db (V.db version.now) space.now).rows }
-    requires there { IsThere (V.db version.now).schema query.now }
-    ensures { IfOk result (λ reply. reply ≡ reply_of (query_rows (V.db version.now).schema (changed_db (V.db version.now) space.now).rows query.now)) }
-{
-    let merged = space.merged(alloc, version, scanned)?;
-    select_reply(alloc, &merged, query)
-}
+use view_deltas::Views;
 
 /// The reply to a bound write over the rows as a transaction changed them, and the net of it; or why it is refused as it runs.
 fn net_over<V: StoreView>(
@@ -105,23 +86,26 @@ fn scanned(alloc: Global, schema: &Schema, bound: &Bound) -> Result<Footprint, A
 }
 
 /// Runs a bound SELECT, INSERT, UPDATE or DELETE in a transaction: over the rows of a version with what the transaction
-/// changed, to which a write adds. The version is only read.
+/// changed, to which a write adds. The version is only read. A SELECT from a view whose tables the transaction left reads what is
+/// kept for it.
 pub(crate) fn run_in<V: StoreView>(
     alloc: Global,
     space: &mut Space,
     version: &V,
+    views: &Views,
     bound: &Bound,
 ) -> Result<Reply, AllocError>
     requires store { IsStore (V.db version.now) }
     requires space { IsSpaceOf (V.db version.now).schema.tables space.old }
     requires rows { AreRowsOf (V.db version.now).schema.tables (changed_db (V.db version.now) space.old).rows }
     requires bound { IsRowStatement (V.db version.now).schema bound.now }
+    requires views { IsShownBy (V.db version.now) views.now }
     ensures ran { IfOk result (λ reply. HasRun (V.db version.now) bound.now space.old reply space.new) }
     ensures unchanged { OnErr result (space.new ≡ space.old) }
 {
     let scanned = scanned(alloc, version.schema(), bound)?;
     match bound {
-        Bound::Select(query) => read_in(alloc, space, version, query, &scanned),
+        Bound::Select(query) => read_in(alloc, space, version, views, query, &scanned),
         Bound::Insert { .. } | Bound::Update { .. } | Bound::Delete { .. } => {
             write_in(alloc, space, version, bound, &scanned)
         }

@@ -6,13 +6,14 @@ ghost use Rattle.state_model.specs.Rows.{AreRowsOf};
 ghost use Rattle.txn_space.specs.Changed.{changed_db};
 ghost use Rattle.txn_space.specs.Sound.{IsBase, IsSpaceOf};
 ghost use Rattle.txn_core.specs.SessionStates.{IsQuiet, is_select};
-ghost use Rattle.txn_core.specs.Runs.{HasRun, IsRowStatement, IsStore};
+ghost use Rattle.txn_core.specs.Runs.{HasRun, IsRowStatement, IsShownBy, IsStore};
 
 use crate::running::run_in;
 use own_base::{Change, List, MakeCopy};
 use own_model::{Bound, Reply, StoreView};
 use std::alloc::{AllocError, Global};
 use txn_space::Space;
+use view_deltas::Views;
 
 /// Whether a bound statement is a SELECT. Takes no memory.
 fn is_select(bound: &Bound) -> bool
@@ -50,17 +51,20 @@ impl Txn {
         }
     }
 
-    /// Runs a bound SELECT, INSERT, UPDATE or DELETE over a version with what the transaction changed.
+    /// Runs a bound SELECT, INSERT, UPDATE or DELETE over a version with what the transaction changed. The views are what the
+    /// version keeps for its own.
     pub fn run<V: StoreView>(
         &mut self,
         alloc: Global,
         version: &V,
+        views: &Views,
         bound: &Bound,
     ) -> Result<Reply, AllocError>
         requires store { IsStore (V.db version.now) }
         requires space { IsSpaceOf (V.db version.now).schema.tables self.old.space }
         requires rows { AreRowsOf (V.db version.now).schema.tables (changed_db (V.db version.now) self.old.space).rows }
         requires bound { IsRowStatement (V.db version.now).schema bound.now }
+        requires views { IsShownBy (V.db version.now) views.now }
         requires quiet { IsQuiet self.old }
         ensures ran { IfOk result (λ reply. HasRun (V.db version.now) bound.now self.old.space reply self.new.space) }
         ensures quiet { IsQuiet self.new }
@@ -68,7 +72,7 @@ impl Txn {
         ensures unchanged { OnErr result (self.new.space ≡ self.old.space) }
     {
         self.wrote = self.wrote | !is_select(bound);
-        run_in(alloc, &mut self.space, version, bound)
+        run_in(alloc, &mut self.space, version, views, bound)
     }
 
     /// What such a statement replies, and what the transaction is after it; the transaction itself stays as it is.
@@ -76,12 +80,14 @@ impl Txn {
         &self,
         alloc: Global,
         version: &V,
+        views: &Views,
         bound: &Bound,
     ) -> Result<(Reply, Txn), AllocError>
         requires store { IsStore (V.db version.now) }
         requires space { IsSpaceOf (V.db version.now).schema.tables self.now.space }
         requires rows { AreRowsOf (V.db version.now).schema.tables (changed_db (V.db version.now) self.now.space).rows }
         requires bound { IsRowStatement (V.db version.now).schema bound.now }
+        requires views { IsShownBy (V.db version.now) views.now }
         requires quiet { IsQuiet self.now }
         ensures ran { IfOk result (λ after. HasRun (V.db version.now) bound.now self.now.space after.0 after.1.space) }
         ensures quiet { IfOk result (λ after. IsQuiet after.1) }
@@ -89,7 +95,7 @@ impl Txn {
         ensures told { IfOk result (λ after. after.0 ≢ Refused Memory) }
     {
         let mut txn = self.copy(alloc)?;
-        let reply = txn.run(alloc, version, bound)?;
+        let reply = txn.run(alloc, version, views, bound)?;
         Ok((reply, txn))
     }
 

@@ -19,7 +19,7 @@ ghost use Rattle.txn_space.specs.Sound.{IsBase, IsSpaceOf};
 ghost use Rattle.write_eval.specs.Write.{IsWrite};
 ghost use Rattle.txn_core.specs.declared.session_state.SessionState.TheVariants.{Nothing, Open};
 ghost use Rattle.txn_core.specs.SessionStates.{doom_of, is_open, state_by, told};
-ghost use Rattle.txn_core.specs.Runs.{IsRowStatement, IsStore};
+ghost use Rattle.txn_core.specs.Runs.{IsRowStatement, IsShownBy, IsStore};
 ghost use Rattle.txn_core.specs.Single.{NetTo};
 ghost use Rattle.txn_core.specs.Transactions.{AreItemsOf, AreOthersSame, AreSame, IsQuietState, IsSameOf, IsSingleRefusal, IsDoomedIf, Stated, conflict_of, space_of, wrote_of};
 
@@ -34,6 +34,7 @@ use plan_bind::footprint;
 use row_locks::LockTable;
 use std::alloc::{AllocError, Global};
 use std::marker::Model;
+use view_deltas::Views;
 
 /// The transactions of all sessions. Contracts see how each session stands, and the items that it holds.
 #[derive(Drop)]
@@ -113,6 +114,7 @@ impl Txns {
         &mut self,
         alloc: Global,
         version: &V,
+        views: &Views,
         session: SessionNo,
         bound: &Bound,
     ) -> Result<Reply, AllocError>
@@ -123,6 +125,7 @@ impl Txns {
         requires rows { AreRowsOf (V.db version.now).schema.tables (changed_db (V.db version.now) (space_of (state_by self.old.states session.0))).rows }
         requires quiet { IsQuietState (state_by self.old.states session.0) }
         requires bound { IsRowStatement (V.db version.now).schema bound.now }
+        requires views { IsShownBy (V.db version.now) views.now }
         ensures stated { IfOk result (λ reply. Stated (holder_among (held_by self.old.held) session.0 (footprint_of (V.db version.now).schema bound.now)) (V.db version.now) bound.now session.0 self.old self.new reply) }
         ensures told { IfOk result (λ reply. reply ≢ Refused Memory) }
         ensures unmade { OnErr result (AreSame self.old self.new) }
@@ -135,7 +138,7 @@ impl Txns {
         let (reply, txn) = self
             .sessions
             .txn(session)
-            .run_in_copy(alloc, version, bound)?;
+            .run_in_copy(alloc, version, views, bound)?;
         self.locks.grant(alloc, session, footprint)?;
         let _ = self.sessions.put(session, SessionState::Open(txn));
         Ok(reply)
@@ -143,11 +146,13 @@ impl Txns {
 
     /// Runs a bound SELECT, INSERT, UPDATE or DELETE in the open transaction of a session, which then holds the rows of its
     /// footprint besides. Where another session stands in the way it is refused with the conflict, and where memory is
-    /// refused with `Memory`: nothing changes then. A statement that is refused as it runs is one of the transaction.
+    /// refused with `Memory`: nothing changes then. A statement that is refused as it runs is one of the transaction. The views
+    /// are what the version keeps for its own; a SELECT from one whose tables the transaction left reads them.
     pub fn statement<V: Linked>(
         &mut self,
         alloc: Global,
         version: &V,
+        views: &Views,
         session: SessionNo,
         bound: &Bound,
     ) -> Result<Reply, Refusal>
@@ -158,12 +163,13 @@ impl Txns {
         requires rows { AreRowsOf (V.db version.now).schema.tables (changed_db (V.db version.now) (space_of (state_by self.old.states session.0))).rows }
         requires quiet { IsQuietState (state_by self.old.states session.0) }
         requires bound { IsRowStatement (V.db version.now).schema bound.now }
+        requires views { IsShownBy (V.db version.now) views.now }
         ensures ok { IfOk result (λ reply. Stated (holder_among (held_by self.old.held) session.0 (footprint_of (V.db version.now).schema bound.now)) (V.db version.now) bound.now session.0 self.old self.new reply) }
         ensures accepted { IfOk result (λ reply. is_refusal reply ≡ false) }
         ensures err { IfErr result (λ why. why ≢ Memory → Stated (holder_among (held_by self.old.held) session.0 (footprint_of (V.db version.now).schema bound.now)) (V.db version.now) bound.now session.0 self.old self.new (Refused why)) }
         ensures unmade { IfErr result (λ why. why ≡ Memory → AreSame self.old self.new) }
     {
-        match self.run(alloc, version, session, bound) {
+        match self.run(alloc, version, views, session, bound) {
             Ok(Reply::Refused(why)) => Err(why),
             Ok(reply) => Ok(reply),
             Err(AllocError) => Err(Refusal::Memory),

@@ -1,9 +1,17 @@
 use Rattle.std.proofs.Common.{◌∙◌}
+use Rattle.state_model.specs.Created.{OfView}
+use Rattle.commit_replay.proofs.CreatedSound.{readable-text}
 use Rattle.commit_replay.proofs.CreateFollows.{view-follows, view-given, view-heavy, view-made, view-room}
 use Rattle.commit_replay.proofs.view.follow_bound.Goals as goal
 
 pub prepare_view-requires : goal.prepare_view-requires
-prepare_view-requires c = view-room c.args.version.now c.args.create.now c.args.definition c.requires.bound
+prepare_view-requires c =
+    let readable = readable-text (OfView c.args.create.now) _ c.requires.text_of in
+    record {
+      room = view-room c.args.version.now c.args.create.now c.args.definition c.requires.bound;
+      bound = record { create = c.args.create.now; most = _; written = readable.written; bound = c.requires.bound };
+      well_formed = c.requires.sound.well_formed;
+    }
 
 -- the view that is bound is what the next version has more, and it adds what it weighs
 pub returns-in_ok-next-in-Weighs : goal.returns-in_ok-next-in-Weighs

@@ -7,7 +7,6 @@ use Rattle.state_model.specs.Put.{put}
 use Rattle.commit_check.specs.Judged.{IsJudged}
 use Rattle.commit_check.specs.declared.judged.Judged.TheVariants.{Weighs}
 use Rattle.commit_record.specs.Recorded.{IsNetOf}
-use Rattle.state_model.proofs.CreatedSchema.{owner_schema-created}
 use Rattle.engine_core.specs.Answered.{IsRecorded}
 use Rattle.engine_core.proofs.Commits.{tells-changed, tells-faulty}
 use Rattle.engine_core.proofs.Nets.{tells-net}
@@ -17,8 +16,7 @@ use Rattle.engine_core.proofs.commit.commit_beside.Goals as goal
 pub prepare-requires : goal.prepare-requires
 prepare-requires c = record {
   tells = tells-net c.args.version.now c.args.changes.now c.requires.sound.well_formed.ordered c.requires.well_formed.ordered c.requires.net;
-  ordered = c.requires.sound.well_formed.ordered;
-  owner = owner_schema-created c.args.version.now c.requires.sound.well_formed.created;
+  well_formed = c.requires.sound.well_formed;
 }
 
 -- without a fault it is answered as its record says

@@ -18,7 +18,13 @@ pub bind_view-requires-clause-items : goal.bind_view-requires-clause-items
 bind_view-requires-clause-items c = view_within c.args.create.now (subst (IsWritten STATEMENT_BYTES) c.requires.of c.requires.written)
 
 pub prepare_view-requires : goal.prepare_view-requires
-prepare_view-requires c = view-room c.args.version.now c.args.create.now c.in-Ok.definition (rw (c.schema.ensures.same, c.catalog.ensures.schema) at c.in-Ok.ensures.ok)
+prepare_view-requires c =
+    let bound = rw (c.schema.ensures.same, c.catalog.ensures.schema) at c.in-Ok.ensures.ok in
+    record {
+      room = view-room c.args.version.now c.args.create.now c.in-Ok.definition bound;
+      bound = record { create = c.args.create.now; most = STATEMENT_BYTES; written = subst (IsWritten STATEMENT_BYTES) c.requires.of c.requires.written; bound = bound };
+      well_formed = c.requires.sound.well_formed;
+    }
 
 pub returns-in-Err-clause-tells : goal.returns-in-Err-clause-tells
 returns-in-Err-clause-tells c =

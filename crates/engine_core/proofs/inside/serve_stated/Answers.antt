@@ -28,6 +28,10 @@ pub statement-replied-requires-clause-bound : goal.statement-replied-requires-cl
 statement-replied-requires-clause-bound c =
     row-bound c.args.state.now.version.schema c.args.statement.now c.in-Ok.bound c.requires.takes (rw (c.schema.ensures.same, c.catalog.ensures.schema) at c.in-Ok.ensures.ok)
 
+-- what is kept shows the views of a sound store
+pub statement-replied-requires-clause-views : goal.statement-replied-requires-clause-views
+statement-replied-requires-clause-views c = ((sound-event c.args.history.now c.args.entry.now c.args.state.now c.requires.event).well_formed, c.views.ensures)
+
 -- the rows are in key order
 pub invariant_of-shown : goal.invariant_of-shown
 invariant_of-shown c = record { ordered = (sound-event c.args.history.now c.args.entry.now c.args.state.now c.requires.event).well_formed.ordered }

@@ -1,7 +1,6 @@
 use Rattle.std.proofs.Common.{[], ◌∷◌, refl, true}
 use Rattle.std.specs.Prelude.{false}
 use Rattle.state_model.specs.Put.{put as put_in}
-use Rattle.state_model.proofs.CreatedSchema.{owner_schema-created}
 use Rattle.engine_core.proofs.Carried.{carries-still}
 use Rattle.engine_core.proofs.installing.put_in_place.Goals as goal
 
@@ -12,9 +11,6 @@ returns-then-not-fits-clause-carried g c =
     carries-still D.holds D.leaves D.moment D.might_have_left g.met.D.Disk.only_now D.honest D.faults c.args.store.now c.args.version.now (put_in c.args.version.now (c.args.change.now ∷ [])) true true false _ _
     c.requires.store refl refl refl (λ never. absurd (cc))
     (λ same room. let fits = c.fits.ensures.1 room in let never = c.if-not-fits.true in absurd (cc)) (λ asked other. absurd (other refl))
-
-pub publish_change-requires-clause-owner : goal.publish_change-requires-clause-owner
-publish_change-requires-clause-owner g c = owner_schema-created c.args.version.now c.requires.sound.well_formed.created
 
 pub returns-clause-carried : goal.returns-clause-carried
 returns-clause-carried g c = c.take.ensures.carried c.args.version.now (put_in c.args.version.now (c.args.change.now ∷ [])) c.requires.store c.requires.recorded

@@ -1,14 +1,6 @@
 use Rattle.history_model.specs.History.{world}
-use Rattle.write_eval.proofs.StoredTables.{stored_tables}
 use Rattle.engine_core.proofs.Forgotten.{tells-selected, tells-shown}
-use Rattle.engine_core.proofs.KeptViews.{views_there-created}
 use Rattle.engine_core.proofs.outside.answer_meant.Goals as goal
-
-pub select_reply-requires-clause-tables : goal.select_reply-requires-clause-tables
-select_reply-requires-clause-tables c = stored_tables c.args.asker.now.state.now.version c.requires.sound.well_formed
-
-pub select_reply-requires-clause-views : goal.select_reply-requires-clause-views
-select_reply-requires-clause-views c = views_there-created c.args.asker.now.state.now.version c.requires.sound.well_formed.created
 
 -- a SELECT reads, and leaves the state
 pub returns-in_ok-reply-in-Select-clause-tells : goal.returns-in_ok-reply-in-Select-clause-tells

@@ -6,7 +6,6 @@ use Rattle.std.specs.Prelude.{IfOk}
 use Rattle.state_model.specs.Put.{put}
 use Rattle.state_model.specs.Sound.{Sound}
 use Rattle.check_image.specs.Gated.{IsGatedImage}
-use Rattle.state_model.proofs.CreatedSchema.{owner_schema-created}
 use Rattle.engine_core.proofs.Erased.{erases-forgotten, forgot-accepted, tells-erasing}
 use Rattle.engine_core.proofs.Forgotten.{erased-sound, few-erased, lent-there, planned-next, tells-forgotten}
 use Rattle.engine_core.proofs.subjects.forget.Goals as goal
@@ -14,8 +13,7 @@ use Rattle.engine_core.proofs.subjects.forget.Goals as goal
 pub prepare-requires : goal.prepare-requires
 prepare-requires c = record {
   tells = rw c.items-2.ensures (record { was = c.in_ok-changes.ensures.was; may = c.in_ok-changes.ensures.may });
-  ordered = c.requires.sound.well_formed.ordered;
-  owner = owner_schema-created c.args.version.now c.requires.sound.well_formed.created;
+  well_formed = c.requires.sound.well_formed;
 }
 
 pub forgotten-reply-requires : goal.forgotten-reply-requires

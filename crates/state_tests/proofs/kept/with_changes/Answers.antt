@@ -1,7 +1,6 @@
 use Rattle.std.proofs.Common.{subst}
 use Rattle.state_model.specs.Sound.{IsWellFormed}
 use Rattle.engine_core.proofs.Nets.{tells-net}
-use Rattle.state_tests.proofs.KeptStores.{owner_schema}
 use Rattle.state_tests.proofs.kept.with_changes.Goals as goal
 
 -- the net of a write tells what stands
@@ -10,6 +9,5 @@ prepare-both-requires g c =
     let after = subst IsWellFormed c.written-changes.ensures.left c.requires.well_formed in
     record {
       tells = rw c.items.ensures (tells-net c.args.version.now c.written-changes.result c.requires.sound.well_formed.ordered after.ordered c.written-changes.ensures.net);
-      ordered = c.requires.sound.well_formed.ordered;
-      owner = owner_schema c.args.version.now c.requires.sound.well_formed;
+      well_formed = c.requires.sound.well_formed;
     }

@@ -6,7 +6,7 @@ use Rattle.query_model.specs.Query.{query_rows, reply_of}
 use Rattle.readable_model.specs.Sources.{IsThere}
 use Rattle.query_eval.specs.Views.{AreViewsThere}
 use Rattle.txn_core.proofs.Runs.{changed_tables}
-use Rattle.txn_core.proofs.running.read_in.Goals as goal
+use Rattle.txn_core.proofs.reading.read_merged.Goals as goal
 
 pub select_reply-requires-clause-tables : goal.select_reply-requires-clause-tables
 select_reply-requires-clause-tables g c =
