@@ -34,4 +34,6 @@ mod store;
 #[cfg(test)]
 mod texts;
 #[cfg(test)]
+mod viewing_looks;
+#[cfg(test)]
 mod writing;

@@ -55,7 +55,7 @@ const CASES: [Case; 2] = [
 ];
 
 /// An INSERT of the users.
-fn insert_users(rt: &(impl Abort + AllocGlobal)) -> String {
+pub fn insert_users(rt: &(impl Abort + AllocGlobal)) -> String {
     let alloc = rt.alloc();
     let mut text = format!(in alloc; "INSERT INTO users VALUES (0)").expect(rt, "memory");
     for id in 1..ROWS {
@@ -66,7 +66,7 @@ fn insert_users(rt: &(impl Abort + AllocGlobal)) -> String {
 }
 
 /// An INSERT of the rows that they own.
-fn insert_owned(rt: &(impl Abort + AllocGlobal)) -> String {
+pub fn insert_owned(rt: &(impl Abort + AllocGlobal)) -> String {
     let alloc = rt.alloc();
     let mut text = format!(in alloc; "INSERT INTO f VALUES (0, 0)").expect(rt, "memory");
     for id in 1..ROWS {

@@ -11,3 +11,5 @@ mod runs;
 mod stops;
 #[cfg(test)]
 mod streams;
+#[cfg(test)]
+mod views;
