@@ -18,9 +18,10 @@ use Rattle.schema_model.specs.NewEdges.{new_edges}
 use Rattle.schema_model.specs.NewTable.{new_table}
 use Rattle.schema_model.specs.Refusal.{refusal_of}
 use Rattle.schema_model.specs.WithTable.{with_table}
-use Rattle.query_model.specs.BoundView.{bound_view, new_view, view_faults, view_unless}
+use Rattle.query_model.specs.BoundView.{bound_view, new_view, view_faults}
 use Rattle.query_model.specs.Refused.{lowest}
-use Rattle.query_model.proofs.NoFaults.{none-if, none-last, none-lowest}
+use Rattle.query_model.proofs.NoFaults.{none-lowest}
+use Rattle.query_model.proofs.ViewFaults.{view-given, view-told}
 use Rattle.state_model.specs.Create.{create, create_view, kept_text, kept_view_text, with_view}
 use Rattle.state_model.specs.Created.{Create, IsAdmitted, OfTable, OfView}
 use Rattle.state_model.specs.Fault.{fault}
@@ -86,34 +87,6 @@ table-refused db after table text why is refused made =
 one_view : (one other : ViewCreate) → OfView one ≡ OfView other → one ≡ other
 one_view one other is = cc
 
--- a view is given where it has no fault
-given : (told : Option Refusal) (meant got : ViewDef) → view_unless told meant ≡ Ok got → (told ≡ None) × (meant ≡ got)
-given None meant got is = (refl, cc)
-given (Some why) meant got is = absurd (cc)
-
--- and refused for its fault
-told : (faults : Option Refusal) (meant : ViewDef) (why : Refusal) → view_unless faults meant ≡ Err why → faults ≡ Some why
-told None meant why is = absurd (cc)
-told (Some fault) meant why is = cc
-
--- so a view that is bound has no fault
-pub view-given : (db : Db) (view : ViewCreate) (definition : ViewDef) → bound_view db.schema view ≡ Ok definition
-    → (lowest (view_faults db.schema view) ≡ None) × (new_view db.schema view ≡ definition)
-unfolding bound_view
-view-given db view definition is = given (lowest (view_faults db.schema view)) (new_view db.schema view) definition is
-
--- there is room for a view that is bound
-many : (parts : List Refusal) (test : Bool) (why : Refusal) → parts ++ (if test then why ∷ [] else []) ≡ [] → test ≡ false
-many parts test why none = none-if test why (none-last parts (if test then why ∷ [] else []) none)
-
-pub view-room : (db : Db) (view : ViewCreate) (definition : ViewDef) → bound_view db.schema view ≡ Ok definition → length db.schema.views < VIEWS
-unfolding view_faults
-view-room db view definition is =
-    let none = none-lowest (view_faults db.schema view) (view-given db view definition is).0 in
-    let past = many _ (nat_lt VIEWS (length db.schema.views + 1)) _ none in
-    let most = ltb-false VIEWS (length db.schema.views + 1) past in
-    omega arith
-
 -- the view at the end, with its text
 pub view-made : (db : Db) (view : ViewCreate) (definition : ViewDef) (text : List ℕ) → new_view db.schema view ≡ definition → IsViewText view text
     → record {
@@ -145,7 +118,7 @@ pub view-follows : (db next : Db) (view : ViewCreate) (text : List ℕ) (definit
     → bound_view db.schema view ≡ Ok definition → nat_lt STORE_WEIGHT (weighs + view_weight db definition) ≡ false → weighs + view_weight db definition ≡ size
     → next ≡ create_view db view → CreatesView db text next × (weight next ≡ size)
 view-follows db next view text definition weighs size sound weighs_is text_is is light size_is next_is =
-    let by = view-given db view definition is in (
+    let by = view-given db.schema view definition is in (
       record {
         view = view;
         text_of = text_is;
@@ -162,14 +135,13 @@ pub view-heavy : (db after : Db) (view : ViewCreate) (text : List ℕ) (definiti
 view-heavy db after view text definition weighs sound weighs_is text_is is heavy made =
     let same = one_view made.view view (one-create (OfView made.view) (OfView view) _ made.text_of text_is) in
     let after_is = made.after_is ∙ ap (create_view db) same in
-    never_both _ _ (judged db view definition weighs true sound weighs_is (view-given db view definition is).1 heavy) (sym (ap fault after_is) ∙ made.faultless)
+    never_both _ _ (judged db view definition weighs true sound weighs_is (view-given db.schema view definition is).1 heavy) (sym (ap fault after_is) ∙ made.faultless)
 
 -- a view that is refused doesn't follow
 pub view-refused : (db after : Db) (view : ViewCreate) (text : List ℕ) (why : Refusal) → IsViewText view text → bound_view db.schema view ≡ Err why → ¬ CreatesView db text after
-unfolding bound_view
 view-refused db after view text why text_is is made =
     let same = one_view made.view view (one-create (OfView made.view) (OfView view) _ made.text_of text_is) in
-    never_both _ why (told (lowest (view_faults db.schema view)) (new_view db.schema view) why is)
+    never_both _ why (view-told db.schema view why is)
     (subst (λ (view : ViewCreate). lowest (view_faults db.schema view) ≡ None) same made.admitted)
 
 -- ---- without rows

@@ -14,9 +14,9 @@ use Rattle.own_model.specs.declared.schema.ViewDef.{ViewDef}
 use Rattle.own_model.specs.declared.statement.Statement.TheVariants.{CreateTable, CreateView}
 use Rattle.own_model.specs.Db.{Db}
 use Rattle.own_model.specs.Stored.{holds_rows}
-use Rattle.query_model.specs.BoundView.{bound_view, new_view, view_faults, view_unless as given_unless}
+use Rattle.query_model.specs.BoundView.{bound_view, new_view, view_faults}
 use Rattle.query_model.specs.Refused.{lowest}
-use Rattle.query_model.proofs.NoFaults.{none-if, none-last, none-lowest}
+use Rattle.query_model.proofs.ViewFaults.{view-given, view-told}
 use Rattle.schema_model.specs.Refusal.{refusal_of}
 use Rattle.schema_model.specs.WithTable.{with_table}
 use Rattle.store_version.specs.Added.{db_viewed, db_with}
@@ -59,37 +59,23 @@ tells-uncreated db table why answer is told stays =
 
 -- ---- views
 
--- a view is given where it has no fault
-given : (told : Option Refusal) (meant got : ViewDef) → given_unless told meant ≡ Ok got → (told ≡ None) × (meant ≡ got)
-given None meant got is = (refl, cc)
-given (Some fault) meant got is = absurd (cc)
-
-told : (faults : Option Refusal) (meant : ViewDef) (why : Refusal) → given_unless faults meant ≡ Err why → faults ≡ Some why
-told None meant why is = absurd (cc)
-told (Some fault) meant why is = cc
-
-pub view-given : (db : Db) (view : ViewCreate) (definition : ViewDef) → bound_view db.schema view ≡ Ok definition
-    → (lowest (view_faults db.schema view) ≡ None) × (new_view db.schema view ≡ definition)
-unfolding bound_view
-view-given db view definition is = given (lowest (view_faults db.schema view)) (new_view db.schema view) definition is
-
 -- a view that is bound adds itself and its text
 pub next-view : (db next : Db) (view : ViewCreate) (definition : ViewDef) (text : List ℕ) → bound_view db.schema view ≡ Ok definition
     → text ≡ canonical (CreateView view) → next ≡ db_viewed db definition text → next ≡ create_view db view
 unfolding create_view with_view
 next-view db next view definition text is text_is next_is =
-    let by = view-given db view definition is in
+    let by = view-given db.schema view definition is in
     next_is ∙ (rw (by.1, text_is) refl)
 
 pub made-view : (db next : Db) (view : ViewCreate) (definition : ViewDef) → bound_view db.schema view ≡ Ok definition → next ≡ create_view db view → add_view db view ≡ record { db = next; reply = Done }
 unfolding add_view
 made-view db next view definition is next_is =
-    let by = view-given db view definition is in
+    let by = view-given db.schema view definition is in
     rw by.0 (outcome (create_view db view) next Done (sym next_is))
 
 view-refused : (db : Db) (view : ViewCreate) (why : Refusal) → bound_view db.schema view ≡ Err why → add_view db view ≡ answered db (Refused why)
-unfolding add_view bound_view
-view-refused db view why is = rw (told (lowest (view_faults db.schema view)) (new_view db.schema view) why is) refl
+unfolding add_view
+view-refused db view why is = rw (view-told db.schema view why is) refl
 
 -- one that is refused is told why, and the database is left
 pub tells-unviewed : {written : Written} (db : Db) (view : ViewCreate) (why : Refusal) (answer : Answer) → bound_view db.schema view ≡ Err why → answer.reply ≡ Refused why → answer.next ≡ None
@@ -104,15 +90,3 @@ pub tells-heavy : {written : Written} (db : Db) (view : ViewCreate) (definition 
 tells-heavy db view definition why answer is heavy told stays =
     let made = made-view db (create_view db view) view definition is refl in
     tells-refused db (add_view db view).db true _ why answer (λ verdict. rw (made, heavy) refl) told stays
-
--- there is room for a view that is bound
-many : (parts : List Refusal) (b : Bool) (fault : Refusal) → parts ++ (if b then fault ∷ [] else []) ≡ [] → b ≡ false
-many parts b fault none = none-if b fault (none-last parts (if b then fault ∷ [] else []) none)
-
-pub view-room : (db : Db) (view : ViewCreate) (definition : ViewDef) → bound_view db.schema view ≡ Ok definition → length db.schema.views < VIEWS
-unfolding view_faults
-view-room db view definition is =
-    let none = none-lowest (view_faults db.schema view) (view-given db view definition is).0 in
-    let past = many _ (nat_lt VIEWS (length db.schema.views + 1)) _ none in
-    let most = ltb-false VIEWS (length db.schema.views + 1) past in
-    omega arith

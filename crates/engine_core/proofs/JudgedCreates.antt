@@ -23,7 +23,7 @@ use Rattle.state_model.proofs.ViewSound.{fault-create_view, weight-create_view}
 use Rattle.commit_check.specs.Judged.{IsJudged, IsWeighed}
 use Rattle.commit_check.specs.declared.judged.Judged.{Judged}
 use Rattle.commit_check.specs.declared.judged.Judged.TheVariants.{Fault, Weighs}
-use Rattle.engine_core.proofs.CreatedTables.{view-given}
+use Rattle.query_model.proofs.ViewFaults.{view-given}
 
 -- a table that is admitted breaks nothing and weighs nothing
 pub judged-table : (db next : Db) (table : TableCreate) (weighs : ℕ) → Sound db → weight db ≡ weighs → IsReadable (Run (CreateTable table))
@@ -41,7 +41,7 @@ judged-weighed db whole (Weighs size) only weight_is weighed = (only ∙ (rw wei
 pub judged-view : (db : Db) (view : ViewCreate) (definition : ViewDef) (weighs : ℕ) (judged : Judged) → Sound db → weight db ≡ weighs → bound_view db.schema view ≡ Ok definition
     → IsWeighed (weighs + view_weight db definition) judged → IsJudged (create_view db view) judged
 judged-view db view definition weighs judged sound weight_is is weighed =
-    let by = view-given db view definition is in
+    let by = view-given db.schema view definition is in
     let whole : weight db + view_weight db (new_view db.schema view) ≡ weighs + view_weight db definition =
     ap (λ n. n + view_weight db (new_view db.schema view)) weight_is ∙ ap (λ view. weighs + view_weight db view) by.1 in
     judged-weighed (create_view db view) (weighs + view_weight db definition) judged

@@ -28,7 +28,7 @@ gives-or P first second one other value terminals rest (inl by) = one value term
 gives-or P first second one other value terminals rest (inr by) = other value terminals rest by
 
 -- each of many
-gives-many : {A : Type 0} (P : A → Type 0) (languages : ℕ → Language A) → ((count : ℕ) → Gives P (languages count)) → (values : List A) (count : ℕ) (terminals rest : Terminals)
+pub gives-many : {A : Type 0} (P : A → Type 0) (languages : ℕ → Language A) → ((count : ℕ) → Gives P (languages count)) → (values : List A) (count : ℕ) (terminals rest : Terminals)
     → many_from languages count values terminals rest → AllByRecursion P values
 gives-many P languages gives [] count terminals rest by = tt
 gives-many P languages gives (value ∷ values) count terminals rest by =

@@ -15,7 +15,7 @@ use row_reading::definition_of;
 use std::alloc::{AllocError, Global};
 
 /// One row more, where WHERE keeps it, behind the rows so far.
-fn keep<'a>(
+pub fn keep<'a>(
     kept: &mut RowList<'a>,
     row: &'a Row,
     cond: Option<&BoundCond>,

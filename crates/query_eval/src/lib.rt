@@ -25,7 +25,7 @@ mod value_index;
 mod value_tallies;
 mod views;
 
-pub use kept::kept_in_table;
+pub use kept::{keep, kept_in_table};
 pub use reply::select_reply;
 pub use row_list::RowList;
 pub use selection::select_kept;

@@ -8,3 +8,4 @@ pub mod TruthByVariant
 pub mod ValueOrder
 pub mod ViewLimits
 pub mod NoFaults
+pub mod ViewFaults

@@ -30,13 +30,13 @@ abbrev pub table_names : Schema → List TableNames
 table_names schema = map names_of_table schema.tables ++ map names_of_view schema.views
 
 -- the names of the columns that a SELECT shows
-abbrev pub shown_columns : List TableNames → Request → List (List ℕ)
-shown_columns tables (Run (Select select)) = select_columns tables select
-shown_columns tables request = []
+abbrev pub statement_columns : List TableNames → Request → List (List ℕ)
+statement_columns tables (Run (Select select)) = select_columns tables select
+statement_columns tables request = []
 
 -- the names of a reply's columns, where it shows the rows of a SELECT; else none
 abbrev pub reply_columns : List TableNames → Request → Reply → List (List ℕ)
-reply_columns tables request (Rows rows) = shown_columns tables request
+reply_columns tables request (Rows rows) = statement_columns tables request
 reply_columns tables request reply = []
 
 -- the same by the last request, if there is one

@@ -19,7 +19,7 @@ use Rattle.grammar_model.specs.Limits.{Limits, fits, store_limits}
 use Rattle.grammar_model.specs.Readable.{IsWritten}
 use Rattle.grammar_model.specs.Terminal.{Terminals}
 use Rattle.grammar_model.specs.Values.{SlotIs}
-use Rattle.grammar_model.proofs.Languages.{Gives, gives-bind, gives-or, gives-own, gives-pure}
+use Rattle.grammar_model.proofs.Languages.{Gives, gives-bind, gives-many, gives-or, gives-own, gives-pure}
 use Rattle.grammar_model.proofs.OwnRule.{written-own}
 use Rattle.query_model.specs.SelectFaults.{counts_or_sums, is_grouped, listed_items}
 
@@ -52,16 +52,11 @@ within-plain false item plain = λ value terminals rest by. subst IsPlain (sym b
 item-plain : (limits : Limits) (count : ℕ) → Gives IsPlain (item_after (rules.citem limits) limits count)
 item-plain limits count = within-plain (fits limits.items (count + 1)) (rules.citem limits) (citem-plain limits)
 
-many-plain : (languages : ℕ → Language Item) → ((count : ℕ) → Gives IsPlain (languages count)) → (values : List Item) (count : ℕ) (terminals rest : Terminals)
-    → many_from languages count values terminals rest → AllByRecursion IsPlain values
-many-plain languages plain [] count terminals rest by = tt
-many-plain languages plain (value ∷ values) count terminals rest by = (plain count value terminals by.0 by.1, many-plain languages plain values (count + 1) by.0 rest by.2)
-
 items-plain : (limits : Limits) → Gives (AllByRecursion IsPlain) (rules.items (rules.citem limits) limits)
 unfolding rules.items
 items-plain limits =
     gives-own IsPlain (AllByRecursion IsPlain) _ _ (item-plain limits 0) (λ first plain. gives-own (AllByRecursion IsPlain) (AllByRecursion IsPlain) _ _
-    (λ values terminals rest by. many-plain _ (λ count. gives-bind IsPlain _ _ (λ _. item-plain limits count)) values 1 terminals rest by)
+    (λ values terminals rest by. gives-many IsPlain _ (λ count. gives-bind IsPlain _ _ (λ _. item-plain limits count)) values 1 terminals rest by)
     (λ others all. gives-pure (AllByRecursion IsPlain) (first ∷ others) (plain, all)))
 
 none-counted : (items : List Item) → AllByRecursion IsPlain items → list_any counts_or_sums items ≡ false

@@ -29,6 +29,7 @@ use Rattle.query_model.specs.Scope.{NameBytes, table_named}
 use Rattle.query_model.specs.SelectMeaning.{bound_select}
 use Rattle.query_model.specs.Stored.{AreStored, IsStoredRow}
 use Rattle.query_model.proofs.NoFaults.{none-lowest}
+use Rattle.query_model.proofs.ViewFaults.{view-given}
 use Rattle.query_eval.specs.Sources.{IsBaseOf}
 use Rattle.state_model.specs.Create.{with_view}
 use Rattle.state_model.specs.Created.{Create, IsAdmitted, IsCreated, IsReadableCreate, OfTable, OfView, with_create}
@@ -79,14 +80,9 @@ new-of_view schema view of none =
     }
 
 -- and so is the one that binding gives
-given : (told : Option Refusal) (meant got : ViewDef) → view_unless told meant ≡ Ok got → (told ≡ None) × (meant ≡ got)
-given None meant got is = (refl, cc)
-given (Some why) meant got is = absurd (cc)
-
 pub bound-of_view : (schema : Schema) (create : CreateView) (most : ℕ) (view : ViewDef) → IsWritten most (statement.CreateView create) → bound_view schema create ≡ Ok view → IsViewOf schema view
-unfolding bound_view
 bound-of_view schema create most view written bound =
-    let is = given (lowest (view_faults schema create)) (new_view schema create) view bound in
+    let is = view-given schema create view bound in
     subst (IsViewOf schema) is.1 (new-of_view schema create (written_of_view most create written) (none-lowest (view_faults schema create) is.0))
 
 views-kept : (schema : Schema) (create : Create) → AreViewsOf schema → IsReadableCreate create → IsAdmitted schema create → AreViewsOf (with_create schema create)

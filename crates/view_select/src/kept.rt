@@ -1,4 +1,4 @@
-ghost use Rattle.std.specs.Prelude.{◌≡◌, ◌∷◌, ◌++◌, [], filter, map, IfOk, OnOk};
+ghost use Rattle.std.specs.Prelude.{◌≡◌, ◌++◌, filter, map, IfOk, OnOk};
 ghost use Rattle.std.specs.Option.{option_copied};
 ghost use Rattle.own_model.specs.declared.bound.Source1.TheVariants.{View};
 ghost use Rattle.query_model.specs.Query.{source_rows};
@@ -8,24 +8,9 @@ ghost use Rattle.view_select.specs.ShowsViews.{ShowsViews};
 
 use own_base::{Row, ViewNo};
 use own_model::{BoundCond, StoreView};
-use pred_eval::keeps;
-use query_eval::RowList;
+use query_eval::{RowList, keep};
 use std::alloc::{AllocError, Global};
 use view_deltas::{Place, Views};
-
-/// One row more, where WHERE keeps it, behind the rows so far.
-fn keep<'a>(
-    kept: &mut RowList<'a>,
-    row: &'a Row,
-    cond: Option<&BoundCond>,
-) -> Result<(), AllocError>
-    ensures { OnOk result (kept.new ≡ kept.old ++ filter (keeps (option_copied cond.entry)) (row.now ∷ [])) }
-{
-    if keeps(cond, row, None) {
-        kept.push(row)?;
-    }
-    Ok(())
-}
 
 /// Those of some more rows of a view that WHERE keeps, behind the rows so far.
 fn keep_more<'a>(

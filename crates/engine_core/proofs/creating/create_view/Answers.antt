@@ -6,7 +6,8 @@ use Rattle.readable_model.proofs.Within.{view_within}
 use Rattle.text_model.specs.Canonical.{canonical}
 use Rattle.commit_check.specs.declared.judged.Judged.TheVariants.{Fault}
 use Rattle.state_model.proofs.CreatedSchema.{views_within-created}
-use Rattle.engine_core.proofs.CreatedTables.{next-view, tells-heavy, tells-unviewed, view-room}
+use Rattle.query_model.proofs.ViewFaults.{view-room}
+use Rattle.engine_core.proofs.CreatedTables.{next-view, tells-heavy, tells-unviewed}
 use Rattle.engine_core.proofs.JudgedCreates.{judged-view}
 use Rattle.engine_core.proofs.RecordedCreates.{tells-view}
 use Rattle.engine_core.proofs.creating.create_view.Goals as goal
@@ -21,7 +22,7 @@ pub prepare_view-requires : goal.prepare_view-requires
 prepare_view-requires c =
     let bound = rw (c.schema.ensures.same, c.catalog.ensures.schema) at c.in-Ok.ensures.ok in
     record {
-      room = view-room c.args.version.now c.args.create.now c.in-Ok.definition bound;
+      room = view-room c.args.version.now.schema c.args.create.now c.in-Ok.definition bound;
       bound = record { create = c.args.create.now; most = STATEMENT_BYTES; written = subst (IsWritten STATEMENT_BYTES) c.requires.of c.requires.written; bound = bound };
       well_formed = c.requires.sound.well_formed;
     }

@@ -4,7 +4,8 @@ use Rattle.own_model.specs.declared.limit.TheConstants.{STATEMENT_BYTES}
 use Rattle.readable_model.proofs.Within.{view_within}
 use Rattle.text_model.specs.Canonical.{canonical}
 use Rattle.state_model.proofs.CreatedSchema.{views_within-created}
-use Rattle.engine_core.proofs.CreatedTables.{made-view, next-view, view-room}
+use Rattle.query_model.proofs.ViewFaults.{view-room}
+use Rattle.engine_core.proofs.CreatedTables.{made-view, next-view}
 use Rattle.state_tests.proofs.KeptNext.{kept-view}
 use Rattle.state_tests.proofs.kept.with_view.Goals as goal
 
@@ -18,7 +19,7 @@ pub prepare_view-requires : goal.prepare_view-requires
 prepare_view-requires g c =
     let bound = rw (c.schema.ensures.same, c.catalog.ensures.schema) at c.in-Ok.ensures.ok in
     record {
-      room = view-room c.args.version.now c.args.create.now c.in-Ok.definition bound;
+      room = view-room c.args.version.now.schema c.args.create.now c.in-Ok.definition bound;
       bound = record { create = c.args.create.now; most = STATEMENT_BYTES; written = subst (IsWritten STATEMENT_BYTES) c.requires.of c.requires.written; bound = bound };
       well_formed = c.requires.well_formed;
     }
