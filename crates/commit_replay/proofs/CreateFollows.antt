@@ -1,11 +1,10 @@
 -- When a CREATE follows, and what it leaves.
-use Rattle.std.proofs.Common.{◌≡◌, ℕ, ◌+◌, ◌<◌, List, [], ◌∷◌, ◌++◌, Bool, true, false, length, refl, sym, ap, subst, ◌∙◌, arith}
+use Rattle.std.proofs.Common.{◌≡◌, ℕ, ◌+◌, List, [], ◌∷◌, ◌++◌, Bool, true, false, refl, sym, ap, subst, ◌∙◌}
 use Rattle.std.specs.Prelude.{Option, None, Some, Ok, Err, nat_lt, if◌then◌else◌}
-use Rattle.std.proofs.lemmas.Bool.{ltb-false}
 use Rattle.own_model.specs.declared.create.CreateTable.{CreateTable as TableCreate}
 use Rattle.own_model.specs.declared.create.CreateView.{CreateView as ViewCreate}
 use Rattle.own_model.specs.declared.limit.LimitName.TheVariants as limit
-use Rattle.own_model.specs.declared.limit.TheConstants.{STORE_WEIGHT, VIEWS}
+use Rattle.own_model.specs.declared.limit.TheConstants.{STORE_WEIGHT}
 use Rattle.own_model.specs.declared.refusal.Refusal.{Refusal}
 use Rattle.own_model.specs.declared.refusal.Refusal.TheVariants.{Limit}
 use Rattle.own_model.specs.declared.schema.CreateText.{CreateText}
@@ -20,7 +19,6 @@ use Rattle.schema_model.specs.Refusal.{refusal_of}
 use Rattle.schema_model.specs.WithTable.{with_table}
 use Rattle.query_model.specs.BoundView.{bound_view, new_view, view_faults}
 use Rattle.query_model.specs.Refused.{lowest}
-use Rattle.query_model.proofs.NoFaults.{none-lowest}
 use Rattle.query_model.proofs.ViewFaults.{view-given, view-told}
 use Rattle.state_model.specs.Create.{create, create_view, kept_text, kept_view_text, with_view}
 use Rattle.state_model.specs.Created.{Create, IsAdmitted, OfTable, OfView}

@@ -1,12 +1,10 @@
 -- What a CREATE that is admitted does to a database.
-use Rattle.std.proofs.Common.{◌≡◌, ℕ, ◌+◌, ◌<◌, List, [], ◌∷◌, ◌++◌, length, Bool, true, false, refl, sym, ap, ◌∙◌, arith}
-use Rattle.std.specs.Prelude.{Ok, Err, None, Some, Option, nat_lt, if◌then◌else◌}
-use Rattle.std.proofs.lemmas.Bool.{ltb-false}
+use Rattle.std.proofs.Common.{◌≡◌, ℕ, List, true, refl, sym, ap, ◌∙◌}
+use Rattle.std.specs.Prelude.{Ok, Err, None, Some}
 use Rattle.annot_schema.specs.declared.admitted.Admitted.{Admitted}
 use Rattle.annot_schema.specs.Created.{IsAdmitted}
 use Rattle.own_model.specs.declared.create.CreateTable.{CreateTable as TableCreate}
 use Rattle.own_model.specs.declared.create.CreateView.{CreateView as ViewCreate}
-use Rattle.own_model.specs.declared.limit.TheConstants.{VIEWS}
 use Rattle.own_model.specs.declared.refusal.Refusal.{Refusal}
 use Rattle.own_model.specs.declared.reply.Reply.{Reply}
 use Rattle.own_model.specs.declared.reply.Reply.TheVariants.{Done, Refused}
@@ -14,8 +12,7 @@ use Rattle.own_model.specs.declared.schema.ViewDef.{ViewDef}
 use Rattle.own_model.specs.declared.statement.Statement.TheVariants.{CreateTable, CreateView}
 use Rattle.own_model.specs.Db.{Db}
 use Rattle.own_model.specs.Stored.{holds_rows}
-use Rattle.query_model.specs.BoundView.{bound_view, new_view, view_faults}
-use Rattle.query_model.specs.Refused.{lowest}
+use Rattle.query_model.specs.BoundView.{bound_view}
 use Rattle.query_model.proofs.ViewFaults.{view-given, view-told}
 use Rattle.schema_model.specs.Refusal.{refusal_of}
 use Rattle.schema_model.specs.WithTable.{with_table}

@@ -1,5 +1,5 @@
 -- A transaction that leaves the tables which a view reads leaves what the view shows.
-use Rattle.std.proofs.Common.{◌≡◌, ◌<◌, ℕ, List, [], length, refl, sym, ap, ◌∙◌}
+use Rattle.std.proofs.Common.{◌≡◌, List, [], sym, ap, ◌∙◌}
 use Rattle.std.specs.Prelude.{Option, Some, slice_get}
 use Rattle.std.specs.Option.{option_map_or}
 use Rattle.own_base.specs.declared.number.ColNo.{ColNo}
@@ -10,7 +10,6 @@ use Rattle.own_model.specs.declared.bound.Source1.{Source1}
 use Rattle.own_model.specs.declared.bound.Source1.TheVariants.{Pair, Table, View}
 use Rattle.own_model.specs.declared.schema.ViewDef.{ViewDef}
 use Rattle.own_model.specs.Db.{Db, Row}
-use Rattle.own_model.specs.Stored.{rows_at}
 use Rattle.query_model.specs.Query.{base_rows, joined, query_rows, selected, source_rows, view_rows}
 use Rattle.own_model.specs.declared.schema.Schema.{Schema}
 use Rattle.txn_space.specs.declared.entry.Entry.{Entry}

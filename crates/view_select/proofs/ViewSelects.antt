@@ -14,7 +14,7 @@ use Rattle.own_model.specs.declared.statement.Statement.{Statement}
 use Rattle.grammar_model.specs.Grammar as rules
 use Rattle.grammar_model.specs.Grammar.{item_after}
 use Rattle.grammar_model.specs.Language as languages
-use Rattle.grammar_model.specs.Language.{Language, one, ◌>>=◌, ◌>>◌, ◌or◌, pure, many_from, whether}
+use Rattle.grammar_model.specs.Language.{Language, one, ◌>>=◌, ◌>>◌, ◌or◌, pure, whether}
 use Rattle.grammar_model.specs.Limits.{Limits, fits, store_limits}
 use Rattle.grammar_model.specs.Readable.{IsWritten}
 use Rattle.grammar_model.specs.Terminal.{Terminals}

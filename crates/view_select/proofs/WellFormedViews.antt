@@ -9,7 +9,6 @@ use Rattle.own_model.specs.declared.bound.Source1.{Source1}
 use Rattle.own_model.specs.declared.bound.Source1.TheVariants.{Pair, Table, View}
 use Rattle.own_model.specs.declared.condition.Cond.{Cond}
 use Rattle.own_model.specs.declared.create.CreateView.{CreateView}
-use Rattle.own_model.specs.declared.refusal.Refusal.{Refusal}
 use Rattle.own_model.specs.declared.schema.Schema.{Schema}
 use Rattle.own_model.specs.declared.schema.TableDef.{TableDef}
 use Rattle.own_model.specs.declared.schema.ViewDef.{ViewDef}
@@ -23,8 +22,7 @@ use Rattle.grammar_model.specs.Readable.{IsWritten}
 use Rattle.schema_model.specs.NewTable.{new_table}
 use Rattle.schema_model.specs.WithTable.{with_table}
 use Rattle.schema_model.proofs.Places.{all-append, all-weaker}
-use Rattle.query_model.specs.BoundView.{bound_view, new_view, view_faults, view_unless}
-use Rattle.query_model.specs.Refused.{lowest}
+use Rattle.query_model.specs.BoundView.{bound_view, new_view, view_faults}
 use Rattle.query_model.specs.Scope.{NameBytes, table_named}
 use Rattle.query_model.specs.SelectMeaning.{bound_select}
 use Rattle.query_model.specs.Stored.{AreStored, IsStoredRow}
