@@ -1,2 +1,3 @@
-mod LargeCalls
+pub mod LargeCalls
 pub mod ShortTexts
+pub mod AnsweredLemmas

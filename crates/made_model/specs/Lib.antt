@@ -1,3 +1,4 @@
+pub mod Answered
 pub mod Draw
 pub mod Made
 pub mod MadeTexts

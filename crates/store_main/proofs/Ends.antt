@@ -10,13 +10,15 @@ use Rattle.crash_model.specs.StoreIn.{IsStoreIn}
 use Rattle.store_top.specs.declared.served.TopFault.{TopFault}
 use Rattle.store_top.specs.declared.served.TopFault.TheVariants.{Usage, Memory}
 use Rattle.store_top.specs.OnDisk.{OnDisk}
-use Rattle.store_top.proofs.RanLemmas.{ran-out_of_memory, ran-usage, reads-nothing}
+use Rattle.store_words.specs.declared.words.Mode.{Mode}
+use Rattle.store_top.proofs.RanLemmas.{ran-usage, reads-nothing}
+use Rattle.store_top.proofs.RanAsLemmas.{ran_as-out_of_memory}
 use Rattle.store_main.specs.Ended.{IsFresh, RanOver}
 
 module _ {R W : Type 0} (remaining : R → Option (List ℕ)) (reads : R → ℕ) (read_fails : R → R → Type 0)
     (written : W → Option (List ℕ)) (writes : W → ℕ) (write_fails : W → W → Type 0) (in_memory : Bool) (source : R) (sink : W) where
   -- the words were no mode's
-  pub over-usage : RanOver remaining reads read_fails written writes write_fails in_memory source source sink sink (Some Usage)
+  pub over-usage : RanOver remaining reads read_fails written writes write_fails in_memory None source source sink sink (Some Usage)
   over-usage = record {
     opened = None;
     history = [];
@@ -26,13 +28,12 @@ module _ {R W : Type 0} (remaining : R → Option (List ℕ)) (reads : R → ℕ
   }
 
   -- memory was refused
-  pub over-memory : RanOver remaining reads read_fails written writes write_fails in_memory source source sink sink (Some Memory)
-  over-memory = record {
+  pub over-memory : (mode : Option Mode) → RanOver remaining reads read_fails written writes write_fails in_memory mode source source sink sink (Some Memory)
+  over-memory mode = record {
     opened = None;
     history = [];
     fresh = λ is. tt;
-    ran = ran-out_of_memory remaining reads read_fails written writes write_fails source source sink sink None [] (record { unopened = refl; unwritten = refl; uncalled = refl })
-        (reads-nothing (remaining source)) refl;
+    ran = ran_as-out_of_memory remaining reads read_fails written writes write_fails source sink sink None [] (record { unopened = refl; unwritten = refl; uncalled = refl }) mode;
   }
 
 -- an area without bytes isn't opened

@@ -1,11 +1,11 @@
 ghost use Rattle.std.specs.Prelude.{◌≡◌, ◌≢◌, ◌⊎◌, ℕ, Some, None, false, true, map, string_bytes};
 ghost use Rattle.own_base.specs.declared.number.Area.{Area};
 ghost use Rattle.history_model.specs.History.{History};
+ghost use Rattle.store_top.specs.RanAs.{IsWholeAs};
 ghost use Rattle.store_top.specs.Status.{status_of};
-ghost use Rattle.store_top.specs.Top.{RunsWhole};
 ghost use Rattle.store_words.specs.Words.{mode_of};
 ghost use Rattle.store_main.specs.Ended.{IsOfWords, IsWithoutFiles, RanOver};
-ghost use Rattle.store_main.specs.Words.{is_in_memory, is_served};
+ghost use Rattle.store_main.specs.Words.{is_in_memory, is_served, served_mode};
 
 use crate::ending::{Ending, disk_failed, out_of_memory, usage};
 use outer_world::{FileDisk, NowGate, Sink, Source, StdinSource, StdoutSink, UnreadDisk};
@@ -28,10 +28,10 @@ pub(crate) fn serve_system<
     ensures unserved { is_served (map string_bytes words.now) ≡ false
         → IsOfWords result.fault ⊎ ((is_in_memory (map string_bytes words.now) ≡ false) × (result.fault ≡ Some TopFault.Disk)) }
 
-    // Without a fault some reader of the system was read to its end, and all the calls of what it gave were made.
+    // Without a fault all the calls were made: in mode step those of what some reader of the system gave, which was read to its end.
     ensures whole { result.fault ≡ None
         → (opened : _) × (history : History) × (before : Rt.Reader) × (after : Rt.Reader)
-        × RunsWhole (Rt.Reader.remaining before) (Rt.Reader.remaining after) None None opened history false }
+        × IsWholeAs (Rt.Reader.remaining before) (Rt.Reader.remaining after) None None opened history (served_mode (map string_bytes words.now)) }
 {
     let mut source = StdinSource::new(rt);
     let mut sink = StdoutSink::new(rt);
@@ -59,7 +59,7 @@ fn serve<Rt: Files<File = File> + AllocGlobal + Threads + Wait + Sync, R: Source
     ensures untouched { is_served (map string_bytes words.now) ≡ false → (source.new ≡ source.old) × (sink.new ≡ sink.old) }
 
     // What was read, made and written, by the fault.
-    ensures ran { RanOver R.remaining R.faults R.fails W.written W.faults W.fails (is_in_memory (map string_bytes words.now)) source.old source.new sink.old sink.new result.fault
+    ensures ran { RanOver R.remaining R.faults R.fails W.written W.faults W.fails (is_in_memory (map string_bytes words.now)) (served_mode (map string_bytes words.now)) source.old source.new sink.old sink.new result.fault
         ⊎ ((is_in_memory (map string_bytes words.now) ≡ false) × IsWithoutFiles source.old source.new sink.old sink.new result.fault) }
 {
     let [_, store, words @ ..] = words else {
@@ -82,7 +82,7 @@ fn serve_in_memory<Rt: AllocGlobal + Threads + Wait + Sync, R: Source, W: Sink>(
     ensures usage { result.fault ≡ Some TopFault.Usage → mode_of (map string_bytes words.now) ≡ None }
     ensures unserved { mode_of (map string_bytes words.now) ≡ None → IsOfWords result.fault }
     ensures untouched { mode_of (map string_bytes words.now) ≡ None → (source.new ≡ source.old) × (sink.new ≡ sink.old) }
-    ensures ran { RanOver R.remaining R.faults R.fails W.written W.faults W.fails true source.old source.new sink.old sink.new result.fault }
+    ensures ran { RanOver R.remaining R.faults R.fails W.written W.faults W.fails true (mode_of (map string_bytes words.now)) source.old source.new sink.old sink.new result.fault }
 
     // It isn't damaged.
     ensures undamaged { (area : Area) (offset : ℕ) → result.fault ≢ Some (TopFault.Damaged area offset) }
@@ -101,7 +101,7 @@ fn serve_in_folder<
     ensures usage { result.fault ≡ Some TopFault.Usage → mode_of (map string_bytes words.now) ≡ None }
     ensures unserved { mode_of (map string_bytes words.now) ≡ None → IsOfWords result.fault ⊎ (result.fault ≡ Some TopFault.Disk) }
     ensures untouched { mode_of (map string_bytes words.now) ≡ None → (source.new ≡ source.old) × (sink.new ≡ sink.old) }
-    ensures ran { RanOver R.remaining R.faults R.fails W.written W.faults W.fails false source.old source.new sink.old sink.new result.fault
+    ensures ran { RanOver R.remaining R.faults R.fails W.written W.faults W.fails false (mode_of (map string_bytes words.now)) source.old source.new sink.old sink.new result.fault
         ⊎ IsWithoutFiles source.old source.new sink.old sink.new result.fault }
 {
     match FileDisk::open(rt, folder) {

@@ -1,6 +1,7 @@
 -- What a call came to is what is told of it, and what it did to the disk.
 use Rattle.std.proofs.Common.{◌≡◌, ℕ, List, ◌∷◌, [], ◌++◌, Bool, true, false, length, refl, ap, append-nil, inl, inr, sym, ◌∙◌, arith}
-use Rattle.std.specs.Prelude.{◌<◌, ◌≢◌, None, Some, Result, IfOk}
+use Rattle.std.specs.Prelude.{◌<◌, ◌≢◌, Option, None, Some, Result, IfOk}
+use Rattle.std.specs.Option.{option_to_list}
 use Rattle.std.proofs.lemmas.Result.{IfOk-weaker}
 use Rattle.own_base.specs.declared.number.Area.{Area}
 use Rattle.own_model.specs.declared.history.Entry.{Entry}
@@ -11,49 +12,72 @@ use Rattle.own_model.specs.declared.reply.Reply.{Reply}
 use Rattle.own_model.specs.declared.reply.Reply.TheVariants.{Refused}
 use Rattle.own_model.specs.declared.script.ScriptCall.{ScriptCall}
 use Rattle.text_model.specs.Lines.{reply_lines}
-use Rattle.history_model.specs.History.{is_disk, reply}
-use Rattle.history_model.specs.Made.{Spared, Unmade, entry_of}
+use Rattle.own_model.specs.Db.{Db}
+use Rattle.history_model.specs.History.{History, is_disk, reply}
+use Rattle.history_model.specs.Made.{Want, Spared, Unmade, Unshown, entry_of, place_by}
 use Rattle.history_model.proofs.UnmadeLemmas.{from-unmade}
+use Rattle.made_model.specs.Answered.{answered_as}
 use Rattle.transcript_model.specs.Transcript.{text_of_call}
 use Rattle.engine_core.specs.Seen.{LeavesUnmade, Makes, Seen, Writes, disk_of}
 use Rattle.engine_core.specs.Stored.{is_fault}
-use Rattle.store_top.specs.Steps.{MakesCall, MovesDiskOnce, fails_at}
+use Rattle.store_top.specs.Steps.{AnswersCall, MakesCall, MovesDiskOnce, fails_at}
 use Rattle.store_top.proofs.Failures.{fails-past}
 
--- the lines of the reply of a call that was made are its text
-told_as_made : {D : Type 0} (call : ScriptCall) (verdict : Verdict) (before after : Seen D) (place : ℕ) (told : Reply) → Makes before after (entry_of call verdict) place told
-    → reply_lines (Some place) call.session.0 call.call told ≡ text_of_call before.base before.history call Spared verdict
-told_as_made call verdict before after place told makes =
+-- a call was made, and is answered by the reply at its place
+pub answers-made : {D : Type 0} (call : ScriptCall) (verdict : Verdict) (before after : Seen D) (place : ℕ) (told : Reply) → Makes before after (entry_of call verdict) place told
+    → AnswersCall before.base call before.history after.history (Some place) told
+answers-made call verdict before after place told makes =
     let answered : reply before.base (before.history ++ entry_of call verdict ∷ []) (length before.history) ≡ Some told = rw (makes.history, makes.stands) at makes.answered in
-    rw (makes.stands, answered) refl
+    record {
+      want = Spared;
+      verdict = verdict;
+      history_is = makes.history;
+      spared = λ unmade. cc;
+      shown = λ unshown. cc;
+      stands = ap Some makes.stands;
+      told_is = rw answered refl;
+    }
 
--- a call was made, and the lines of its reply were printed
-pub makes-call : {D T E : Type 0} (bytes_of : T → List ℕ) (call : ScriptCall) (verdict : Verdict) (before after : Seen D) (place : ℕ) (told : Reply) (result : Result T E)
-    → Makes before after (entry_of call verdict) place told
-    → IfOk result (λ text. bytes_of text ≡ reply_lines (Some place) call.session.0 call.call told)
-    → MakesCall bytes_of before.base call before.history after.history result
-makes-call bytes_of call verdict before after place told result makes printed = record {
-  want = Spared;
-  verdict = verdict;
-  history_is = makes.history;
-  spared = λ unmade. cc;
-  shown = λ unshown. cc;
-  text_is = IfOk-weaker result _ _ (λ text is. is ∙ told_as_made call verdict before after place told makes) printed;
-}
-
--- memory kept a call from being made, and that was printed
-pub leaves-call : {D T E : Type 0} (bytes_of : T → List ℕ) (call : ScriptCall) (before after : Seen D) (result : Result T E)
-    → 0 < before.spare
-    → LeavesUnmade before after (entry_of call Took)
-    → IfOk result (λ text. bytes_of text ≡ reply_lines None call.session.0 call.call (Refused Memory))
-    → MakesCall bytes_of before.base call before.history after.history result
-leaves-call bytes_of call before after result room leaves printed = record {
+-- memory kept a call from being made
+pub answers-unmade : {D : Type 0} (call : ScriptCall) (before after : Seen D) → 0 < before.spare → LeavesUnmade before after (entry_of call Took)
+    → AnswersCall before.base call before.history after.history None (Refused Memory)
+answers-unmade call before after room leaves = record {
   want = Unmade;
   verdict = Took;
   history_is = leaves.history ∙ sym (append-nil before.history);
   spared = λ unmade. from-unmade _ _ (entry_of call Took).request (leaves.spared room);
   shown = λ unshown. cc;
-  text_is = printed;
+  stands = refl;
+  told_is = refl;
+}
+
+of_one : (found : Option Reply) (told : Reply) → option_to_list found ≡ told ∷ [] → found ≡ Some told
+of_one None told is = cc
+of_one (Some reply) told is = ap Some (cc)
+
+-- the lines of what a call is answered are its text
+lines_are : (base : Db) (call : ScriptCall) (before : History) (want : Want) (verdict : Verdict) (place : Option ℕ) (told : Reply) → place ≡ place_by want (length before)
+    → answered_as base before (entry_of call verdict) want ≡ told ∷ [] → want ≢ Unshown
+    → reply_lines place call.session.0 call.call told ≡ text_of_call base before call want verdict
+lines_are base call before Spared verdict place told stands is shown =
+    let answered = of_one (reply base (before ++ entry_of call verdict ∷ []) (length before)) told is in
+    rw (stands, answered) refl
+lines_are base call before Unshown verdict place told stands is shown = absurd (shown refl)
+lines_are base call before Unmade verdict place told stands is shown =
+    let same : told ≡ Refused Memory = cc in
+    rw (stands, same) refl
+
+-- what a call is answered was printed
+pub makes-call : {T E : Type 0} (bytes_of : T → List ℕ) (base : Db) (call : ScriptCall) (before after : History) (place : Option ℕ) (told : Reply) (result : Result T E)
+    → AnswersCall base call before after place told → IfOk result (λ text. bytes_of text ≡ reply_lines place call.session.0 call.call told)
+    → MakesCall bytes_of base call before after result
+makes-call bytes_of base call before after place told result answers printed = record {
+  want = answers.want;
+  verdict = answers.verdict;
+  history_is = answers.history_is;
+  spared = answers.spared;
+  shown = answers.shown;
+  text_is = IfOk-weaker result _ _ (λ text is. is ∙ lines_are base call before answers.want answers.verdict place told answers.stands answers.told_is answers.shown) printed;
 }
 
 -- a call that was made was answered with a fault of the disk just where its reply tells that

@@ -7,3 +7,6 @@ pub mod RanLemmas
 pub mod ReadFaults
 pub mod Runs
 pub mod Serving
+pub mod Summing
+pub mod RanMadeLemmas
+pub mod RanAsLemmas

@@ -1,6 +1,7 @@
 -- What a run did to its disk, by how it ended.
-use Rattle.std.proofs.Common.{◌≡◌, ℕ, ◌≤◌, List, Bool, true, IsTrue, inl, inr, refl, ap, sym, subst, ◌∙◌, arith}
+use Rattle.std.proofs.Common.{◌≡◌, ℕ, ◌≤◌, List, [], Bool, true, IsTrue, inl, inr, refl, ap, sym, subst, ◌∙◌, arith}
 use Rattle.std.specs.Prelude.{◌≢◌, ◌⊎◌, Option, None, Some}
+use Rattle.std.specs.Io.KnownBytes.{Appends}
 use Rattle.own_base.specs.declared.number.Area.{Area}
 use Rattle.own_base.specs.declared.number.Area.TheVariants.{A, B}
 use Rattle.outer_world.specs.FaultCount.{CountRose}
@@ -25,8 +26,10 @@ use Rattle.store_top.specs.declared.served.TopFault.{TopFault}
 use Rattle.store_top.specs.declared.served.TopFault.TheVariants.{Disk, Damaged}
 use Rattle.store_top.specs.OnDisk.{IsServedOn, OnDisk}
 use Rattle.store_top.specs.Status.{unopened}
-use Rattle.store_top.specs.Steps.{HasFailed, MovesDisk}
-use Rattle.store_top.specs.Top.{IsBeforeOpening, ServesCalls}
+use Rattle.store_top.specs.declared.serving.Telling.{Telling}
+use Rattle.store_top.specs.declared.serving.Telling.TheVariants.{Lines, Summary}
+use Rattle.store_top.specs.Steps.{HasFailed, MovesDisk, RunsTo, StopsAtCall, SumsUp, ToldBefore, ToldInPart}
+use Rattle.store_top.specs.Top.{IsBeforeOpening, ServedBy, ServesCallsAs}
 use Rattle.store_top.proofs.Runs.{calls-failed, calls-later, calls-undamaged, calls-whole}
 
 -- which fault an opening's was
@@ -119,21 +122,30 @@ module _ {D : Type 0} (holds : D → Area → List ℕ) (leaves : D → Area →
     rose_since : HasFailed base history → CountRose (faults old) (faults new)
     rose_since failed = rw (← steady) (moves.rose failed)
 
-    pub on_disk-served : (calls : List ScriptCall) (written_old written_new : Option (List ℕ)) (rose : Type 0) (fault : Option TopFault)
-        → ServesCalls base calls history written_old written_new rose fault → Did fault
-    on_disk-served calls written_old written_new rose fault serves =
+    on_disk-served : (rose whole part before : Type 0) (fault : Option TopFault) → ServedBy base history rose whole part before fault → Did fault
+    on_disk-served rose whole part before fault serves =
         let later = moves.time in
         let risen = moves.risen in
         record {
-          rose = λ is. rose_since (calls-failed base calls history written_old written_new rose fault serves is);
+          rose = λ is. rose_since (calls-failed base history rose whole part before fault serves is);
           failed = λ of is failed. let same : of ≡ base = cc in rose_since (subst (λ db. HasFailed db history) same failed);
           steady = λ other none. moves.steady (none base over) ∙ steady;
-          whole = λ is. moves.steady (calls-whole base calls history written_old written_new rose fault serves is) ∙ steady;
+          whole = λ is. moves.steady (calls-whole base history rose whole part before fault serves is) ∙ steady;
           risen = omega arith;
-          untouched = λ before. absurd (calls-later base calls history written_old written_new rose fault serves before);
-          damaged = λ area offset is. absurd (calls-undamaged base calls history written_old written_new rose fault area offset serves is);
+          untouched = λ early. absurd (calls-later base history rose whole part before fault serves early);
+          damaged = λ area offset is. absurd (calls-undamaged base history rose whole part before fault area offset serves is);
           honesty = moves.honesty ∙ honesty;
           time = omega arith;
           unopened = λ none. let never : ⊥ = cc in absurd never;
           served = λ of is can. let same : base ≡ of = cc in subst (λ db. IsServedOn holds leaves moment might old new db history) same (served_on can);
         }
+
+    -- whatever was told of them
+    pub on_disk-served_as : (telling : Telling) (calls : List ScriptCall) (written_old written_new : Option (List ℕ)) (rose : Type 0) (fault : Option TopFault)
+        → ServesCallsAs telling base calls history written_old written_new rose fault → Did fault
+    on_disk-served_as Lines calls written_old written_new rose fault serves =
+        on_disk-served rose (RunsTo base calls history written_old written_new) (StopsAtCall base calls history (ToldInPart written_old written_new))
+        (StopsAtCall base calls history (ToldBefore written_old written_new)) fault serves
+    on_disk-served_as Summary calls written_old written_new rose fault serves =
+        on_disk-served rose (SumsUp base calls history (Appends written_old written_new)) (SumsUp base calls history (ToldInPart written_old written_new []))
+        (SumsUp base calls history (ToldBefore written_old written_new [])) fault serves

@@ -1,6 +1,6 @@
 -- From the calls of an input to a run.
 use Rattle.std.proofs.Common.{◌≡◌, ℕ, ◌≤◌, length, List, [], true, false, refl, inl, inr}
-use Rattle.std.specs.Prelude.{Option, None, Some, Err, ◌⊎◌}
+use Rattle.std.specs.Prelude.{Option, None, Some, Bool, Result, Ok, Err, IfOk, OnOk, ◌⊎◌}
 use Rattle.std.specs.Io.KnownBytes.{Consumes, IsAtEnd}
 use Rattle.own_base.specs.declared.number.Area.{Area}
 use Rattle.own_model.specs.declared.limit.TheConstants.{INPUT_BYTES}
@@ -13,8 +13,12 @@ use Rattle.script_model.specs.Script.{HasCalls, IsScript}
 use Rattle.script_model.proofs.InputCalls.{calls-few, calls-sessions}
 use Rattle.store_top.specs.declared.served.TopFault.{TopFault}
 use Rattle.store_top.specs.declared.served.TopFault.TheVariants.{Usage, Read, Write, Disk, Damaged, Input, Memory}
-use Rattle.store_top.specs.Steps.{AreOfInput, HasFailed, TellsFailure, ToldBefore, ToldInPart}
-use Rattle.store_top.specs.Top.{IsBeforeOpening, IsOfOpening, IsUnserved, IsUnservedInput, ReadsAtMost, ReadsScript, RefusesInput, RunsInPart, RunsWhole, ServesBytes, ServesCalls, ServesScript}
+use Rattle.store_top.specs.declared.serving.Telling.TheVariants.{Lines}
+use Rattle.store_top.specs.declared.steps.RunFault.{RunFault}
+use Rattle.store_top.specs.declared.steps.RunFault.TheVariants as running
+use Rattle.store_top.specs.Status.{fault_of}
+use Rattle.store_top.specs.Steps.{AreOfInput, HasFailed, RunsTo, StopsAtCall, TellsFailure, ToldBefore, ToldInPart}
+use Rattle.store_top.specs.Top.{IsBeforeOpening, IsOfOpening, IsUnserved, IsUnservedInput, ReadsAtMost, ReadsScript, RefusesInput, RunsInPart, RunsWhole, ServedBy, ServesBytes, ServesScript}
 
 -- bytes that have calls, by whose fault no store was opened
 unserved_by : (bytes : List ℕ) (calls : List ScriptCall) (fault : Option TopFault) → HasCalls bytes calls → IsOfOpening fault → IsUnservedInput bytes fault
@@ -29,7 +33,7 @@ unserved_by bytes calls (Some Memory) is of = is.lawful.text
 
 -- what serving the calls of an input left
 pub bytes_by_calls : (bytes : List ℕ) (calls : List ScriptCall) (opened : Option Db) (history : History) (old new : Option (List ℕ)) (rose silent : Type 0) (fault : Option TopFault)
-    → HasCalls bytes calls → ServesScript calls opened history old new rose silent fault → ServesBytes bytes opened history old new rose silent fault
+    → HasCalls bytes calls → ServesScript Lines calls opened history old new rose silent fault → ServesBytes bytes opened history old new rose silent fault
 bytes_by_calls bytes calls (Some base) history old new rose silent fault is serves = (calls, is, serves)
 bytes_by_calls bytes calls None history old new rose silent fault is serves = (serves.0, unserved_by bytes calls fault is serves.1)
 
@@ -46,9 +50,9 @@ not_long bytes (input.TooManyCalls byte) is other = is.1.text.short
 not_long bytes input.Memory is other = absurd is
 
 -- What serving calls over a database tells of a fault of the disk.
-module _ (base : Db) (calls : List ScriptCall) (history : History) (old new : Option (List ℕ)) (rose : Type 0) where
+module _ (base : Db) (history : History) (rose whole part before : Type 0) where
   abbrev Serves : Option TopFault → Type 0
-  Serves fault = ServesCalls base calls history old new rose fault
+  Serves fault = ServedBy base history rose whole part before fault
 
   pub calls-whole : (fault : Option TopFault) → Serves fault → fault ≡ None → TellsFailure false base history
   calls-whole fault serves is = let by : Serves None = rw is at serves in by.1
@@ -57,17 +61,25 @@ module _ (base : Db) (calls : List ScriptCall) (history : History) (old new : Op
   calls-failed fault serves is = let by : Serves (Some Disk) = rw is at serves in by.1
 
   pub calls-later : (fault : Option TopFault) → Serves fault → IsBeforeOpening fault → ⊥
-  calls-later None serves before = before
-  calls-later (Some Usage) serves before = serves
-  calls-later (Some Read) serves before = serves
-  calls-later (Some Write) serves before = before
-  calls-later (Some Disk) serves before = before
-  calls-later (Some (Damaged area offset)) serves before = before
-  calls-later (Some (Input fault)) serves before = serves
-  calls-later (Some Memory) serves before = before
+  calls-later None serves early = early
+  calls-later (Some Usage) serves early = serves
+  calls-later (Some Read) serves early = serves
+  calls-later (Some Write) serves early = early
+  calls-later (Some Disk) serves early = early
+  calls-later (Some (Damaged area offset)) serves early = early
+  calls-later (Some (Input fault)) serves early = serves
+  calls-later (Some Memory) serves early = early
 
   pub calls-undamaged : (fault : Option TopFault) (area : Area) (offset : ℕ) → Serves fault → fault ≡ Some (Damaged area offset) → ⊥
   calls-undamaged fault area offset serves is = let by : Serves (Some (Damaged area offset)) = rw is at serves in by
+
+  -- by what the calls came to, and whether one was answered so
+  pub calls-served : (served : Result Bool RunFault) → OnOk served whole → IfOk served (λ failed. TellsFailure failed base history) → (served ≡ Err running.Write → rose) → (served ≡ Err running.Write → part)
+      → (served ≡ Err running.Memory → before) → Serves (fault_of served)
+  calls-served (Ok true) told failed rises parts refuses = (told, failed)
+  calls-served (Ok false) told failed rises parts refuses = (told, failed)
+  calls-served (Err running.Write) told failed rises parts refuses = (rises refl, parts refl)
+  calls-served (Err running.Memory) told failed rises parts refuses = refuses refl
 
 -- What a run did whose input was read, by its fault.
 module _ {W : Type 0} (remaining_old remaining_new written_old written_new : Option (List ℕ)) (sink_old sink_new : W) (bytes : List ℕ) (history : History) (rose : Type 0)
@@ -145,5 +157,7 @@ module _ {W : Type 0} (remaining_old remaining_new written_old written_new : Opt
   run-not_unread None serves is = let by : BytesServed None (Some Read) = rw is at serves in by.1
 
   pub run-silent : (opened : Option Db) (of : Option TopFault) → BytesServed opened of → IsBeforeOpening of → IsUnserved sink_old sink_new opened history
-  run-silent None of serves before = unserved serves.0
-  run-silent (Some base) of serves before = absurd (calls-later base serves.0 history written_old written_new rose of serves.2 before)
+  run-silent None of serves early = unserved serves.0
+  run-silent (Some base) of serves early =
+      absurd (calls-later base history rose (RunsTo base serves.0 history written_old written_new) (StopsAtCall base serves.0 history (ToldInPart written_old written_new))
+      (StopsAtCall base serves.0 history (ToldBefore written_old written_new)) of serves.2 early)

@@ -8,14 +8,18 @@ use Rattle.outer_world.specs.LeavesOnly.{LeavesOnly}
 use Rattle.own_model.specs.declared.history.Verdict.{Verdict}
 use Rattle.own_model.specs.declared.limit.TheConstants.{INPUT_CALLS, SESSIONS}
 use Rattle.own_model.specs.declared.refusal.Refusal.TheVariants as refusal
+use Rattle.own_model.specs.declared.reply.Reply.{Reply}
 use Rattle.own_model.specs.declared.reply.Reply.TheVariants.{Refused}
 use Rattle.own_model.specs.declared.script.ScriptCall.{ScriptCall}
 use Rattle.own_model.specs.Db.{Db}
 use Rattle.grammar_model.specs.Readable.{IsReadable}
 use Rattle.script_model.specs.Split.{IsOfASession}
 use Rattle.history_model.specs.History.{History, is_disk, reply}
-use Rattle.history_model.specs.Made.{Want, Unmade, Unshown, added, entry_of}
+use Rattle.history_model.specs.Made.{Want, Unmade, Unshown, added, entry_of, place_by}
 use Rattle.history_model.specs.MayBeUnmade.{MayBeUnmade}
+use Rattle.made_model.specs.Answered.{AreAnswered, answered_as, counted}
+use Rattle.made_model.specs.Summary.{Summary, summary}
+use Rattle.made_model.specs.SummaryText.{summary_text}
 use Rattle.transcript_model.specs.Transcript.{IsTranscript, text_of_call}
 use Rattle.crash_model.specs.LeftBy.{IsLeftOf}
 use Rattle.engine_core.specs.Seen.{IsLeftByEither}
@@ -44,6 +48,17 @@ abbrev pub TellsCall : Result Bool RunFault → Option (List ℕ) → Option (Li
 TellsCall (Ok _) old new text = Appends old new text
 TellsCall (Err Write) old new text = ToldInPart old new [] text
 TellsCall (Err Memory) old new text = ToldBefore old new [] text
+
+-- The history grew by the call's entry, with what the disk said, unless memory kept the call from being made; the place is
+-- its own, and the reply what it was answered.
+pub record AnswersCall (base : Db) (call : ScriptCall) (before after : History) (place : Option ℕ) (told : Reply) : Type 0 where
+  pub want : Want
+  pub verdict : Verdict
+  pub history_is : after ≡ before ++ added (entry_of call verdict) want
+  pub spared : want ≡ Unmade → MayBeUnmade call.request
+  pub shown : want ≢ Unshown
+  pub stands : place ≡ place_by want (length before)
+  pub told_is : answered_as base before (entry_of call verdict) want ≡ told ∷ []
 
 -- The history grew by the call's entry, with what the disk said, unless memory kept the call from being made; and the text,
 -- where there is one, is the call's. A call that was made is told just as the history replies to it.
@@ -90,6 +105,27 @@ pub record StopsAtCall (base : Db) (calls : List ScriptCall) (history : History)
   pub spared : want ≡ Unmade → MayBeUnmade (entry_of last verdict).request
   pub made : IsTranscript base (done ++ last ∷ []) history (text ++ text_of_call base before last want verdict)
   pub told : Told text (text_of_call base before last want verdict)
+
+-- The history grew by the call, as above, and the summary of the calls' replies by what it was answered, unless it is an End.
+pub record TalliesCall (base : Db) (call : ScriptCall) (before after : History) (old new : Summary) : Type 0 where
+  pub want : Want
+  pub verdict : Verdict
+  pub history_is : after ≡ before ++ added (entry_of call verdict) want
+  pub spared : want ≡ Unmade → MayBeUnmade call.request
+  pub shown : want ≢ Unshown
+  pub adds : (replies : List Reply) → old ≡ summary replies → new ≡ summary (replies ++ counted call.request (answered_as base before (entry_of call verdict) want))
+
+-- these calls were made over a database, and this is the summary of their replies
+pub record TalliesCalls (base : Db) (calls : List ScriptCall) (history : History) (tally : Summary) : Type 0 where
+  pub replies : List Reply
+  pub answered : AreAnswered base calls history replies
+  pub tally_is : tally ≡ summary replies
+
+-- These calls were made over a database, and of the text that sums up their replies something is told.
+pub record SumsUp (base : Db) (calls : List ScriptCall) (history : History) (Told : List ℕ → Type 0) : Type 0 where
+  pub replies : List Reply
+  pub answered : AreAnswered base calls history replies
+  pub told : Told (summary_text (summary replies))
 
 -- whether the entry at a place was answered with a fault of the disk
 abbrev pub fails_at : Db → History → ℕ → Bool

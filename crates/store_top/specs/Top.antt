@@ -1,15 +1,19 @@
--- What a run in mode step did, by its fault.
+-- What a run did, by its fault.
 use Rattle.std.specs.Prelude.{◌≡◌, ◌≢◌, ℕ, ◌≤◌, List, [], length, Bool, true, false, Option, None, Some, Ok, Err}
-use Rattle.std.specs.Io.KnownBytes.{Consumes, IsAtEnd}
+use Rattle.std.specs.Io.KnownBytes.{Appends, Consumes, IsAtEnd}
 use Rattle.own_model.specs.declared.script.InputFault.{InputFault}
 use Rattle.own_model.specs.declared.script.InputFault.TheVariants as input
 use Rattle.own_model.specs.declared.script.ScriptCall.{ScriptCall}
 use Rattle.own_model.specs.Db.{Db}
 use Rattle.history_model.specs.History.{History}
 use Rattle.script_model.specs.Script.{IsScript, IsText}
+use Rattle.store_words.specs.declared.words.Mode.{Mode}
+use Rattle.store_words.specs.declared.words.Mode.TheVariants.{Step, Make}
 use Rattle.store_top.specs.declared.served.TopFault.{TopFault}
 use Rattle.store_top.specs.declared.served.TopFault.TheVariants.{Usage, Read, Write, Disk, Damaged, Input, Memory}
-use Rattle.store_top.specs.Steps.{RunsTo, StopsAtCall, TellsFailure, ToldBefore, ToldInPart}
+use Rattle.store_top.specs.declared.serving.Telling.{Telling}
+use Rattle.store_top.specs.declared.serving.Telling.TheVariants.{Lines, Summary}
+use Rattle.store_top.specs.Steps.{RunsTo, StopsAtCall, SumsUp, TellsFailure, ToldBefore, ToldInPart}
 
 -- the input was read to its end, and has calls
 pub record ReadsScript (remaining_old remaining_new : Option (List ℕ)) : Type 0 where
@@ -54,16 +58,32 @@ pub record IsUnserved {W : Type 0} (sink_old sink_new : W) (opened : Option Db) 
   pub unwritten : sink_new ≡ sink_old
   pub uncalled : history ≡ []
 
--- what serving calls over a database left, by the fault; `rose` is said of the sink's count of faults
+-- What serving calls over a database left, by the fault: without one the whole was told, with a write fault a part, and out of
+-- memory what comes before; `rose` is said of the sink's count of faults.
+abbrev pub ServedBy : Db → History → Type 0 → Type 0 → Type 0 → Type 0 → Option TopFault → Type 0
+ServedBy base history rose whole part before None = whole × TellsFailure false base history
+ServedBy base history rose whole part before (Some Disk) = whole × TellsFailure true base history
+ServedBy base history rose whole part before (Some Write) = rose × part
+ServedBy base history rose whole part before (Some Memory) = before
+ServedBy base history rose whole part before (Some Usage) = ⊥
+ServedBy base history rose whole part before (Some Read) = ⊥
+ServedBy base history rose whole part before (Some (Damaged area offset)) = ⊥
+ServedBy base history rose whole part before (Some (Input fault)) = ⊥
+
+-- the calls are told one after another
 abbrev pub ServesCalls : Db → List ScriptCall → History → Option (List ℕ) → Option (List ℕ) → Type 0 → Option TopFault → Type 0
-ServesCalls base calls history old new rose None = RunsTo base calls history old new × TellsFailure false base history
-ServesCalls base calls history old new rose (Some Disk) = RunsTo base calls history old new × TellsFailure true base history
-ServesCalls base calls history old new rose (Some Write) = rose × StopsAtCall base calls history (ToldInPart old new)
-ServesCalls base calls history old new rose (Some Memory) = StopsAtCall base calls history (ToldBefore old new)
-ServesCalls base calls history old new rose (Some Usage) = ⊥
-ServesCalls base calls history old new rose (Some Read) = ⊥
-ServesCalls base calls history old new rose (Some (Damaged area offset)) = ⊥
-ServesCalls base calls history old new rose (Some (Input fault)) = ⊥
+ServesCalls base calls history old new rose fault =
+    ServedBy base history rose (RunsTo base calls history old new) (StopsAtCall base calls history (ToldInPart old new)) (StopsAtCall base calls history (ToldBefore old new)) fault
+
+-- all of them are made, and summed up at the end
+abbrev pub SumsUpCalls : Db → List ScriptCall → History → Option (List ℕ) → Option (List ℕ) → Type 0 → Option TopFault → Type 0
+SumsUpCalls base calls history old new rose fault =
+    ServedBy base history rose (SumsUp base calls history (Appends old new)) (SumsUp base calls history (ToldInPart old new [])) (SumsUp base calls history (ToldBefore old new [])) fault
+
+-- by what is told of the calls
+abbrev pub ServesCallsAs : Telling → Db → List ScriptCall → History → Option (List ℕ) → Option (List ℕ) → Type 0 → Option TopFault → Type 0
+ServesCallsAs Lines base calls history old new rose fault = ServesCalls base calls history old new rose fault
+ServesCallsAs Summary base calls history old new rose fault = SumsUpCalls base calls history old new rose fault
 
 -- the faults by which no store is opened
 abbrev pub IsOfOpening : Option TopFault → Type 0
@@ -76,11 +96,11 @@ IsOfOpening (Some Read) = ⊥
 IsOfOpening (Some Write) = ⊥
 IsOfOpening (Some (Input fault)) = ⊥
 
--- what serving the calls of an input left, by the database that was opened and the fault; `silent` says that nothing was
+-- what serving calls over a store left, by the database that was opened and the fault; `silent` says that nothing was
 -- called or written
-abbrev pub ServesScript : List ScriptCall → Option Db → History → Option (List ℕ) → Option (List ℕ) → Type 0 → Type 0 → Option TopFault → Type 0
-ServesScript calls (Some base) history old new rose silent fault = ServesCalls base calls history old new rose fault
-ServesScript calls None history old new rose silent fault = silent × IsOfOpening fault
+abbrev pub ServesScript : Telling → List ScriptCall → Option Db → History → Option (List ℕ) → Option (List ℕ) → Type 0 → Type 0 → Option TopFault → Type 0
+ServesScript telling calls (Some base) history old new rose silent fault = ServesCallsAs telling base calls history old new rose fault
+ServesScript telling calls None history old new rose silent fault = silent × IsOfOpening fault
 
 -- what is so of bytes by which no store was opened; memory is taken only for text that isn't too long
 abbrev pub IsUnservedInput : List ℕ → Option TopFault → Type 0
@@ -109,6 +129,12 @@ IsBeforeOpening (Some Write) = ⊥
 IsBeforeOpening (Some Memory) = ⊥
 IsBeforeOpening (Some Disk) = ⊥
 IsBeforeOpening (Some (Damaged area offset)) = ⊥
+
+-- the words are mode step
+abbrev pub IsStep : Option Mode → Type 0
+IsStep None = ⊥
+IsStep (Some Step) = Unit {0}
+IsStep (Some (Make people seed)) = ⊥
 
 -- the faults that words which are no mode may end with
 abbrev pub IsUsageOrMemory : Option TopFault → Type 0

@@ -8,10 +8,10 @@ use std::test::Fail;
 use std::thread::Threads;
 use store_top::{Served, run, step};
 
-/// A run over sources and sinks in memory: the words, the input, the calls of the source and of the sink that fail,
+/// A run over sources and sinks in memory: the words behind the store's, the input, the calls of the source and of the sink that fail,
 /// and then the status, the number of entries and the output that are wanted.
 struct Case {
-    word: &'static str,
+    words: &'static [&'static str],
     input: &'static str,
     source_fails: &'static [u32],
     sink_fails: &'static [u32],
@@ -34,63 +34,31 @@ const SESSIONS: &str =
 const CATALOG: &str =
     "CREATE DATA_SUBJECT TABLE users (id INT PRIMARY KEY, name TEXT); CREATE TABLE msgs (id INT PRIMARY KEY, sender INT OWNED_BY users(id)); CREATE TABLE users (id INT PRIMARY KEY); INSERT INTO msgs VALUES (1, NULL); CREATE TABLE cities (id INT PRIMARY KEY); INSERT INTO cities VALUES (2); CREATE DATA_SUBJECT TABLE people (id INT PRIMARY KEY, home INT OWNS cities(id)); EXPLAIN COMPLIANCE; SELECT * FROM cities;";
 
-const CASES: [Case; 9] = [
+/// By hand: two tables and a view, two people and two notes, two transfers of four calls, a GET, a FORGET and a SELECT. The first
+/// person has the second note alone, and the first note's number is 73 and 65 more.
+const SUMMARY: &str = "calls 18\ndone 18\nrefused 0\nmemory 0\ngot 2\nforgot 2 0\nheld 1\nsum 138\n";
+
+const CASES: [Case; 12] = [
     Case {
-        word: "step",
+        words: &["make", "2", "1"],
+        input: FIRST,
+        source_fails: &[0],
+        sink_fails: &[],
+        status: 0,
+        entries: 19,
+        output: SUMMARY,
+    },
+    Case {
+        words: &["make", "2", "1"],
         input: FIRST,
         source_fails: &[],
-        sink_fails: &[],
-        status: 0,
-        entries: 4,
-        output: FIRST_OUTPUT,
-    },
-    Case {
-        word: "step",
-        input: REFUSALS,
-        source_fails: &[],
-        sink_fails: &[],
-        status: 0,
-        entries: 7,
-        output: "0 1.1 ok\n1 1.2 ok 1\n2 1.3 rows 1\n  5|'Ann'\n3 1.4 refused duplicate users 5\n4 1.5 refused table cats\n5 1.6 refused outside\n6 1.7 end\n",
-    },
-    Case {
-        word: "step",
-        input: CATALOG,
-        source_fails: &[],
-        sink_fails: &[],
-        status: 0,
-        entries: 10,
-        output: "0 1.1 ok\n1 1.2 ok\n2 1.3 refused taken users\n3 1.4 refused owner msgs 1\n4 1.5 ok\n5 1.6 ok 1\n6 1.7 refused rows cities\n7 1.8 graph 4\n  users subject\n  msgs private\n  msgs.sender OWNED_BY users\n  cities public\n8 1.9 rows 1\n  2\n9 1.10 end\n",
-    },
-    Case {
-        word: "step",
-        input: " \t\n",
-        source_fails: &[],
-        sink_fails: &[],
-        status: 0,
-        entries: 0,
+        sink_fails: &[0],
+        status: 4,
+        entries: 19,
         output: "",
     },
     Case {
-        word: "step",
-        input: SESSIONS,
-        source_fails: &[],
-        sink_fails: &[],
-        status: 0,
-        entries: 10,
-        output: "0 1.1 ok\n1 1.2 ok\n2 1.3 ok 1\n3 2.1 rows 0\n4 2.2 refused conflict 1 users 5\n5 2.3 refused syntax 5\n6 1.4 ok\n7 1.5 rows 1\n  5|'Ann'\n8 1.6 end\n9 2.4 end\n",
-    },
-    Case {
-        word: "step",
-        input: "SELECT * FROM users;\n-- session 17\n",
-        source_fails: &[],
-        sink_fails: &[],
-        status: 7,
-        entries: 0,
-        output: "",
-    },
-    Case {
-        word: "stop",
+        words: &["make", "2"],
         input: FIRST,
         source_fails: &[],
         sink_fails: &[],
@@ -99,7 +67,70 @@ const CASES: [Case; 9] = [
         output: "",
     },
     Case {
-        word: "step",
+        words: &["step"],
+        input: FIRST,
+        source_fails: &[],
+        sink_fails: &[],
+        status: 0,
+        entries: 4,
+        output: FIRST_OUTPUT,
+    },
+    Case {
+        words: &["step"],
+        input: REFUSALS,
+        source_fails: &[],
+        sink_fails: &[],
+        status: 0,
+        entries: 7,
+        output: "0 1.1 ok\n1 1.2 ok 1\n2 1.3 rows 1\n  5|'Ann'\n3 1.4 refused duplicate users 5\n4 1.5 refused table cats\n5 1.6 refused outside\n6 1.7 end\n",
+    },
+    Case {
+        words: &["step"],
+        input: CATALOG,
+        source_fails: &[],
+        sink_fails: &[],
+        status: 0,
+        entries: 10,
+        output: "0 1.1 ok\n1 1.2 ok\n2 1.3 refused taken users\n3 1.4 refused owner msgs 1\n4 1.5 ok\n5 1.6 ok 1\n6 1.7 refused rows cities\n7 1.8 graph 4\n  users subject\n  msgs private\n  msgs.sender OWNED_BY users\n  cities public\n8 1.9 rows 1\n  2\n9 1.10 end\n",
+    },
+    Case {
+        words: &["step"],
+        input: " \t\n",
+        source_fails: &[],
+        sink_fails: &[],
+        status: 0,
+        entries: 0,
+        output: "",
+    },
+    Case {
+        words: &["step"],
+        input: SESSIONS,
+        source_fails: &[],
+        sink_fails: &[],
+        status: 0,
+        entries: 10,
+        output: "0 1.1 ok\n1 1.2 ok\n2 1.3 ok 1\n3 2.1 rows 0\n4 2.2 refused conflict 1 users 5\n5 2.3 refused syntax 5\n6 1.4 ok\n7 1.5 rows 1\n  5|'Ann'\n8 1.6 end\n9 2.4 end\n",
+    },
+    Case {
+        words: &["step"],
+        input: "SELECT * FROM users;\n-- session 17\n",
+        source_fails: &[],
+        sink_fails: &[],
+        status: 7,
+        entries: 0,
+        output: "",
+    },
+    Case {
+        words: &["stop"],
+        input: FIRST,
+        source_fails: &[],
+        sink_fails: &[],
+        status: 2,
+        entries: 0,
+        output: "",
+    },
+    Case {
+        words: &["step"],
         input: FIRST,
         source_fails: &[0],
         sink_fails: &[],
@@ -108,7 +139,7 @@ const CASES: [Case; 9] = [
         output: "",
     },
     Case {
-        word: "step",
+        words: &["step"],
         input: FIRST,
         source_fails: &[],
         sink_fails: &[1],
@@ -120,7 +151,10 @@ const CASES: [Case; 9] = [
 
 /// Runs a case, and tells its status, its entries and its output.
 fn told<Rt: Threads + Wait + Sync>(rt: &Rt, alloc: Global, case: &Case) -> Result<String, Fail> {
-    let words = vec![in alloc; String::from_str(alloc, case.word)?]?;
+    let mut words = Vec::new(alloc);
+    for word in case.words {
+        words.push(String::from_str(alloc, word)?)?;
+    }
     let mut source = MemSource::new(alloc, case.input.as_bytes(), case.source_fails)?;
     let mut sink = MemSink::new(alloc, case.sink_fails)?;
     let disk = MemDisk::new(alloc, &[])?;

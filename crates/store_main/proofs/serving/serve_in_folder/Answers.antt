@@ -8,6 +8,6 @@ returns-in-Err-clause-ran g c =
     let source = g.R.Source in
     let sink = g.W.Sink in
     elim c.without_files.ensures.other [
-      | inl memory ↦ rw memory (inl (over-memory source.remaining source.faults source.fails sink.written sink.faults sink.fails _ c.args.source.now c.args.sink.now))
+      | inl memory ↦ rw memory (inl (over-memory source.remaining source.faults source.fails sink.written sink.faults sink.fails _ c.args.source.now c.args.sink.now _))
       | inr disk ↦ inr (record { told = disk; unread = refl; unwritten = refl })
     ]

@@ -5,7 +5,7 @@ use Rattle.store_top.specs.declared.steps.RunFault.TheVariants.{Write}
 use Rattle.store_top.proofs.Failures.{failed-at, none-failed, tells-more}
 use Rattle.store_top.proofs.Moves.{moves-more, moves-none}
 use Rattle.store_top.proofs.Serving.{serving-none, serving-more, serving-breaks, serving-refused, serving-entered}
-use Rattle.store_top.proofs.steps.serve_calls.Goals as goal
+use Rattle.store_top.proofs.lines.serve_calls.Goals as goal
 
 pub loop-call-init : goal.loop-call-init
 loop-call-init g c =

@@ -1,0 +1,3 @@
+pub mod AskMore
+pub mod Numbering
+pub mod Short
