@@ -1,1 +1,4 @@
 mod ClapOnWords
+pub mod InRange
+mod Modes
+mod Numerals

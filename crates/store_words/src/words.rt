@@ -1,10 +1,10 @@
 ghost use Rattle.std.specs.Prelude.{◌≡◌, IfOk, map, string_bytes};
 ghost use Rattle.std.specs.List.{list_any};
-ghost use Rattle.clap.specs.Words.{app_of, subcommand_name_of};
-ghost use Rattle.store_words.specs.Words.{begins_with_dash, command_app, mode_named, mode_of};
+ghost use Rattle.store_words.specs.Command.{begins_with_dash};
+ghost use Rattle.store_words.specs.Words.{mode_of};
 
+use crate::command::{command, mode_matched};
 use clap::error::ErrorKind;
-use clap::{ArgMatches, Command};
 use std::alloc::{AllocError, Global};
 
 /// What the program does, by the words after the store's name.
@@ -12,6 +12,8 @@ use std::alloc::{AllocError, Global};
 pub enum Mode {
     /// One session at a time: the calls of the input are made one after another.
     Step,
+    /// The calls of a large script of so many people, whose numbers are drawn from the seed.
+    Make { people: u32, seed: u32 },
 }
 
 /// The mode that the words are, or None where they are no mode with its arguments.
@@ -35,27 +37,4 @@ fn has_dash_word(words: &[String]) -> bool
     words
         .iter()
         .any(|word| word.as_bytes().first() == Some(&b'-'))
-}
-
-/// The command whose subcommands are the modes, without help and version.
-fn command<'a>(alloc: Global) -> Result<Command<'a>, AllocError>
-    ensures { IfOk result (λ command. app_of command ≡ command_app) }
-{
-    Command::new(alloc, "subjectdb")
-        .no_binary_name(true)
-        .disable_help_flag(true)
-        .disable_help_subcommand(true)
-        .disable_version_flag(true)
-        .subcommand_required(true)
-        .subcommand(Command::new(alloc, "step"))
-}
-
-/// The mode whose subcommand clap found.
-fn mode_matched(matches: &ArgMatches<'_>) -> Option<Mode>
-    ensures { result ≡ mode_named (subcommand_name_of matches.now) }
-{
-    match matches.subcommand_name() {
-        Some("step") => Some(Mode::Step),
-        _ => None,
-    }
 }

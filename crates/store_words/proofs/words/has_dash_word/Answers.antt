@@ -2,7 +2,7 @@ use Rattle.std.proofs.Common.{rules, tests, string_bytes, ◌∙◌}
 use Rattle.std.proofs.lemmas.Iterator.{YieldsList-from_slice}
 use Rattle.std.proofs.lemmas.Iterator.Search.{any_from_yields_List}
 use Rattle.clap.proofs.WalkLemmas.{list_any-map}
-use Rattle.store_words.specs.Words.{begins_with_dash}
+use Rattle.store_words.specs.Command.{begins_with_dash}
 use Rattle.store_words.proofs.words.has_dash_word.Goals as goal
 
 pub returns : goal.returns

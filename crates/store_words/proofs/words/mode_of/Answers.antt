@@ -1,5 +1,5 @@
 use Rattle.std.proofs.Common.{rules, ◌∙◌, sym, map, string_bytes}
-use Rattle.store_words.proofs.ClapOnWords.{mode_found, no_mode_refused}
+use Rattle.store_words.proofs.Modes.{mode_found, no_mode_refused}
 use Rattle.store_words.proofs.words.mode_of.Goals as goal
 
 pub returns-in-Ok : goal.returns-in-Ok
@@ -9,4 +9,6 @@ returns-in-Ok c =
     c.in-Ok.ensures.kinds c.in-Ok.ensures.matches
 
 pub returns-in-Err-2 : goal.returns-in-Err-2
-returns-in-Err-2 c = sym (no_mode_refused _ (map string_bytes c.args.words.now) _ c.in_ok-command.ensures c.in-Err-2.ensures.passes (search rules))
+returns-in-Err-2 c =
+    sym (no_mode_refused _ (map string_bytes c.args.words.now) _ c.in_ok-command.ensures (sym c.has_dash_word.ensures ∙ c.if-has_dash_word.false) c.in-Err-2.ensures.kinds
+    (search rules))
