@@ -1,3 +1,4 @@
 pub mod AskMore
 pub mod Numbering
-pub mod Short
+pub mod Tallying
+pub mod Telling

@@ -5,7 +5,7 @@ use Rattle.std.proofs.lemmas.List.{map-append}
 use Rattle.std.proofs.Common.{append_assoc}
 use Rattle.own_model.specs.declared.request.Request.{Request}
 use Rattle.own_model.specs.declared.script.ScriptCall.{ScriptCall}
-use Rattle.script_model.specs.Numbered.{Asking, call_after, count_of, is_of, numbered_after}
+use Rattle.script_model.specs.Numbered.{Asking, call_after, count_of, numbered_after}
 use Rattle.made_model.specs.Made.{calls_asking, in_one_session}
 
 -- an asking more is a call more
@@ -16,7 +16,7 @@ numbered-more before [] asking = ap (λ (behind : List ScriptCall). call_after b
 numbered-more before (first ∷ askings) asking =
     let here = call_after before first in
     let later = numbered-more (before ++ here ∷ []) askings asking in
-    let same : before ++ here ∷ [] ++ numbered_after (before ++ here ∷ []) askings ≡ before ++ (here ∷ numbered_after (before ++ here ∷ []) askings) = append_assoc in
+    let same : before ++ here ∷ [] ++ numbered_after (before ++ here ∷ []) askings ≡ before ++ (here ∷ numbered_after (before ++ here ∷ []) askings) = append_assoc before (here ∷ []) (numbered_after (before ++ here ∷ []) askings) in
     ap (λ (calls : List ScriptCall). here ∷ calls) later
     ∙ ap (λ (behind : List ScriptCall). here ∷ (numbered_after (before ++ here ∷ []) askings ++ call_after behind asking ∷ [])) same
 

@@ -1,5 +1,5 @@
 -- What a tally stands for, and how large its counts may be.
-use Rattle.std.specs.Prelude.{ℕ, ◌+◌, ◌*◌, ◌^◌, ◌≤◌}
+use Rattle.std.specs.Prelude.{◌+◌, ◌*◌, ◌^◌, ◌≤◌}
 use Rattle.made_model.specs.Summary.{Summary}
 use Rattle.made_script.specs.declared.tally.Tally.TheInside.{Inside}
 

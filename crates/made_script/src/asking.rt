@@ -37,11 +37,7 @@ pub(crate) fn put(calls: &mut Vec<ScriptCall>, request: Request) -> Result<(), A
 }
 
 /// Puts a call that asks for this text last.
-pub(crate) fn ask(
-    calls: &mut Vec<ScriptCall>,
-    alloc: Global,
-    text: &str,
-) -> Result<(), AllocError>
+pub(crate) fn ask(calls: &mut Vec<ScriptCall>, alloc: Global, text: &str) -> Result<(), AllocError>
     requires room { length calls.old.items < 2 ^ 31 }
     requires short { length text.now < 2 ^ 32 }
     ensures asks { OnOk result (AskMore calls.old.items (text.now ∷ []) calls.new.items) }

@@ -3,6 +3,7 @@
 #![tactic(auto)]
 
 mod asking;
+mod counts;
 mod draws;
 mod made;
 mod tally;

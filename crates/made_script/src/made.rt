@@ -5,7 +5,7 @@ ghost use Rattle.std.specs.List.{flat_map, range_with_len};
 ghost use Rattle.own_model.specs.declared.limit.TheConstants.{STATEMENT_BYTES};
 ghost use Rattle.made_model.specs.declared.limits.TheConstants.{PEOPLE, SEEDS};
 ghost use Rattle.made_model.specs.Made.{IsMade};
-ghost use Rattle.made_model.specs.MadeTexts.{erased_people, erasure_texts, note_text, schema_texts, transfer_texts, user_text};
+ghost use Rattle.made_model.specs.MadeTexts.{erased_people, erased_text, erasure_texts, given_text, note_text, schema_texts, shown_text, taken_text, transfer_texts, user_text};
 ghost use Rattle.made_script.specs.Asking.{AskMore};
 
 use crate::asking::{ask, put};
@@ -28,7 +28,11 @@ fn ask_schema(calls: &mut Vec<ScriptCall>, alloc: Global) -> Result<(), AllocErr
     ensures asks { OnOk result (AskMore calls.old.items schema_texts calls.new.items) }
     ensures longer { OnOk result (length calls.new.items ≡ length calls.old.items + 3) }
 {
-    ask(calls, alloc, "CREATE DATA_SUBJECT TABLE users (id INT PRIMARY KEY, name TEXT)")?;
+    ask(
+        calls,
+        alloc,
+        "CREATE DATA_SUBJECT TABLE users (id INT PRIMARY KEY, name TEXT)",
+    )?;
     ask(
         calls,
         alloc,
@@ -44,7 +48,7 @@ fn ask_schema(calls: &mut Vec<ScriptCall>, alloc: Global) -> Result<(), AllocErr
 /// Asks for a person.
 fn ask_user(calls: &mut Vec<ScriptCall>, alloc: Global, number: u32) -> Result<(), AllocError>
     requires number { number ≤ PEOPLE }
-    requires room { length calls.old.items ≤ 2 ^ 30 }
+    requires room { length calls.old.items < 2 ^ 31 }
     ensures asks { OnOk result (AskMore calls.old.items (user_text number ∷ []) calls.new.items) }
     ensures longer { OnOk result (length calls.new.items ≡ length calls.old.items + 1) }
 {
@@ -76,7 +80,7 @@ fn ask_note(
 ) -> Result<(), AllocError>
     requires few { people ≤ PEOPLE }
     requires before { before < people }
-    requires room { length calls.old.items ≤ 2 ^ 30 }
+    requires room { length calls.old.items < 2 ^ 31 }
     requires drawn { draws.old.drawn ≡ 3 * before }
     ensures asks { OnOk result (AskMore calls.old.items (note_text people draws.old.seed before ∷ []) calls.new.items) }
     ensures longer { OnOk result (length calls.new.items ≡ length calls.old.items + 1) }
@@ -111,7 +115,63 @@ fn ask_notes(
     Ok(())
 }
 
+/// Asks that a note's number become smaller.
+fn ask_taken(
+    calls: &mut Vec<ScriptCall>,
+    alloc: Global,
+    amount: u32,
+    note: u32,
+) -> Result<(), AllocError>
+    requires amount { amount < 100 }
+    requires note { note ≤ PEOPLE }
+    requires room { length calls.old.items < 2 ^ 31 }
+    ensures asks { OnOk result (AskMore calls.old.items (taken_text amount note ∷ []) calls.new.items) }
+    ensures longer { OnOk result (length calls.new.items ≡ length calls.old.items + 1) }
+{
+    let text = taken(alloc, amount, note)?;
+    ask(calls, alloc, &text)
+}
+
+/// Asks that a note's number become larger.
+fn ask_given(
+    calls: &mut Vec<ScriptCall>,
+    alloc: Global,
+    amount: u32,
+    note: u32,
+) -> Result<(), AllocError>
+    requires amount { amount < 100 }
+    requires note { note ≤ PEOPLE }
+    requires room { length calls.old.items < 2 ^ 31 }
+    ensures asks { OnOk result (AskMore calls.old.items (given_text amount note ∷ []) calls.new.items) }
+    ensures longer { OnOk result (length calls.new.items ≡ length calls.old.items + 1) }
+{
+    let text = given(alloc, amount, note)?;
+    ask(calls, alloc, &text)
+}
+
 /// Asks for a transfer of an amount from one note to another.
+fn ask_moved(
+    calls: &mut Vec<ScriptCall>,
+    alloc: Global,
+    amount: u32,
+    from: u32,
+    to: u32,
+) -> Result<(), AllocError>
+    requires amount { amount < 100 }
+    requires from { from ≤ PEOPLE }
+    requires to { to ≤ PEOPLE }
+    requires room { length calls.old.items ≤ 2 ^ 30 }
+    ensures asks { OnOk result (AskMore calls.old.items (codes "BEGIN" ∷ taken_text amount from ∷ given_text amount to ∷ codes "COMMIT" ∷ []) calls.new.items) }
+    ensures longer { OnOk result (length calls.new.items ≡ length calls.old.items + 4) }
+{
+    ask(calls, alloc, "BEGIN")?;
+    ask_taken(calls, alloc, amount, from)?;
+    ask_given(calls, alloc, amount, to)?;
+    ask(calls, alloc, "COMMIT")
+}
+
+/// Asks for a transfer of a drawn amount between two drawn notes.
+#[tactic(auto, unfolding(made_model::specs::MadeTexts::transfer_texts))]
 fn ask_transfer(
     calls: &mut Vec<ScriptCall>,
     alloc: Global,
@@ -130,12 +190,7 @@ fn ask_transfer(
     let from = 1 + draws.draw(people);
     let to = 1 + draws.draw(people);
     let amount = draws.draw(AMOUNTS);
-    ask(calls, alloc, "BEGIN")?;
-    let text = taken(alloc, amount, from)?;
-    ask(calls, alloc, &text)?;
-    let text = given(alloc, amount, to)?;
-    ask(calls, alloc, &text)?;
-    ask(calls, alloc, "COMMIT")
+    ask_moved(calls, alloc, amount, from, to)
 }
 
 /// Asks for a transfer for each person.
@@ -157,7 +212,30 @@ fn ask_transfers(
     Ok(())
 }
 
-/// Asks that every fourth person, if this is one, be shown what is held about it, and erased.
+/// Asks what is held about a person.
+fn ask_shown(calls: &mut Vec<ScriptCall>, alloc: Global, number: u32) -> Result<(), AllocError>
+    requires number { number ≤ PEOPLE }
+    requires room { length calls.old.items < 2 ^ 31 }
+    ensures asks { OnOk result (AskMore calls.old.items (shown_text number ∷ []) calls.new.items) }
+    ensures longer { OnOk result (length calls.new.items ≡ length calls.old.items + 1) }
+{
+    let text = shown(alloc, number)?;
+    ask(calls, alloc, &text)
+}
+
+/// Asks that a person be erased.
+fn ask_erased(calls: &mut Vec<ScriptCall>, alloc: Global, number: u32) -> Result<(), AllocError>
+    requires number { number ≤ PEOPLE }
+    requires room { length calls.old.items < 2 ^ 31 }
+    ensures asks { OnOk result (AskMore calls.old.items (erased_text number ∷ []) calls.new.items) }
+    ensures longer { OnOk result (length calls.new.items ≡ length calls.old.items + 1) }
+{
+    let text = erased(alloc, number)?;
+    ask(calls, alloc, &text)
+}
+
+/// Asks what is held about a person, and that it be erased, where it is one of every fourth.
+#[tactic(auto, unfolding(made_model::specs::MadeTexts::erasure_texts))]
 fn ask_erasure(calls: &mut Vec<ScriptCall>, alloc: Global, number: u32) -> Result<(), AllocError>
     requires number { number ≤ PEOPLE }
     requires room { length calls.old.items ≤ 2 ^ 30 }
@@ -167,10 +245,8 @@ fn ask_erasure(calls: &mut Vec<ScriptCall>, alloc: Global, number: u32) -> Resul
     if number % 4 != 1 {
         return Ok(());
     }
-    let text = shown(alloc, number)?;
-    ask(calls, alloc, &text)?;
-    let text = erased(alloc, number)?;
-    ask(calls, alloc, &text)
+    ask_shown(calls, alloc, number)?;
+    ask_erased(calls, alloc, number)
 }
 
 /// Asks that every fourth person be shown what is held about it, and erased.

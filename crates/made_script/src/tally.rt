@@ -1,17 +1,20 @@
 //! What calls were answered, added up.
 
-ghost use Rattle.std.specs.Prelude.{◌≡◌, ◌<◌, ◌^◌, [], ◌∷◌, ◌++◌, List, count_by, IfOk};
+ghost use Rattle.std.specs.Prelude.{◌≡◌, ◌<◌, ◌^◌, [], ◌∷◌, ◌++◌, List, codes, string_bytes, IfOk, OnOk};
+ghost use Rattle.std.specs.Fmt.{decimal, signed_decimal};
 ghost use Rattle.own_model.specs.declared.reply.Reply.{Reply};
-ghost use Rattle.made_model.specs.Summary.{changed_of, got_of, is_memory, is_refused, number_of, removed_of, rows_of, sum_of, summary, third_number};
-ghost use Rattle.made_model.specs.SummaryText.{summary_text};
+ghost use Rattle.made_model.specs.Summary.{summary};
+ghost use Rattle.made_model.specs.SummaryText.{counted_line, summary_text};
 
-use own_base::{Row, Text, Value};
-use own_model::{Refusal, Reply};
+use crate::counts::{forgot_of, got_of, refused_of, rows_of, sum_of};
+use own_base::Text;
+use own_model::Reply;
 use std::alloc::{AllocError, Global};
+use std::fmt::Write;
 use std::marker::Model;
 
-/// The third column of a row.
-const THIRD: usize = 2;
+/// The room for a summary, in bytes.
+const SUMMARY_BYTES: usize = 160;
 
 /// What calls were answered, added up, which contracts see as the summary of their replies.
 #[derive(Debug, Drop)]
@@ -38,103 +41,25 @@ impl Model for Tally {
     ghost invariant = { IsTally };
 }
 
-/// How many rows the reply shows a person.
-fn got_of(reply: &Reply) -> usize
-    ensures { result ≡ got_of reply.now }
+/// Writes a word and a number on a line.
+fn push_line(text: &mut String, word: &str, count: u128) -> Result<(), AllocError>
+    ensures { OnOk result (string_bytes text.new ≡ string_bytes text.old ++ counted_line word.now count) }
 {
-    match reply {
-        Reply::Got(rows) => rows.items().len(),
-        Reply::Done
-        | Reply::Counted(_)
-        | Reply::Rows(_)
-        | Reply::Forgot { .. }
-        | Reply::Graph(_)
-        | Reply::Ended
-        | Reply::Refused(_) => 0,
-    }
+    write!(text, "{word}{count}\n")
 }
 
-/// How many rows the reply tells were removed, and how many were changed.
-fn forgot_of(reply: &Reply) -> (u32, u32)
-    ensures removed { result.0 ≡ removed_of reply.now }
-    ensures changed { result.1 ≡ changed_of reply.now }
+/// Writes how many rows erasures removed and changed on a line.
+fn push_forgot(text: &mut String, removed: u64, changed: u64) -> Result<(), AllocError>
+    ensures { OnOk result (string_bytes text.new ≡ string_bytes text.old ++ (codes "forgot " ++ decimal removed ++ codes " " ++ decimal changed ++ 10 ∷ [])) }
 {
-    match reply {
-        Reply::Forgot { removed, changed } => (*removed, *changed),
-        Reply::Done
-        | Reply::Counted(_)
-        | Reply::Rows(_)
-        | Reply::Got(_)
-        | Reply::Graph(_)
-        | Reply::Ended
-        | Reply::Refused(_) => (0, 0),
-    }
+    write!(text, "forgot {removed} {changed}\n")
 }
 
-/// How often the reply refuses for another cause than memory, and how often for want of memory: once at most.
-fn refused_of(reply: &Reply) -> (u8, u8)
-    ensures refused { result.0 ≡ count_by is_refused (reply.now ∷ []) }
-    ensures memory { result.1 ≡ count_by is_memory (reply.now ∷ []) }
+/// Writes a sum on a line.
+fn push_sum(text: &mut String, sum: i128) -> Result<(), AllocError>
+    ensures { OnOk result (string_bytes text.new ≡ string_bytes text.old ++ (codes "sum " ++ signed_decimal sum ++ 10 ∷ [])) }
 {
-    match reply {
-        Reply::Refused(Refusal::Memory) => (0, 1),
-        Reply::Refused(_) => (1, 0),
-        Reply::Done
-        | Reply::Counted(_)
-        | Reply::Rows(_)
-        | Reply::Got(_)
-        | Reply::Forgot { .. }
-        | Reply::Graph(_)
-        | Reply::Ended => (0, 0),
-    }
-}
-
-/// The rows of a SELECT.
-fn rows_of(reply: &Reply) -> &[Row]
-    ensures { result.now ≡ rows_of reply.now }
-{
-    match reply {
-        Reply::Rows(rows) => rows.items(),
-        Reply::Done
-        | Reply::Counted(_)
-        | Reply::Got(_)
-        | Reply::Forgot { .. }
-        | Reply::Graph(_)
-        | Reply::Ended
-        | Reply::Refused(_) => &[],
-    }
-}
-
-/// A number as itself, and 0 for what is none.
-fn number_of(value: &Value) -> i128
-    ensures { result ≡ number_of value.now }
-{
-    match value {
-        Value::Int(number) => i128::from(*number),
-        Value::Sum(sum) => sum.get(),
-        Value::Null | Value::Text(_) => 0,
-    }
-}
-
-/// The third value of a row, where it is a number.
-fn third_number(row: &[Value]) -> i128
-    ensures { result ≡ third_number row.now }
-{
-    match row.get(THIRD) {
-        Some(value) => number_of(value),
-        None => 0,
-    }
-}
-
-/// The sum of the third values.
-fn sum_of(rows: &[Row]) -> i128
-    ensures { result ≡ sum_of rows.now }
-{
-    let mut sum: i128 = 0;
-    for row in rows {
-        sum = sum.saturating_add(third_number(row.values()));
-    }
-    sum
+    write!(text, "sum {sum}\n")
 }
 
 impl Tally {
@@ -172,23 +97,28 @@ impl Tally {
         self.sum = sum_of(rows);
     }
 
+    /// Writes the summary at the end.
+    fn push_to(&self, text: &mut String) -> Result<(), AllocError>
+        ensures { OnOk result (string_bytes text.new ≡ string_bytes text.old ++ summary_text self.now) }
+    {
+        let done = self.calls - (self.refused + self.memory);
+        push_line(text, "calls ", u128::from(self.calls))?;
+        push_line(text, "done ", u128::from(done))?;
+        push_line(text, "refused ", u128::from(self.refused))?;
+        push_line(text, "memory ", u128::from(self.memory))?;
+        push_line(text, "got ", self.got)?;
+        push_forgot(text, self.removed, self.changed)?;
+        push_line(text, "held ", self.held as u128)?;
+        push_sum(text, self.sum)?;
+        Ok(())
+    }
+
     /// The summary on eight lines.
-    #[tactic(auto, unfolding(made_model::specs::SummaryText::summary_text))]
     pub fn told(&self, alloc: Global) -> Result<Text, AllocError>
         ensures { IfOk result (λ text. text ≡ summary_text self.now) }
     {
-        let done = self.calls - (self.refused + self.memory);
-        let text = format!(in alloc;
-            "calls {}\ndone {done}\nrefused {}\nmemory {}\ngot {}\nforgot {} {}\nheld {}\nsum {}\n",
-            self.calls,
-            self.refused,
-            self.memory,
-            self.got,
-            self.removed,
-            self.changed,
-            self.held,
-            self.sum
-        )?;
-        Text::from_string(text)
+        let mut text = String::with_capacity(alloc, SUMMARY_BYTES)?;
+        self.push_to(&mut text)?;
+        Ok(Text::from_string(text)?)
     }
 }

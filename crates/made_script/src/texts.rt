@@ -1,7 +1,6 @@
 //! The texts of the statements that tell of people, notes and amounts by number.
 
-ghost use Rattle.std.specs.Prelude.{◌≡◌, ◌<◌, ◌≤◌, ◌+◌, ◌*◌, ◌^◌, length, string_bytes, IfOk, OnOk};
-ghost use Rattle.own_model.specs.declared.limit.TheConstants.{STATEMENT_BYTES};
+ghost use Rattle.std.specs.Prelude.{◌≡◌, string_bytes, IfOk};
 ghost use Rattle.made_model.specs.MadeTexts.{erased_text, given_text, noted_text, shown_text, taken_text, user_text};
 
 use std::alloc::{AllocError, Global};
@@ -9,9 +8,7 @@ use std::alloc::{AllocError, Global};
 /// The INSERT of a person.
 #[tactic(auto, unfolding(made_model::specs::MadeTexts::user_text))]
 pub(crate) fn user(alloc: Global, number: u32) -> Result<String, AllocError>
-    requires { number < 100000 }
-    ensures text { IfOk result (λ text. string_bytes text ≡ user_text number) }
-    ensures short { IfOk result (λ text. length (string_bytes text) ≤ STATEMENT_BYTES) }
+    ensures { IfOk result (λ text. string_bytes text ≡ user_text number) }
 {
     format!(in alloc; "INSERT INTO users VALUES ({number}, 'u')")
 }
@@ -25,9 +22,7 @@ pub(crate) fn noted(
     b: u32,
     n: u32,
 ) -> Result<String, AllocError>
-    requires { (number < 100000) × (a < 100000) × (b < 100000) × (n < 100000) }
-    ensures text { IfOk result (λ text. string_bytes text ≡ noted_text number a b n) }
-    ensures short { IfOk result (λ text. length (string_bytes text) ≤ STATEMENT_BYTES) }
+    ensures { IfOk result (λ text. string_bytes text ≡ noted_text number a b n) }
 {
     format!(in alloc; "INSERT INTO notes VALUES ({number}, {a}, {b}, {n})")
 }
@@ -35,9 +30,7 @@ pub(crate) fn noted(
 /// The UPDATE that makes a note's number smaller.
 #[tactic(auto, unfolding(made_model::specs::MadeTexts::taken_text))]
 pub(crate) fn taken(alloc: Global, amount: u32, note: u32) -> Result<String, AllocError>
-    requires { (amount < 100000) × (note < 100000) }
-    ensures text { IfOk result (λ text. string_bytes text ≡ taken_text amount note) }
-    ensures short { IfOk result (λ text. length (string_bytes text) ≤ STATEMENT_BYTES) }
+    ensures { IfOk result (λ text. string_bytes text ≡ taken_text amount note) }
 {
     format!(in alloc; "UPDATE notes SET n = n - {amount} WHERE id = {note}")
 }
@@ -45,9 +38,7 @@ pub(crate) fn taken(alloc: Global, amount: u32, note: u32) -> Result<String, All
 /// The UPDATE that makes a note's number larger.
 #[tactic(auto, unfolding(made_model::specs::MadeTexts::given_text))]
 pub(crate) fn given(alloc: Global, amount: u32, note: u32) -> Result<String, AllocError>
-    requires { (amount < 100000) × (note < 100000) }
-    ensures text { IfOk result (λ text. string_bytes text ≡ given_text amount note) }
-    ensures short { IfOk result (λ text. length (string_bytes text) ≤ STATEMENT_BYTES) }
+    ensures { IfOk result (λ text. string_bytes text ≡ given_text amount note) }
 {
     format!(in alloc; "UPDATE notes SET n = n + {amount} WHERE id = {note}")
 }
@@ -55,9 +46,7 @@ pub(crate) fn given(alloc: Global, amount: u32, note: u32) -> Result<String, All
 /// The GET of a person.
 #[tactic(auto, unfolding(made_model::specs::MadeTexts::shown_text))]
 pub(crate) fn shown(alloc: Global, number: u32) -> Result<String, AllocError>
-    requires { number < 100000 }
-    ensures text { IfOk result (λ text. string_bytes text ≡ shown_text number) }
-    ensures short { IfOk result (λ text. length (string_bytes text) ≤ STATEMENT_BYTES) }
+    ensures { IfOk result (λ text. string_bytes text ≡ shown_text number) }
 {
     format!(in alloc; "GDPR GET users {number}")
 }
@@ -65,9 +54,7 @@ pub(crate) fn shown(alloc: Global, number: u32) -> Result<String, AllocError>
 /// The FORGET of a person.
 #[tactic(auto, unfolding(made_model::specs::MadeTexts::erased_text))]
 pub(crate) fn erased(alloc: Global, number: u32) -> Result<String, AllocError>
-    requires { number < 100000 }
-    ensures text { IfOk result (λ text. string_bytes text ≡ erased_text number) }
-    ensures short { IfOk result (λ text. length (string_bytes text) ≤ STATEMENT_BYTES) }
+    ensures { IfOk result (λ text. string_bytes text ≡ erased_text number) }
 {
     format!(in alloc; "GDPR FORGET users {number}")
 }

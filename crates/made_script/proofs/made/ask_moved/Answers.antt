@@ -1,0 +1,8 @@
+use Rattle.std.proofs.lemmas.Result.{on_ok_weaker}
+use Rattle.made_script.proofs.AskMore.{more-both}
+use Rattle.made_script.proofs.made.ask_moved.Goals as goal
+
+pub returns-clause-asks : goal.returns-clause-asks
+returns-clause-asks c =
+    on_ok_weaker c.ask-2.result
+    (λ asked. more-both (more-both (more-both c.in_ok-ask.ensures.asks c.in_ok-ask_taken.ensures.asks) c.in_ok-ask_given.ensures.asks) asked) c.ask-2.ensures.asks

@@ -1,0 +1,9 @@
+use Rattle.std.proofs.Common.{ap, ◌∙◌, length, arith}
+use Rattle.made_model.proofs.ShortTexts.{short-taken}
+use Rattle.made_script.proofs.made.ask_taken.Goals as goal
+
+pub ask-requires-clause-short : goal.ask-requires-clause-short
+ask-requires-clause-short c =
+    let same = ap length (c.deref.ensures ∙ c.in_ok-text.ensures) in
+    let fits = short-taken c.args.amount c.args.note (omega arith) (omega arith) in
+    omega arith

@@ -1,0 +1,11 @@
+use Rattle.std.proofs.Common.{◌≡◌, ◌+◌, length, map}
+use Rattle.std.specs.List.{range_with_len}
+use Rattle.made_model.specs.MadeTexts.{user_text}
+use Rattle.made_script.specs.Asking.{AskMore}
+use Rattle.made_script.proofs.made.ask_users.Given as goal
+
+abbrev pub invariant-loop-before : goal.invariant-loop-before
+invariant-loop-before l = record {
+  asked : AskMore l.fn.calls.items (map user_text (range_with_len 1 l.before)) l.calls.items;
+  longer : length l.calls.items ≡ length l.fn.calls.items + l.before;
+}
