@@ -1,8 +1,7 @@
 //! The parts of a large script, each put behind the calls so far.
 
-ghost use Rattle.std.specs.Prelude.{◌≡◌, ◌<◌, ◌≤◌, ◌+◌, ◌*◌, ◌%◌, ◌==◌, ◌^◌, [], ◌∷◌, ◌++◌, length, map, codes, string_bytes, if◌then◌else◌, IfOk, OnOk};
+ghost use Rattle.std.specs.Prelude.{◌≡◌, ◌<◌, ◌≤◌, ◌+◌, ◌*◌, ◌%◌, ◌==◌, ◌^◌, [], ◌∷◌, length, map, codes, if◌then◌else◌, IfOk, OnOk};
 ghost use Rattle.std.specs.List.{flat_map, range_with_len};
-ghost use Rattle.own_model.specs.declared.limit.TheConstants.{STATEMENT_BYTES};
 ghost use Rattle.made_model.specs.declared.limits.TheConstants.{PEOPLE, SEEDS};
 ghost use Rattle.made_model.specs.Made.{IsMade};
 ghost use Rattle.made_model.specs.MadeTexts.{erased_people, erased_text, erasure_texts, given_text, note_text, schema_texts, shown_text, taken_text, transfer_texts, user_text};
