@@ -6,7 +6,7 @@ pub mod OnDiskLemmas
 pub mod RanLemmas
 pub mod ReadFaults
 pub mod Runs
-pub mod Serving
-pub mod Summing
+pub mod CallsServed
+pub mod CallsTallied
 pub mod RanMadeLemmas
 pub mod RanAsLemmas

@@ -43,7 +43,7 @@ module _ {W : Type 0} (written : W → Option (List ℕ)) (writes : W → ℕ) (
     abbrev Served : Option Db → Option TopFault → Type 0
     Served opened fault = ServesScript Summary calls opened history (written sink_old) (written sink_new) (LastFault writes write_fails sink_old sink_new) Silent fault
 
-    script : (base : Db) (Told : List ℕ → Type 0) → SumsUp base calls history Told → MakesScript people seed (Some base) history Told
+    abbrev script : (base : Db) (Told : List ℕ → Type 0) → SumsUp base calls history Told → MakesScript people seed (Some base) history Told
     script base Told sums = record { base = base; over = refl; calls = calls; made = made; sums = sums }
 
     not_before : (base : Db) (fault : Option TopFault) → Served (Some base) fault → IsBeforeOpening fault → ⊥

@@ -4,7 +4,7 @@ use Rattle.engine_core.specs.Seen.{disk_of}
 use Rattle.store_top.specs.declared.steps.RunFault.TheVariants.{Write}
 use Rattle.store_top.proofs.Failures.{failed-at, none-failed, tells-more}
 use Rattle.store_top.proofs.Moves.{moves-more, moves-none}
-use Rattle.store_top.proofs.Serving.{serving-none, serving-more, serving-breaks, serving-refused, serving-entered}
+use Rattle.store_top.proofs.CallsServed.{serving-none, serving-more, serving-breaks, serving-refused, serving-entered}
 use Rattle.store_top.proofs.lines.serve_calls.Goals as goal
 
 pub loop-call-init : goal.loop-call-init

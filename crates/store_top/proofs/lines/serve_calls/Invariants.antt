@@ -2,7 +2,7 @@ use Rattle.std.proofs.Common.{◌≡◌, ◌≤◌, length}
 use Rattle.std.specs.Vec.Iter.{into_iter_items}
 use Rattle.engine_core.specs.Seen.{disk_of}
 use Rattle.store_top.specs.Steps.{MovesDisk, TellsFailure}
-use Rattle.store_top.proofs.Serving.{Serving}
+use Rattle.store_top.proofs.CallsServed.{Serving}
 use Rattle.store_top.proofs.lines.serve_calls.Given as goal
 
 -- the calls so far are served, and the rest are left

@@ -1,6 +1,10 @@
-use Rattle.std.proofs.Common.{◌∙◌, refl, subst, sym}
+use Rattle.std.proofs.Common.{◌∙◌, map, refl, string_bytes, subst, sym}
 use Rattle.store_top.specs.Complete.{IsServedOrRefused}
-use Rattle.store_top.proofs.RanLemmas.{ran-out_of_memory, ran-usage, reads-nothing}
+use Rattle.store_top.specs.Top.{IsStep}
+use Rattle.store_words.specs.Words.{mode_of}
+use Rattle.store_words.proofs.InRange.{mode_in_range}
+use Rattle.store_top.proofs.RanAsLemmas.{ran_as-out_of_memory}
+use Rattle.store_top.proofs.RanLemmas.{ran-usage, reads-nothing}
 use Rattle.store_top.proofs.running.run.Goals as goal
 
 -- the words are no mode
@@ -10,7 +14,7 @@ returns-in-Ok-None-clause-ran g c =
     let sink = g.W.Sink in
     let end = c.served.ensures in
     let ended = c.without_calls.ensures in
-    rw (end.fault ∙ ended.fault) (ran-usage source.remaining source.faults source.fails sink.written sink.faults sink.fails c.args.source.now c.args.source.now
+    rw (end.fault ∙ ended.fault, sym (rw c.in-Ok-None.field-0-is at c.in-Ok-None.ensures)) (ran-usage source.remaining source.faults source.fails sink.written sink.faults sink.fails c.args.source.now c.args.source.now
     c.args.sink.now c.args.sink.now c.served.result.opened c.served.result.history
     (record { unopened = end.opened ∙ ended.opened; unwritten = refl; uncalled = end.history ∙ ended.history }) (reads-nothing (source.remaining c.args.source.now)) refl)
 
@@ -21,9 +25,9 @@ returns-in-Err-clause-ran g c =
     let sink = g.W.Sink in
     let end = c.served-in-Err.ensures in
     let ended = c.without_calls-in-Err.ensures in
-    rw (end.fault ∙ ended.fault) (ran-out_of_memory source.remaining source.faults source.fails sink.written sink.faults sink.fails c.args.source.now c.args.source.now
+    rw (end.fault ∙ ended.fault) (ran_as-out_of_memory source.remaining source.faults source.fails sink.written sink.faults sink.fails c.args.source.now
     c.args.sink.now c.args.sink.now c.served-in-Err.result.opened c.served-in-Err.result.history
-    (record { unopened = end.opened ∙ ended.opened; unwritten = refl; uncalled = end.history ∙ ended.history }) (reads-nothing (source.remaining c.args.source.now)) refl)
+    (record { unopened = end.opened ∙ ended.opened; unwritten = refl; uncalled = end.history ∙ ended.history }) (mode_of (map string_bytes c.args.words.now)))
 
 -- what nothing disturbs is served: there is a mode
 pub returns-in-Ok-None-clause-complete : goal.returns-in-Ok-None-clause-complete
@@ -33,3 +37,15 @@ returns-in-Ok-None-clause-complete g c words reads writes rose lawful whole =
 pub returns-in-Err-clause-complete : goal.returns-in-Err-clause-complete
 returns-in-Err-clause-complete g c words reads writes rose lawful whole =
     subst IsServedOrRefused (sym (c.served-in-Err.ensures.fault ∙ c.without_calls-in-Err.ensures.fault)) tt
+
+-- in mode step the input is lawful
+pub returns-in-Ok-Some-Step-clause-complete : goal.returns-in-Ok-Some-Step-clause-complete
+returns-in-Ok-Some-Step-clause-complete g c words reads writes rose lawful whole =
+    c.step.ensures.complete reads writes rose (lawful (subst IsStep (rw (c.in-Ok-Some-Step.field-0-is, c.in-Ok-Some-Step.field-0-0-is) at c.in-Ok-Some-Step.ensures) tt)) whole
+
+-- the numbers are in their ranges
+pub make-requires-clause-people : goal.make-requires-clause-people
+make-requires-clause-people g c = (mode_in_range (map string_bytes c.args.words.now) _ _ (sym (rw (c.in-Ok-Some-Make.field-0-is, c.in-Ok-Some-Make.field-0-0-is) at c.in-Ok-Some-Make.ensures))).0
+
+pub make-requires-clause-seed : goal.make-requires-clause-seed
+make-requires-clause-seed g c = (mode_in_range (map string_bytes c.args.words.now) _ _ (sym (rw (c.in-Ok-Some-Make.field-0-is, c.in-Ok-Some-Make.field-0-0-is) at c.in-Ok-Some-Make.ensures))).1

@@ -1,4 +1,4 @@
-use Rattle.std.proofs.Common.{◌∙◌, ap}
+use Rattle.std.proofs.Common.{◌∙◌, [], ap}
 use Rattle.std.specs.Io.KnownBytes.{Appends}
 use Rattle.store_top.specs.Ran.{LastFault}
 use Rattle.store_top.specs.Status.{fault_of}
@@ -15,7 +15,7 @@ returns-in-Lines-clause-served g c =
     let old = sink.written c.args.sink.now in
     let new = sink.written c.serve_calls.new.sink in
     let did = c.serve_calls.ensures in
-    rw c.fault_of.ensures (calls-served base history (LastFault sink.faults sink.fails c.args.sink.now c.serve_calls.new.sink) (RunsTo base c.args.calls.items history old new)
+    rw (c.in-Lines.is, c.fault_of.ensures) (calls-served base history (LastFault sink.faults sink.fails c.args.sink.now c.serve_calls.new.sink) (RunsTo base c.args.calls.items history old new)
     (StopsAtCall base c.args.calls.items history (ToldInPart old new)) (StopsAtCall base c.args.calls.items history (ToldBefore old new)) c.serve_calls.result did.served did.failed did.fault did.broken did.refused)
 
 -- or summed up
@@ -27,7 +27,7 @@ returns-in-Summary-clause-served g c =
     let old = sink.written c.args.sink.now in
     let new = sink.written c.sum_up_calls.new.sink in
     let did = c.sum_up_calls.ensures in
-    rw c.fault_of-in-Summary.ensures (calls-served base history (LastFault sink.faults sink.fails c.args.sink.now c.sum_up_calls.new.sink) (SumsUp base c.args.calls.items history (Appends old new))
+    rw (c.in-Summary.is, c.fault_of-in-Summary.ensures) (calls-served base history (LastFault sink.faults sink.fails c.args.sink.now c.sum_up_calls.new.sink) (SumsUp base c.args.calls.items history (Appends old new))
     (SumsUp base c.args.calls.items history (ToldInPart old new [])) (SumsUp base c.args.calls.items history (ToldBefore old new [])) c.sum_up_calls.result did.served did.failed did.fault did.broken did.refused)
 
 -- a write fault is told as one

@@ -2,7 +2,7 @@ use Rattle.std.proofs.Common.{arith, refl, sym, ◌∙◌}
 use Rattle.engine_core.specs.Seen.{disk_of}
 use Rattle.store_top.proofs.Failures.{failed-at, none-failed, tells-more}
 use Rattle.store_top.proofs.Moves.{moves-more, moves-none}
-use Rattle.store_top.proofs.Summing.{tallying-ends, tallying-entered, tallying-more, tallying-none, tallying-room}
+use Rattle.store_top.proofs.CallsTallied.{tallying-ends, tallying-entered, tallying-more, tallying-none, tallying-room}
 use Rattle.store_top.proofs.summing.tally_calls.Goals as goal
 
 pub loop-call-init : goal.loop-call-init
@@ -26,8 +26,8 @@ tally_call-requires-clause-few g c =
     tallying-room c.args.engine.now.base c.args.calls.items c.loop-call.yielded c.in-Some.call _ c.loop-call.engine.history c.loop-call.tally before c.requires.input.few
 
 -- the call was answered with a fault of the disk
-pub loop-call-preserved-then-branch : goal.loop-call-preserved-then-branch
-loop-call-preserved-then-branch g c =
+pub loop-call-preserved-then-tally_call : goal.loop-call-preserved-then-tally_call
+loop-call-preserved-then-tally_call g c =
     let D = g.D.Disk in
     let so_far = c.loop-call.invariant in
     let own = c.tally_call.ensures in

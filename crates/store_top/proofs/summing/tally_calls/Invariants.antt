@@ -2,7 +2,7 @@ use Rattle.std.proofs.Common.{◌≡◌, ◌≤◌, length}
 use Rattle.std.specs.Vec.Iter.{into_iter_items}
 use Rattle.engine_core.specs.Seen.{disk_of}
 use Rattle.store_top.specs.Steps.{MovesDisk, TellsFailure}
-use Rattle.store_top.proofs.Summing.{Tallying}
+use Rattle.store_top.proofs.CallsTallied.{Tallying}
 use Rattle.store_top.proofs.summing.tally_calls.Given as goal
 
 -- the calls so far are made and added up, and the rest are left

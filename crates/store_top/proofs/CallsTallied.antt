@@ -13,7 +13,7 @@ use Rattle.made_model.specs.Answered.{answered_as, counted}
 use Rattle.made_model.specs.Summary.{Summary, summary}
 use Rattle.made_model.proofs.AnsweredLemmas.{answered-more, answered-none, counted-few}
 use Rattle.store_top.specs.Steps.{AreReadable, TalliesCall, TalliesCalls}
-use Rattle.store_top.proofs.Serving.{entries-added}
+use Rattle.store_top.proofs.CallsServed.{entries-added}
 
 -- Over a database some calls are made and added up, and the rest are left.
 pub record Tallying (base : Db) (calls done rest : List ScriptCall) (history : History) (tally : Summary) : Type 0 where
