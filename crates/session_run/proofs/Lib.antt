@@ -1,0 +1,3 @@
+pub mod LookedLemmas
+pub mod PassLemmas
+pub mod ToldLemmas

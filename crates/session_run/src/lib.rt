@@ -1,0 +1,10 @@
+//! The workers that serve sessions side by side over one turn: each makes the calls of its session, one after another, and
+//! tells each by its lines. The definitions stand in `specs/`.
+#![tactic(auto)]
+
+mod calling;
+mod replies;
+mod telling;
+mod working;
+
+pub use replies::{SessionReplies, Told};
