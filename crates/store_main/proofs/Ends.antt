@@ -1,5 +1,5 @@
 -- What the program did where no run was made, and what a run over an empty disk did.
-use Rattle.std.proofs.Common.{◌≡◌, ℕ, ◌≤◌, List, [], Bool, IsTrue, length, inl, inr, refl, ap, arith}
+use Rattle.std.proofs.Common.{◌≡◌, ℕ, ◌<◌, List, [], ◌∷◌, Bool, IsTrue, length, inl, inr, refl, arith}
 use Rattle.std.specs.Prelude.{Option, None, Some}
 use Rattle.own_base.specs.declared.number.Area.{Area}
 use Rattle.own_base.specs.declared.number.Area.TheVariants.{A, B}
@@ -11,9 +11,12 @@ use Rattle.store_top.specs.declared.served.TopFault.{TopFault}
 use Rattle.store_top.specs.declared.served.TopFault.TheVariants.{Usage, Memory}
 use Rattle.store_top.specs.OnDisk.{OnDisk}
 use Rattle.store_words.specs.declared.words.Mode.{Mode}
+use Rattle.store_words.specs.declared.words.Mode.TheVariants.{Make, Step}
+use Rattle.store_top.specs.RanAs.{IsWholeAs, RanAs}
 use Rattle.store_top.proofs.RanLemmas.{ran-usage, reads-nothing}
 use Rattle.store_top.proofs.RanAsLemmas.{ran_as-out_of_memory}
 use Rattle.store_main.specs.Ended.{IsFresh, RanOver}
+use Rattle.store_main.specs.Words.{served_mode}
 
 module _ {R W : Type 0} (remaining : R → Option (List ℕ)) (reads : R → ℕ) (read_fails : R → R → Type 0)
     (written : W → Option (List ℕ)) (writes : W → ℕ) (write_fails : W → W → Type 0) (in_memory : Bool) (source : R) (sink : W) where
@@ -57,3 +60,18 @@ fresh-served holds leaves moment might honest faults old new None history fault 
 fresh-served holds leaves moment might honest faults old new (Some base) history fault on can in_a in_b =
     let served = on.served base refl can in
     empty_store base served.start (rw (in_a, in_b) at served.store)
+
+-- too few words name no mode
+pub few_serve_none : (words : List (List ℕ)) → length words < 2 → served_mode words ≡ None
+few_serve_none [] few = refl
+few_serve_none (name ∷ []) few = refl
+few_serve_none (name ∷ store ∷ words) few = let never : ⊥ = omega (arith, few) in absurd never
+
+-- a run without a fault came to its end
+pub whole_as : {R W : Type 0} (remaining : R → Option (List ℕ)) (reads : R → ℕ) (read_fails : R → R → Type 0) (written : W → Option (List ℕ)) (writes : W → ℕ) (write_fails : W → W → Type 0)
+    (source_old source_new : R) (sink_old sink_new : W) (opened : Option Db) (history : History) (mode : Option Mode)
+    → RanAs remaining reads read_fails written writes write_fails source_old source_new sink_old sink_new opened history None mode
+    → IsWholeAs (remaining source_old) (remaining source_new) (written sink_old) (written sink_new) opened history mode
+whole_as remaining reads read_fails written writes write_fails source_old source_new sink_old sink_new opened history None ran = ran.whole refl
+whole_as remaining reads read_fails written writes write_fails source_old source_new sink_old sink_new opened history (Some Step) ran = ran.whole refl
+whole_as remaining reads read_fails written writes write_fails source_old source_new sink_old sink_new opened history (Some (Make people seed)) ran = ran.0.whole refl

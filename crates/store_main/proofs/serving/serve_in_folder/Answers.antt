@@ -11,3 +11,12 @@ returns-in-Err-clause-ran g c =
       | inl memory ↦ rw memory (inl (over-memory source.remaining source.faults source.fails sink.written sink.faults sink.fails _ c.args.source.now c.args.sink.now _))
       | inr disk ↦ inr (record { told = disk; unread = refl; unwritten = refl })
     ]
+
+-- a run was made over them
+pub returns-in-Ok-clause-ran : goal.returns-in-Ok-clause-ran
+returns-in-Ok-clause-ran g c = rw c.ended.ensures (inl (record {
+  opened = c.run.result.opened;
+  history = c.run.result.history;
+  fresh = λ is. let never : ⊥ = cc in absurd never;
+  ran = c.run.ensures.ran;
+}))
