@@ -8,10 +8,10 @@ use std::test::Fail;
 use std::thread::Threads;
 use store_top::{Served, run, step};
 
-/// A run over sources and sinks in memory: the words behind the store's, the input, the calls of the source and of the sink that fail,
+/// A run over sources and sinks in memory: the words behind the store's, one space between them, the input, the calls of the source and of the sink that fail,
 /// and then the status, the number of entries and the output that are wanted.
 struct Case {
-    words: &'static [&'static str],
+    words: &'static str,
     input: &'static str,
     source_fails: &'static [u32],
     sink_fails: &'static [u32],
@@ -40,7 +40,7 @@ const SUMMARY: &str = "calls 18\ndone 18\nrefused 0\nmemory 0\ngot 2\nforgot 2 0
 
 const CASES: [Case; 12] = [
     Case {
-        words: &["make", "2", "1"],
+        words: "make 2 1",
         input: FIRST,
         source_fails: &[0],
         sink_fails: &[],
@@ -49,7 +49,7 @@ const CASES: [Case; 12] = [
         output: SUMMARY,
     },
     Case {
-        words: &["make", "2", "1"],
+        words: "make 2 1",
         input: FIRST,
         source_fails: &[],
         sink_fails: &[0],
@@ -58,7 +58,7 @@ const CASES: [Case; 12] = [
         output: "",
     },
     Case {
-        words: &["make", "2"],
+        words: "make 2",
         input: FIRST,
         source_fails: &[],
         sink_fails: &[],
@@ -67,7 +67,7 @@ const CASES: [Case; 12] = [
         output: "",
     },
     Case {
-        words: &["step"],
+        words: "step",
         input: FIRST,
         source_fails: &[],
         sink_fails: &[],
@@ -76,7 +76,7 @@ const CASES: [Case; 12] = [
         output: FIRST_OUTPUT,
     },
     Case {
-        words: &["step"],
+        words: "step",
         input: REFUSALS,
         source_fails: &[],
         sink_fails: &[],
@@ -85,7 +85,7 @@ const CASES: [Case; 12] = [
         output: "0 1.1 ok\n1 1.2 ok 1\n2 1.3 rows 1\n  5|'Ann'\n3 1.4 refused duplicate users 5\n4 1.5 refused table cats\n5 1.6 refused outside\n6 1.7 end\n",
     },
     Case {
-        words: &["step"],
+        words: "step",
         input: CATALOG,
         source_fails: &[],
         sink_fails: &[],
@@ -94,7 +94,7 @@ const CASES: [Case; 12] = [
         output: "0 1.1 ok\n1 1.2 ok\n2 1.3 refused taken users\n3 1.4 refused owner msgs 1\n4 1.5 ok\n5 1.6 ok 1\n6 1.7 refused rows cities\n7 1.8 graph 4\n  users subject\n  msgs private\n  msgs.sender OWNED_BY users\n  cities public\n8 1.9 rows 1\n  2\n9 1.10 end\n",
     },
     Case {
-        words: &["step"],
+        words: "step",
         input: " \t\n",
         source_fails: &[],
         sink_fails: &[],
@@ -103,7 +103,7 @@ const CASES: [Case; 12] = [
         output: "",
     },
     Case {
-        words: &["step"],
+        words: "step",
         input: SESSIONS,
         source_fails: &[],
         sink_fails: &[],
@@ -112,7 +112,7 @@ const CASES: [Case; 12] = [
         output: "0 1.1 ok\n1 1.2 ok\n2 1.3 ok 1\n3 2.1 rows 0\n4 2.2 refused conflict 1 users 5\n5 2.3 refused syntax 5\n6 1.4 ok\n7 1.5 rows 1\n  5|'Ann'\n8 1.6 end\n9 2.4 end\n",
     },
     Case {
-        words: &["step"],
+        words: "step",
         input: "SELECT * FROM users;\n-- session 17\n",
         source_fails: &[],
         sink_fails: &[],
@@ -121,7 +121,7 @@ const CASES: [Case; 12] = [
         output: "",
     },
     Case {
-        words: &["stop"],
+        words: "stop",
         input: FIRST,
         source_fails: &[],
         sink_fails: &[],
@@ -130,7 +130,7 @@ const CASES: [Case; 12] = [
         output: "",
     },
     Case {
-        words: &["step"],
+        words: "step",
         input: FIRST,
         source_fails: &[0],
         sink_fails: &[],
@@ -139,7 +139,7 @@ const CASES: [Case; 12] = [
         output: "",
     },
     Case {
-        words: &["step"],
+        words: "step",
         input: FIRST,
         source_fails: &[],
         sink_fails: &[1],
@@ -152,7 +152,7 @@ const CASES: [Case; 12] = [
 /// Runs a case, and tells its status, its entries and its output.
 fn told<Rt: Threads + Wait + Sync>(rt: &Rt, alloc: Global, case: &Case) -> Result<String, Fail> {
     let mut words = Vec::new(alloc);
-    for word in case.words {
+    for word in case.words.split(' ') {
         words.push(String::from_str(alloc, word)?)?;
     }
     let mut source = MemSource::new(alloc, case.input.as_bytes(), case.source_fails)?;
