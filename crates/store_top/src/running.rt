@@ -138,13 +138,7 @@ fn make_large<W: Sink, D: Disk>(
     ensures on_disk { OnDisk D.holds D.leaves D.moment D.might_have_left D.honest D.faults disk result.disk result.opened result.history result.fault }
 {
     match make_script(alloc, people, seed) {
-        Ok(script) => serve_script(
-            alloc,
-            script.calls.into_vec(),
-            Telling::Summary,
-            sink,
-            disk,
-        ),
+        Ok(script) => serve_script(alloc, script.calls.into_vec(), Telling::Summary, sink, disk),
         Err(AllocError) => without_calls(alloc, TopFault::Memory, disk),
     }
 }

@@ -36,7 +36,8 @@ const CATALOG: &str =
 
 /// By hand: two tables and a view, two people and two notes, two transfers of four calls, a GET, a FORGET and a SELECT. The first
 /// person has the second note alone, and the first note's number is 73 and 65 more.
-const SUMMARY: &str = "calls 18\ndone 18\nrefused 0\nmemory 0\ngot 2\nforgot 2 0\nheld 1\nsum 138\n";
+const SUMMARY: &str =
+    "calls 18\ndone 18\nrefused 0\nmemory 0\ngot 2\nforgot 2 0\nheld 1\nsum 138\n";
 
 const CASES: [Case; 12] = [
     Case {
