@@ -1,16 +1,14 @@
 -- What a look is by a history, where memory for what it shows is refused.
-use Rattle.std.proofs.Common.{◌≡◌, ℕ, ◌<◌, ◌≤◌, List, [], ◌∷◌, ◌++◌, length, refl, ap, sym, ◌∙◌, arith}
-use Rattle.std.specs.Prelude.{Bool, true, false, ◌&&◌, Option, None, Some, Result, Ok, Err, nat_lt, if◌then◌else◌}
+use Rattle.std.proofs.Common.{◌≡◌, ℕ, ◌<◌, ◌≤◌, List, [], ◌∷◌, ◌++◌, length, refl, arith}
+use Rattle.std.specs.Prelude.{Bool, true, false, ◌&&◌, Option, None, Some, if◌then◌else◌}
 use Rattle.std.proofs.lemmas.List.{take-append-le}
 use Rattle.std.proofs.Math.Seq.{take-append_seam}
 use Rattle.own_model.specs.declared.bound.Bound.{Bound}
 use Rattle.own_model.specs.declared.bound.Bound.TheVariants.{Explain}
 use Rattle.own_model.specs.declared.history.Entry.{Entry}
-use Rattle.own_model.specs.declared.limit.LimitName.TheVariants as limit
 use Rattle.own_model.specs.declared.refusal.Refusal.{Refusal}
-use Rattle.own_model.specs.declared.refusal.Refusal.TheVariants.{Limit, NoSubject}
 use Rattle.own_model.specs.declared.reply.Reply.{Reply}
-use Rattle.own_model.specs.declared.reply.Reply.TheVariants.{Rows, Got, Graph, Refused}
+use Rattle.own_model.specs.declared.reply.Reply.TheVariants.{Refused}
 use Rattle.own_model.specs.declared.request.Request.{Request}
 use Rattle.own_model.specs.declared.request.Request.TheVariants as request
 use Rattle.own_model.specs.declared.schema.Schema.{Schema}
@@ -20,8 +18,8 @@ use Rattle.own_model.specs.Db.{Db, Row}
 use Rattle.query_model.specs.BoundStatement.{bound_statement, bound_unless, meaning}
 use Rattle.query_model.specs.Query.{reply_of}
 use Rattle.schema_model.proofs.Places.{slice_get-append_below, slice_get-push}
-use Rattle.run_model.specs.Run.{Outcome, answered, if_there, run_bound, show_subject}
-use Rattle.history_model.specs.History.{History, flat, is_disk, reply, standing, world}
+use Rattle.run_model.specs.Run.{run_bound, show_subject}
+use Rattle.history_model.specs.History.{History, is_disk, reply, standing, world}
 use Rattle.history_model.specs.World.{SessionStanding, Outside, Open, Doomed, World}
 use Rattle.history_model.proofs.HistoryLemmas.{standing-world}
 use Rattle.transcript_model.specs.Printed.{is_outside, is_reading, is_shown, looks}

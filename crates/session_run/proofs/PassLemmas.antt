@@ -17,13 +17,13 @@ use Rattle.serve_model.specs.Steps.{Steps, entry}
 use Rattle.serve_model.proofs.LookLemmas.{look-asked}
 use Rattle.commit_turn.specs.declared.pass.Pass.{Pass}
 use Rattle.commit_turn.specs.declared.view.View.{View}
-use Rattle.commit_turn.specs.Passes.{base, is_lead, places, seen, start_of, view_of}
-use Rattle.commit_turn.specs.Steps.{MayCount, counted, holding, released}
+use Rattle.commit_turn.specs.Passes.{base, places, seen}
+use Rattle.commit_turn.specs.Steps.{MayCount}
 use Rattle.commit_turn.proofs.Prefixes.{prefix_refl, prefix_trans}
 use Rattle.session_run.specs.declared.replies.Told.{Told}
 use Rattle.session_run.specs.Telling.{MayBeLookedAt, TellsStep, place_number}
 use Rattle.session_run.specs.ToldCalls.{AreTold, places_told}
-use Rattle.session_run.specs.Serving.{MakesByPass, ServesCalls, StaysThatOf, WorksFor, base_of}
+use Rattle.session_run.specs.Serving.{MakesByPass, ServesCalls, base_of}
 use Rattle.session_run.proofs.ToldLemmas.{step-told, told-grows, told-more}
 
 -- what a call leaves may be given back: the entries that it found, or one more, of its session

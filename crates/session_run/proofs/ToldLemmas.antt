@@ -1,6 +1,6 @@
 -- What is told of calls is what a history says of them.
-use Rattle.std.proofs.Common.{◌≡◌, ℕ, zero, suc, ◌<◌, ◌≤◌, ◌≢◌, List, [], ◌∷◌, ◌++◌, length, refl, ap, sym, ◌∙◌, subst, inl, inr, arith, ◌+◌, length-append}
-use Rattle.std.specs.Prelude.{Bool, true, false, ltb, Option, None, Some, IfSome, slice_get}
+use Rattle.std.proofs.Common.{◌≡◌, ℕ, zero, suc, ◌<◌, ◌≢◌, List, [], ◌∷◌, ◌++◌, length, refl, ap, sym, ◌∙◌, subst, inl, inr, arith, ◌+◌, length-append}
+use Rattle.std.specs.Prelude.{true, false, ltb, Option, None, Some, IfSome, slice_get}
 use mathlib.Core.List.{IsPrefix}
 use Rattle.own_base.specs.declared.number.Place.{Place}
 use Rattle.own_base.specs.declared.number.SessionNo.{SessionNo}
@@ -15,14 +15,12 @@ use Rattle.own_model.specs.Db.{Db}
 use Rattle.schema_model.proofs.Places.{slice_get-append, slice_get-push}
 use Rattle.text_model.specs.Lines.{reply_lines}
 use Rattle.run_model.specs.Run.{run_bound}
-use Rattle.history_model.specs.AsksDisk.{under}
 use Rattle.history_model.specs.History.{History, flat, is_disk, reply, world}
 use Rattle.history_model.specs.Made.{Called, Want, Spared, Unshown, Unmade, entry_of, place_by}
 use Rattle.history_model.proofs.HistoryLemmas.{reply-append}
 use Rattle.transcript_model.specs.Printed.{is_shown, lines_at, looks, told}
 use Rattle.serve_model.specs.declared.step.Step.{Step}
 use Rattle.serve_model.specs.declared.step.Step.TheVariants.{Answered, Look, NoMemory}
-use Rattle.serve_model.specs.Look.{look_of}
 use Rattle.serve_model.specs.Steps.{IsAnswered, IsLookedAt, Steps, entry}
 use Rattle.serve_model.proofs.LookLemmas.{look-replied}
 use Rattle.commit_turn.specs.Steps.{added_place}

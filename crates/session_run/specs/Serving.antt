@@ -1,5 +1,5 @@
 -- What the holder of a pass does that makes the calls of its session.
-use Rattle.std.specs.Prelude.{◌≡◌, ℕ, List, ◌++◌, Bool, false}
+use Rattle.std.specs.Prelude.{◌≡◌, ℕ, List, ◌++◌, false}
 use Rattle.std.specs.List.{AllByRecursion}
 use mathlib.Core.List.{IsPrefix}
 use Rattle.own_base.specs.declared.number.SessionNo.{SessionNo}
@@ -11,7 +11,6 @@ use Rattle.history_model.specs.History.{History}
 use Rattle.history_model.specs.Serial.{Serial}
 use Rattle.serve_model.specs.declared.step.Step.{Step}
 use Rattle.serve_model.specs.Steps.{Steps}
-use Rattle.turn_model.specs.Start.{Start}
 use Rattle.commit_turn.specs.declared.pass.Pass.{Pass}
 use Rattle.commit_turn.specs.Passes.{base, is_lead, places, seen, start_of, view_of}
 use Rattle.commit_turn.specs.Steps.{counted, holding, released}

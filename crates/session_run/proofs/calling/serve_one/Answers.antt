@@ -1,4 +1,3 @@
-use Rattle.std.proofs.Common.{◌≡◌}
 use Rattle.session_run.proofs.PassLemmas.{may-look, serves-one}
 use Rattle.session_run.proofs.calling.serve_one.Goals as goal
 

@@ -1,5 +1,4 @@
-use Rattle.std.proofs.Common.{◌≡◌, ◌++◌, [], ◌∷◌, ap, ◌∙◌, sym, refl, subst, arith, append_assoc, length}
-use Rattle.std.specs.Vec.Iter.{into_iter_items}
+use Rattle.std.proofs.Common.{◌++◌, [], ◌∷◌, ap, ◌∙◌, sym, subst, arith, append_assoc, length}
 use Rattle.session_run.specs.Serving.{ServesCalls}
 use Rattle.session_run.proofs.PassLemmas.{serves-more, serves-none}
 use Rattle.session_run.proofs.working.serve_calls.Goals as goal
