@@ -4,7 +4,10 @@
 
 mod calling;
 mod replies;
+mod running;
+mod sessions;
 mod telling;
 mod working;
 
 pub use replies::{SessionReplies, Told};
+pub use running::run_threads;
