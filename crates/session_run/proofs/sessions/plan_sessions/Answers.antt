@@ -1,6 +1,7 @@
 use Rattle.std.proofs.Common.{◌≡◌, List, [], ◌∷◌, ◌++◌, length, map, ap, ◌∙◌, sym, subst, arith, append_assoc}
 use Rattle.std.specs.List.{AllByRecursion}
 use Rattle.std.proofs.lemmas.List.{map-append}
+use Rattle.std.specs.Vec.Iter.{into_iter_items}
 use Rattle.session_run.specs.declared.sessions.Plan.{Plan}
 use Rattle.session_run.specs.Jobs.{HasRoom}
 use Rattle.session_run.proofs.JobLemmas.{all-append}
@@ -13,8 +14,8 @@ loop-calls-preserved c =
     let room = rw items at so_far.room in
     let plan : Plan = record { calls = c.in-Some.calls; tolds = c.in_ok-tolds.tolds } in
     record {
-      whole = ap (λ (plans : List Plan). map (λ plan. plan.calls) plans ++ _) c.push_reserved.ensures.items
-          ∙ (ap (λ calls. calls ++ _) (map-append (λ (plan : Plan). plan.calls) c.loop-calls.plans.items (plan ∷ []))
+      whole = ap (λ (plans : List Plan). map (λ plan. plan.calls) plans ++ into_iter_items c.next.new.self) c.push_reserved.ensures.items
+          ∙ (ap (λ calls. calls ++ into_iter_items c.next.new.self) (map-append (λ (plan : Plan). plan.calls) c.loop-calls.plans.items (plan ∷ []))
           ∙ (append_assoc (map (λ (plan : Plan). plan.calls) c.loop-calls.plans.items) (c.in-Some.calls ∷ []) _
           ∙ (ap (λ rest. map (λ (plan : Plan). plan.calls) c.loop-calls.plans.items ++ rest) (sym items) ∙ so_far.whole)));
       rooms = subst (λ plans. AllByRecursion HasRoom plans) (sym c.push_reserved.ensures.items)
