@@ -97,6 +97,29 @@ def beside(page, heading=None):
     return calls, told
 
 
+def by_place(page, heading):
+    """Of sessions that are served side by side, by the last script and the last replies: the calls in the order of their places,
+    and the replies in that order. The Ends have to have the last places, by session."""
+    calls, session, told = {}, 1, []
+    for line in [block for word, block in blocks(page, heading) if word == "sql"][-1]:
+        if SESSION.fullmatch(line):
+            session = int(SESSION.fullmatch(line)[1])
+        else:
+            calls.setdefault(session, []).append(line)
+    for line in [block for word, block in blocks(page, heading) if word is None and FIRST.match(block[0])][-1]:
+        if FIRST.match(line):
+            told.append((line, []))
+        else:
+            told[-1][1].append(line)
+    told.sort(key=lambda reply: int(reply[0].split(" ")[0]))
+    script = ""
+    for first, _ in told:
+        session, number = map(int, first.split(" ")[1].split("."))
+        if number <= len(calls[session]):
+            script += f"-- session {session}\n{calls[session][number - 1]}\n"
+    return script, "".join("\n".join([first, *rows]) + "\n" for first, rows in told)
+
+
 def write(text):
     """To standard output, as UTF-8."""
     sys.stdout.buffer.write(text.encode())

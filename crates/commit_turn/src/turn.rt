@@ -1,4 +1,4 @@
-ghost use Rattle.std.specs.Prelude.{◌≡◌, ◌≤◌, ℕ, [], ◌∷◌, true, false, IfErr, IfOk, Some};
+ghost use Rattle.std.specs.Prelude.{◌≡◌, ◌<◌, ◌≤◌, ℕ, [], ◌∷◌, true, false, IfErr, IfOk, Some, length};
 ghost use mathlib.Core.List.{IsPrefix};
 ghost use Rattle.own_model.specs.declared.limit.TheConstants.{SESSIONS};
 ghost use Rattle.commit_turn.specs.Passes.{IsFresh, IsHeldOf, IsPassOf, base, count_out, found_start, is_lead, kept, seen, start_of, view_of};
@@ -98,13 +98,15 @@ impl<T: Keeps> Turn<T> {
         }
     }
 
-    /// Splits a pass of a session off the lead. It has seen what the lead has. Takes no memory.
+    /// Splits a pass of a session off the lead. It has seen what the lead has, which has a place for the session. Takes no
+    /// memory.
     pub fn split(&self, lead: &mut Pass, session: SessionNo) -> Pass
         requires lead { IsPassOf self.now lead.old × (is_lead lead.old ≡ true) }
         requires number { session.0 ≤ SESSIONS }
         requires fresh { IsFresh lead.old session.0 }
         ensures lead { IsPassOf self.now lead.new × (view_of lead.new ≡ lead_without session.0 (view_of lead.old)) }
         ensures pass { IsPassOf self.now result × (view_of result ≡ split_off session.0 (view_of lead.old)) }
+        ensures place { session.0 < length (view_of lead.old).stages }
     {
         let mut seat: Sitting<T> = replace(&mut lead.badge, Badge::blank()).into_seat();
         let other = part::<T, Brand>(&self.table.shared, &mut seat, session);

@@ -31,15 +31,13 @@ use Rattle.engine_core.specs.Answered.{Erases, ErasesBound, bound_reply, bound_w
 use Rattle.engine_core.specs.Asked.{IsBound, IsMeant}
 use Rattle.engine_core.specs.declared.answer.Answer.{Answer}
 
--- what a statement means that binding lets through is a select whose source is there, a write, or a GDPR call on a table of data subjects
+-- what a statement means that binding lets through, and that changes rows, is a write, or a FORGET by a row of a table of data subjects
 meant_there : (schema : Schema) (found : Statement) → IsBound found → bound_statement schema found ≡ Ok (meaning schema found) → lowest (faults schema found) ≡ None
     → IsMeant schema (meaning schema found)
 unfolding meaning faults
-meant_there schema (statement.Select select) bound is told = source_is_there schema select told
 meant_there schema (statement.Insert name names tuples) bound is told = bound_write schema (statement.Insert name names tuples) _ is tt
 meant_there schema (statement.Update name sets cond) bound is told = bound_write schema (statement.Update name sets cond) _ is tt
 meant_there schema (statement.Delete name cond) bound is told = bound_write schema (statement.Delete name cond) _ is tt
-meant_there schema (statement.GdprGet name key) bound is told = subject-bound schema name key told
 meant_there schema (statement.GdprForget name key) bound is told = subject-bound schema name key told
 meant_there schema _ bound is told = absurd bound
 
@@ -51,11 +49,9 @@ meant-bound schema found got bound is =
 -- it runs as what it means
 run-meant : (db : Db) (found : Statement) → IsBound found → bound_statement db.schema found ≡ Ok (meaning db.schema found) → run db found ≡ run_bound db (meaning db.schema found)
 unfolding run
-run-meant db (statement.Select select) bound is = rw is refl
 run-meant db (statement.Insert name names tuples) bound is = rw is refl
 run-meant db (statement.Update name sets cond) bound is = rw is refl
 run-meant db (statement.Delete name cond) bound is = rw is refl
-run-meant db (statement.GdprGet name key) bound is = rw is refl
 run-meant db (statement.GdprForget name key) bound is = rw is refl
 run-meant db _ bound is = absurd bound
 
@@ -81,11 +77,9 @@ row-bound schema found got takes is =
 
 run-refused : (db : Db) (found : Statement) (why : Refusal) → IsBound found → bound_statement db.schema found ≡ Err why → run db found ≡ answered db (Refused why)
 unfolding run
-run-refused db (statement.Select select) why bound is = rw is refl
 run-refused db (statement.Insert name names tuples) why bound is = rw is refl
 run-refused db (statement.Update name sets cond) why bound is = rw is refl
 run-refused db (statement.Delete name cond) why bound is = rw is refl
-run-refused db (statement.GdprGet name key) why bound is = rw is refl
 run-refused db (statement.GdprForget name key) why bound is = rw is refl
 run-refused db _ why bound is = absurd bound
 
@@ -95,11 +89,9 @@ module _ (world : World) (session : ℕ) (verdict : Verdict) where
       → run world.flat found ≡ run_bound world.flat (meaning world.flat.schema found)
       → reply_outside world session verdict found ≡ bound_reply world world.flat session (meaning world.flat.schema found) verdict
   unfolding meaning
-  reply-meant (statement.Select select) bound is runs = ap (λ outcome. outcome.reply) runs
   reply-meant (statement.Insert name names tuples) bound is runs = rw (is, runs) refl
   reply-meant (statement.Update name sets cond) bound is runs = rw (is, runs) refl
   reply-meant (statement.Delete name cond) bound is runs = rw (is, runs) refl
-  reply-meant (statement.GdprGet name key) bound is runs = ap (λ outcome. outcome.reply) runs
   reply-meant (statement.GdprForget name key) bound is runs = rw runs refl
   reply-meant _ bound is runs = absurd bound
 
@@ -112,11 +104,9 @@ module _ (world : World) (session : ℕ) (verdict : Verdict) where
 
   reply-step : (found : Statement) (why : Refusal) → IsBound found → bound_statement world.flat.schema found ≡ Err why → run world.flat found ≡ answered world.flat (Refused why)
       → reply_outside world session verdict found ≡ Refused why
-  reply-step (statement.Select select) why bound is runs = ap (λ outcome. outcome.reply) runs
   reply-step (statement.Insert name names tuples) why bound is runs = rw is refl
   reply-step (statement.Update name sets cond) why bound is runs = rw is refl
   reply-step (statement.Delete name cond) why bound is runs = rw is refl
-  reply-step (statement.GdprGet name key) why bound is runs = ap (λ outcome. outcome.reply) runs
   reply-step (statement.GdprForget name key) why bound is runs = ap (λ (outcome : Outcome). forget_reply verdict outcome) runs
   reply-step _ why bound is runs = absurd bound
 
@@ -128,11 +118,9 @@ module _ (world : World) (session : ℕ) (verdict : Verdict) where
 erases-meant : (db : Db) (found : Statement) (reply : Reply) (items : List FootItem) → IsBound found
     → erases db (Run found) reply items ≡ erases_bound db (meaning db.schema found) reply items
 unfolding meaning
-erases-meant db (statement.Select select) reply items bound = and-false (not (is_refusal reply))
 erases-meant db (statement.Insert name names tuples) reply items bound = and-false (not (is_refusal reply))
 erases-meant db (statement.Update name sets cond) reply items bound = and-false (not (is_refusal reply))
 erases-meant db (statement.Delete name cond) reply items bound = and-false (not (is_refusal reply))
-erases-meant db (statement.GdprGet name key) reply items bound = and-false (not (is_refusal reply))
 erases-meant db (statement.GdprForget name key) reply items bound = refl
 erases-meant db _ reply items bound = absurd bound
 
@@ -145,11 +133,9 @@ erases-as_bound db found got answer bound is erased =
 -- and what it writes is what its meaning does
 written-meant : (db behind : Db) (number : ℕ) (found : Statement) → IsBound found → bound_written db number (meaning db.schema found) behind ≡ written_by db (Run found) behind number
 unfolding meaning
-written-meant db behind number (statement.Select select) bound = refl
 written-meant db behind number (statement.Insert name names tuples) bound = refl
 written-meant db behind number (statement.Update name sets cond) bound = refl
 written-meant db behind number (statement.Delete name cond) bound = refl
-written-meant db behind number (statement.GdprGet name key) bound = refl
 written-meant db behind number (statement.GdprForget name key) bound = refl
 written-meant db behind number _ bound = absurd bound
 

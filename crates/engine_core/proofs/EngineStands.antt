@@ -1,6 +1,7 @@
 -- What an engine keeps, before any call and with one call more.
 use Rattle.std.proofs.Common.{◌≡◌, ◌∙◌, ℕ, ◌+◌, ◌<◌, ◌≤◌, List, [], ◌∷◌, ◌++◌, Bool, true, false, length, inl, inr, refl, ap, sym, subst, arith}
 use Rattle.std.specs.Prelude.{◌≢◌, ◌⊎◌, ◌&&◌, nat_lt, not, Option, None, Some, Result, Ok, Err, IfOk, OnErr, IsTrue, is_some, option_map, if◌then◌else◌}
+use Rattle.std.specs.Option.{option_map_or}
 use Rattle.std.proofs.lemmas.Bool.{ltb-false, ltb-true}
 use Rattle.std.proofs.lemmas.List.{length-append}
 use Rattle.own_base.specs.declared.number.Area.{Area}
@@ -17,7 +18,9 @@ use Rattle.schema_model.proofs.Places.{all-append}
 use Rattle.state_model.specs.Sound.{Sound}
 use Rattle.history_model.specs.AsksDisk.{asks_disk, under}
 use Rattle.history_model.specs.Commits.{commits, is_commit}
+use Rattle.history_model.specs.Fails.{fails_at}
 use Rattle.history_model.specs.History.{History, down_after, flat, happens, is_disk, reply, world}
+use Rattle.history_model.specs.Made.{Spared}
 use Rattle.history_model.specs.Reply.{answer, by_verdict, is_refusal}
 use Rattle.history_model.specs.Serial.{IsEntry, IsHistory}
 use Rattle.history_model.specs.World.{World}
@@ -27,9 +30,11 @@ use Rattle.history_model.proofs.RefusalLemmas.{answer-down}
 use Rattle.crash_model.specs.Alone.{IsAloneOn, is_laid_behind, laid_by}
 use Rattle.crash_model.proofs.AloneLemmas.{laid-append, laid-none}
 use Rattle.crash_model.specs.LeftBy.{IsLate, IsLeftBy, IsWhole}
+use Rattle.crash_model.specs.MovesDisk.{IsLeftByEither, MovesDisk, MovesDiskOnce}
 use Rattle.crash_model.specs.Room.{IsNoRoomExact, JournalEnd, bytes_written, is_taken, journal_behind, journal_with, lays_anew, room}
 use Rattle.crash_model.specs.StoreIn.{IsStoreIn}
 use Rattle.crash_model.proofs.LeftLemmas.{commits-down, commits-more, down-whole, late-last, whole-none, whole-refused}
+use Rattle.crash_model.proofs.Moves.{moves-more, moves-none}
 use Rattle.crash_model.proofs.RoomLemmas.{asks-under, bytes-under, exact-more, exact-none, journal-append, journal-none}
 use Rattle.own_model.specs.declared.limit.TheConstants.{JOURNAL_ROOM}
 use Rattle.store_disk.specs.Kept.{HasRoomFor, IsKept}
@@ -37,7 +42,7 @@ use Rattle.store_disk.specs.declared.store_disk.StoreDisk.{StoreDisk}
 use Rattle.store_disk.proofs.LeftKept.{kept-left}
 use Rattle.engine_core.specs.Made.{IsEndOf, IsMade, Stands}
 use Rattle.engine_core.specs.RepresentsWorld.{RepresentsWorld}
-use Rattle.engine_core.specs.Seen.{IsAloneBehind, IsLeftByEither, Makes, Seen, Writes}
+use Rattle.engine_core.specs.Seen.{IsAloneBehind, Makes, Seen, Writes}
 use Rattle.engine_core.specs.Stored.{Carries, IsLaidAnew, grown_by, is_fault, kept_by}
 use Rattle.engine_core.specs.declared.state.State.{State}
 
@@ -47,6 +52,11 @@ fails_of None true p is = let never : ◌≡◌ {A = Option ℕ} None (Some p) =
 fails_of None false p is = refl
 fails_of (Some q) true p is = refl
 fails_of (Some q) false p is = let never : ◌≡◌ {A = Option ℕ} (Some q.0) None = is in cc
+
+is_failed : (verdict : Verdict) → is_fault verdict ≡ true → verdict ≡ DiskFault
+is_failed Took is = let never : false ≡ true = is in cc
+is_failed DiskFault is = refl
+is_failed NoRoom is = let never : false ≡ true = is in cc
 
 none_of : (down : Option Place) → is_some down ≡ false → down ≡ None
 none_of None is = refl
@@ -163,7 +173,7 @@ module _ {D : Type 0} (holds : D → Area → List ℕ) (leaves : D → Area →
   -- before any call
   pub stands-begun : (state : State) (store : StoreDisk D) (start : ℕ) (at : JournalEnd) → IsEndOf store.journal at → start ≡ store.commits → Sound state.opened → RepresentsWorld state (world state.opened []) → store.journal.failed ≡ false
       → (IsTrue (honest store.journal.disk) → IsKept holds leaves store.journal state.opened store.commits)
-      → Stands holds leaves honest start at state store None []
+      → Stands holds leaves moment might honest faults store.journal.disk start at state store None []
   unfolding flat commits world
   stands-begun state store start at ends begins sound represents up kept = record {
     entries = tt;
@@ -179,9 +189,11 @@ module _ {D : Type 0} (holds : D → Area → List ℕ) (leaves : D → Area →
     ends = λ none. subst (IsEndOf store.journal) (sym (journal-none at state.opened start)) ends;
     exact = exact-none at state.opened start;
     alone = λ laid. let never : false ≡ true = sym (laid-none state.opened) ∙ laid in absurd (cc);
+    moves = moves-none leaves moment might only_now honest faults state.opened start sound store.journal.disk
+        (λ is a b in_a in_b. subst (IsStoreIn a b state.opened) (sym begins) (kept-left holds leaves store.journal state.opened store.commits (kept is) a b in_a in_b));
   }
 
-  module _ (start : ℕ) (at : JournalEnd) (state_old state : State) (store_old store : StoreDisk D) (down_old down : Option Place) (history_old history : History) (old : Stands holds leaves honest start at state_old store_old down_old history_old)
+  module _ {opening : D} (start : ℕ) (at : JournalEnd) (state_old state : State) (store_old store : StoreDisk D) (down_old down : Option Place) (history_old history : History) (old : Stands holds leaves moment might honest faults opening start at state_old store_old down_old history_old)
       (call : Entry) (took : call.verdict ≡ Took) (place : ℕ) (told : Reply)
       (made : IsMade holds leaves moment might honest faults state_old.opened history_old history state store_old store down_old down call place told) where
     abbrev base : Db
@@ -418,59 +430,13 @@ module _ {D : Type 0} (holds : D → Area → List ℕ) (leaves : D → Area →
           subst (λ (store : StoreDisk D). IsTrue (honest store.journal.disk) → (a b : List ℕ) → leaves store.journal.disk A a → leaves store.journal.disk B b → IsLeftBy base start history a b) (sym still.0)
           (λ is a b in_a in_b. subst (λ h. IsLeftBy base start h a b) (sym made.history) (down-whole base start a b history_old entry failed_at.0 was_down (old.left is a b in_a in_b)))
 
-    module _ (is_entry : IsEntry call) (opened : state.opened ≡ state_old.opened) where
-      entries_now : IsHistory history
-      entries_now =
-          subst IsHistory (sym made.history)
-          (all-append IsEntry history_old (entry ∷ []) old.entries (record { readable = is_entry.readable; first = is_entry.first; last = is_entry.last }, tt))
-
-      -- what is so over the database that was opened is so over that of the state
-      over : (P : Db → Type 0) → P base → P state.opened
-      over P is = subst P (sym opened) is
-
-      by_down : (was : Option Place) → down_old ≡ was → Stands holds leaves honest start at state store down history
-      by_down None was = record {
-        entries = entries_now;
-        begun = over Sound old.begun;
-        represents = λ none. over (λ db. RepresentsWorld state (world db history)) (made.represents none);
-        down_is = over (λ db. (world db history).down ≡ option_map (λ (place : Place). place.0) down) made.down_is;
-        failed = (carries was).failed ∙ sym (failed_is was);
-        kept = λ none is.
-            let sound : made.verdict ≢ DiskFault = λ fault. let never : true ≡ false = ap is_fault (sym fault) ∙ (sym (failed_is was) ∙ ap is_some none) in cc in
-            over (λ db. IsKept holds leaves store.journal (flat db history) store.commits) (kept_now was sound is);
-        count = over (λ db. store.commits ≡ start + length (commits db history)) (count_now was);
-        left = λ is a b in_a in_b. over (λ db. IsLeftBy db start history a b) (left_now was _ refl is a b in_a in_b);
-        ends = λ none.
-            let sound : made.verdict ≢ DiskFault = λ fault. let never : true ≡ false = ap is_fault (sym fault) ∙ (sym (failed_is was) ∙ ap is_some none) in cc in
-            over (λ db. IsEndOf store.journal (journal_behind at db start history)) (ends_now was sound);
-        exact = over (λ db. IsNoRoomExact at db start history) (exact_now was);
-        alone = over (λ db. is_laid_behind db history ≡ true → (down ≡ None) × alone_in (flat db history) store) (λ laid. (none_now was laid, alone_now was laid));
-      }
-      by_down (Some failed_at) was = record {
-        entries = entries_now;
-        begun = over Sound old.begun;
-        represents = λ none. over (λ db. RepresentsWorld state (world db history)) (made.represents none);
-        down_is = over (λ db. (world db history).down ≡ option_map (λ (place : Place). place.0) down) made.down_is;
-        failed = ap (λ (store : StoreDisk D). store.journal.failed) (still failed_at was).0 ∙ (old.failed ∙ ap is_some (sym (still failed_at was).2));
-        kept = λ none is. let never : ◌≡◌ {A = Option Place} None (Some failed_at) = sym none ∙ ((still failed_at was).2 ∙ was) in absurd (cc);
-        count = over (λ db. store.commits ≡ start + length (commits db history)) (count_still failed_at was);
-        left = λ is a b in_a in_b. over (λ db. IsLeftBy db start history a b) (left_still failed_at was is a b in_a in_b);
-        ends = λ none. let never : ◌≡◌ {A = Option Place} None (Some failed_at) = sym none ∙ ((still failed_at was).2 ∙ was) in absurd (cc);
-        exact = over (λ db. IsNoRoomExact at db start history) (exact_still failed_at was);
-        alone = over (λ db. is_laid_behind db history ≡ true → (down ≡ None) × alone_in (flat db history) store) (alone_still failed_at was);
-      }
-
-      -- with the call
-      pub stands-made : Stands holds leaves honest start at state store down history
-      stands-made = by_down _ refl
-
     -- ---- what the call did to the disk
 
-    abbrev seen_old : ℕ → Seen D
-    seen_old spare = record { base = base; start = start; journal = at; history = history_old; spare = spare; store = store_old }
+    abbrev seen_old : Area → ℕ → Seen D
+    seen_old area spare = record { base = base; start = start; area = area; journal = at; opening = opening; history = history_old; spare = spare; store = store_old }
 
-    abbrev seen_new : ℕ → Seen D
-    seen_new spare = record { base = base; start = start; journal = at; history = history; spare = spare; store = store }
+    abbrev seen_new : Area → ℕ → Seen D
+    seen_new area spare = record { base = base; start = start; area = area; journal = at; opening = opening; history = history; spare = spare; store = store }
 
     -- where nothing is done to it, a crash leaves what it left
     left_same : store ≡ store_old → IsTrue (honest store_old.journal.disk) → LeavesOnly moment might (IsLeftByEither base start history_old history) store_old.journal.disk store.journal.disk
@@ -491,8 +457,8 @@ module _ {D : Type 0} (holds : D → Area → List ℕ) (leaves : D → Area →
         weaker leaves moment might only_now store_old.journal.disk store.journal.disk _ (IsLeftByEither base start history_old history)
         (λ a b left. either_left up DiskFault is a b left (λ no. cc)) ((carries up).left honest_old)
 
-    writes_by : (was : Option Place) → down_old ≡ was → (spare spare_after : ℕ) → Writes holds leaves moment might honest faults (seen_old spare) (seen_new spare_after) call made.verdict told
-    writes_by None was spare spare_after =
+    writes_by : (was : Option Place) → down_old ≡ was → (area : Area) (spare spare_after : ℕ) → Writes holds leaves moment might honest faults (seen_old area spare) (seen_new area spare_after) call made.verdict told
+    writes_by None was area spare spare_after =
         let by = carries was in
         record {
           fault = made.fault;
@@ -509,7 +475,7 @@ module _ {D : Type 0} (holds : D → Area → List ℕ) (leaves : D → Area →
           time = by.time;
           risen = by.risen;
         }
-    writes_by (Some failed_at) was spare spare_after =
+    writes_by (Some failed_at) was area spare spare_after =
         let same = (still failed_at was).0 in
         let is_took = (still failed_at was).1 in
         let disk_is : store.journal.disk ≡ store_old.journal.disk = ap (λ (store : StoreDisk D). store.journal.disk) same in
@@ -527,11 +493,11 @@ module _ {D : Type 0} (holds : D → Area → List ℕ) (leaves : D → Area →
           risen = let is = ap faults disk_is in omega arith;
         }
 
-    pub writes-made : (spare spare_after : ℕ) → Writes holds leaves moment might honest faults (seen_old spare) (seen_new spare_after) call made.verdict told
+    pub writes-made : (area : Area) (spare spare_after : ℕ) → Writes holds leaves moment might honest faults (seen_old area spare) (seen_new area spare_after) call made.verdict told
     writes-made = writes_by _ refl
 
-    pub makes-made : (spare spare_after : ℕ) → spare ≤ spare_after + 1 → Makes (seen_old spare) (seen_new spare_after) (under made.verdict call) place told
-    makes-made spare spare_after room = record {
+    pub makes-made : (area : Area) (spare spare_after : ℕ) → spare ≤ spare_after + 1 → Makes (seen_old area spare) (seen_new area spare_after) (under made.verdict call) place told
+    makes-made area spare spare_after room = record {
       history = made.history;
       stands = made.at;
       answered =
@@ -539,16 +505,89 @@ module _ {D : Type 0} (holds : D → Area → List ℕ) (leaves : D → Area →
           ∙ (ap (reply base (history_old ++ entry ∷ [])) made.at ∙ (reply-last base history_old entry ∙ ap (λ r. Some r) made.answered));
       base = refl;
       start = refl;
+      area = refl;
       journal = refl;
+      opening = refl;
       spare = room;
     }
 
+    -- whether it was answered with a fault of the disk
+    fails_now : fails_at base history (length history_old) ≡ is_fault made.verdict
+    fails_now =
+        ap (λ found. option_map_or is_disk found false) (ap (λ h. reply base h (length history_old)) made.history ∙ (reply-last base history_old entry ∙ ap (λ r. Some r) made.answered))
+        ∙ made.fault
+
+    moved_once : MovesDiskOnce moment might honest faults base start history_old history store_old.journal.disk store.journal.disk
+    moved_once =
+        let writes = writes-made A 0 0 in
+        record {
+          honesty = writes.honesty;
+          time = writes.time;
+          risen = writes.risen;
+          rose = λ is. writes.rose (is_failed made.verdict (sym fails_now ∙ is));
+          steady = λ none. writes.steady (λ fault. let never : true ≡ false = ap is_fault (sym fault) ∙ (sym fails_now ∙ none) in cc);
+          moments = λ can. inr (writes.left can);
+        }
+
+    module _ (is_entry : IsEntry call) (opened : state.opened ≡ state_old.opened) where
+      entries_now : IsHistory history
+      entries_now =
+          subst IsHistory (sym made.history)
+          (all-append IsEntry history_old (entry ∷ []) old.entries (record { readable = is_entry.readable; first = is_entry.first; last = is_entry.last }, tt))
+
+      moves_now : MovesDisk moment might honest faults base start history opening store.journal.disk
+      moves_now =
+          moves-more leaves moment might only_now honest faults base start old.begun history_old history entry Spared made.history old.entries entries_now opening store_old.journal.disk
+          store.journal.disk old.moves moved_once
+
+      -- what is so over the database that was opened is so over that of the state
+      over : (P : Db → Type 0) → P base → P state.opened
+      over P is = subst P (sym opened) is
+
+      by_down : (was : Option Place) → down_old ≡ was → Stands holds leaves moment might honest faults opening start at state store down history
+      by_down None was = record {
+        entries = entries_now;
+        begun = over Sound old.begun;
+        represents = λ none. over (λ db. RepresentsWorld state (world db history)) (made.represents none);
+        down_is = over (λ db. (world db history).down ≡ option_map (λ (place : Place). place.0) down) made.down_is;
+        failed = (carries was).failed ∙ sym (failed_is was);
+        kept = λ none is.
+            let sound : made.verdict ≢ DiskFault = λ fault. let never : true ≡ false = ap is_fault (sym fault) ∙ (sym (failed_is was) ∙ ap is_some none) in cc in
+            over (λ db. IsKept holds leaves store.journal (flat db history) store.commits) (kept_now was sound is);
+        count = over (λ db. store.commits ≡ start + length (commits db history)) (count_now was);
+        left = λ is a b in_a in_b. over (λ db. IsLeftBy db start history a b) (left_now was _ refl is a b in_a in_b);
+        ends = λ none.
+            let sound : made.verdict ≢ DiskFault = λ fault. let never : true ≡ false = ap is_fault (sym fault) ∙ (sym (failed_is was) ∙ ap is_some none) in cc in
+            over (λ db. IsEndOf store.journal (journal_behind at db start history)) (ends_now was sound);
+        exact = over (λ db. IsNoRoomExact at db start history) (exact_now was);
+        alone = over (λ db. is_laid_behind db history ≡ true → (down ≡ None) × alone_in (flat db history) store) (λ laid. (none_now was laid, alone_now was laid));
+        moves = over (λ db. MovesDisk moment might honest faults db start history opening store.journal.disk) moves_now;
+      }
+      by_down (Some failed_at) was = record {
+        entries = entries_now;
+        begun = over Sound old.begun;
+        represents = λ none. over (λ db. RepresentsWorld state (world db history)) (made.represents none);
+        down_is = over (λ db. (world db history).down ≡ option_map (λ (place : Place). place.0) down) made.down_is;
+        failed = ap (λ (store : StoreDisk D). store.journal.failed) (still failed_at was).0 ∙ (old.failed ∙ ap is_some (sym (still failed_at was).2));
+        kept = λ none is. let never : ◌≡◌ {A = Option Place} None (Some failed_at) = sym none ∙ ((still failed_at was).2 ∙ was) in absurd (cc);
+        count = over (λ db. store.commits ≡ start + length (commits db history)) (count_still failed_at was);
+        left = λ is a b in_a in_b. over (λ db. IsLeftBy db start history a b) (left_still failed_at was is a b in_a in_b);
+        ends = λ none. let never : ◌≡◌ {A = Option Place} None (Some failed_at) = sym none ∙ ((still failed_at was).2 ∙ was) in absurd (cc);
+        exact = over (λ db. IsNoRoomExact at db start history) (exact_still failed_at was);
+        alone = over (λ db. is_laid_behind db history ≡ true → (down ≡ None) × alone_in (flat db history) store) (alone_still failed_at was);
+        moves = over (λ db. MovesDisk moment might honest faults db start history opening store.journal.disk) moves_now;
+      }
+
+      -- with the call
+      pub stands-made : Stands holds leaves moment might honest faults opening start at state store down history
+      stands-made = by_down _ refl
+
   -- ---- a call, whether it was made or not
 
-  module _ (start : ℕ) (at : JournalEnd) (state_old state : State) (store_old store : StoreDisk D) (down_old down : Option Place) (history_old history : History) (old : Stands holds leaves honest start at state_old store_old down_old history_old)
+  module _ {opening : D} (start : ℕ) (at : JournalEnd) (state_old state : State) (store_old store : StoreDisk D) (down_old down : Option Place) (history_old history : History) (old : Stands holds leaves moment might honest faults opening start at state_old store_old down_old history_old)
       (opened : state.opened ≡ state_old.opened) where
     -- where memory kept it from being made, all is as it was
-    stands_unmade : (down_old ≡ None → RepresentsWorld state (world state_old.opened history_old)) → Stands holds leaves honest start at state store_old down_old history_old
+    stands_unmade : (down_old ≡ None → RepresentsWorld state (world state_old.opened history_old)) → Stands holds leaves moment might honest faults opening start at state store_old down_old history_old
     stands_unmade represents =
         let over : (P : Db → Type 0) → P state_old.opened → P state.opened = λ P is. subst P (sym opened) is in
         record {
@@ -563,20 +602,21 @@ module _ {D : Type 0} (holds : D → Area → List ℕ) (leaves : D → Area →
           ends = λ none. over (λ db. IsEndOf store_old.journal (journal_behind at db start history_old)) (old.ends none);
           exact = over (λ db. IsNoRoomExact at db start history_old) old.exact;
           alone = over (λ db. is_laid_behind db history_old ≡ true → (down_old ≡ None) × alone_in (flat db history_old) store_old) old.alone;
+          moves = over (λ db. MovesDisk moment might honest faults db start history_old opening store_old.journal.disk) old.moves;
         }
 
-    pub stands-after : {E : Type 0} (call : Entry) → call.verdict ≡ Took → IsEntry call → (result : Result (Place × Reply) E)
-        → IfOk result (λ made. IsMade holds leaves moment might honest faults state_old.opened history_old history state store_old store down_old down call made.0.0 made.1)
+    pub stands-after : {T E : Type 0} (reply : T → Reply) (call : Entry) → call.verdict ≡ Took → IsEntry call → (result : Result (Place × T) E)
+        → IfOk result (λ made. IsMade holds leaves moment might honest faults state_old.opened history_old history state store_old store down_old down call made.0.0 (reply made.1))
         → OnErr result ((history ≡ history_old) × (down_old ≡ None → RepresentsWorld state (world state_old.opened history_old)) × (store ≡ store_old) × (down ≡ down_old))
-        → Stands holds leaves honest start at state store down history
-    stands-after call took is_entry (Ok told) made unmade = stands-made start at state_old state store_old store down_old down history_old history old call took told.0.0 told.1 made is_entry opened
-    stands-after call took is_entry (Err refused) made unmade =
-        subst (λ (history : History). Stands holds leaves honest start at state store down history) (sym unmade.0)
-        (subst (λ (down : Option Place). Stands holds leaves honest start at state store down history_old) (sym unmade.3)
-        (subst (λ (store : StoreDisk D). Stands holds leaves honest start at state store down_old history_old) (sym unmade.2) (stands_unmade unmade.1)))
+        → Stands holds leaves moment might honest faults opening start at state store down history
+    stands-after reply call took is_entry (Ok told) made unmade = stands-made start at state_old state store_old store down_old down history_old history old call took told.0.0 (reply told.1) made is_entry opened
+    stands-after reply call took is_entry (Err refused) made unmade =
+        subst (λ (history : History). Stands holds leaves moment might honest faults opening start at state store down history) (sym unmade.0)
+        (subst (λ (down : Option Place). Stands holds leaves moment might honest faults opening start at state store down history_old) (sym unmade.3)
+        (subst (λ (store : StoreDisk D). Stands holds leaves moment might honest faults opening start at state store down_old history_old) (sym unmade.2) (stands_unmade unmade.1)))
 
   -- what a disk is that a history laid anew, as the history tells it
-  pub alone-behind : (start : ℕ) (at : JournalEnd) (state : State) (store : StoreDisk D) (down : Option Place) (history : History) → Stands holds leaves honest start at state store down history
+  pub alone-behind : {opening : D} (start : ℕ) (at : JournalEnd) (state : State) (store : StoreDisk D) (down : Option Place) (history : History) → Stands holds leaves moment might honest faults opening start at state store down history
       → is_laid_behind state.opened history ≡ true → IsTrue (honest store.journal.disk) → IsAloneBehind holds leaves store.journal.disk at state.opened start history
   alone-behind start at state store down history stands laid is =
       let both = stands.alone laid in

@@ -1,22 +1,19 @@
 -- What a GDPR FORGET is answered.
-use Rattle.std.proofs.Common.{Bor, ◌≡◌, ◌∙◌, ℕ, zero, suc, ◌+◌, ◌<◌, ◌≤◌, ◌^◌, List, [], ◌∷◌, Bool, true, false, not, ap, arith, filter, length, map, refl, subst, sym}
-use Rattle.std.specs.Prelude.{Option, None, Some, IfOk, Result, Ok, Err, ◌&&◌, IsTrue, count_by, is_some, slice_get, sum_by, if◌then◌else◌}
-use Rattle.std.specs.Option.{option_copied, option_map_or}
+use Rattle.std.proofs.Common.{Bor, ◌≡◌, ◌∙◌, ℕ, ◌+◌, ◌<◌, ◌≤◌, ◌^◌, List, [], ◌∷◌, Bool, true, false, not, ap, arith, filter, length, map, refl, subst, sym}
+use Rattle.std.specs.Prelude.{Option, None, Some, IfOk, Result, Ok, Err, ◌&&◌, IsTrue, count_by, is_some, sum_by}
+use Rattle.std.specs.Option.{option_copied}
 use Rattle.std.proofs.lemmas.List.{length-append, length-map}
 use Rattle.std.proofs.lemmas.List.Filters.{length-filter_both}
 use Rattle.std.proofs.lemmas.List.Sums.{count_by-le-length, length-filter, sum_by-cons}
 use Rattle.own_base.specs.declared.change.Change.{Change}
 use Rattle.own_base.specs.declared.row_name.RowName.{RowName}
-use Rattle.own_model.specs.declared.bound.BoundSelect.{BoundSelect}
 use Rattle.own_model.specs.declared.refusal.Refusal.{Refusal}
 use Rattle.own_model.specs.declared.reply.Reply.{Reply}
-use Rattle.own_model.specs.declared.reply.Reply.TheVariants.{Forgot, Got, Refused}
-use Rattle.own_model.specs.declared.schema.Schema.{Schema}
+use Rattle.own_model.specs.declared.reply.Reply.TheVariants.{Forgot, Refused}
 use Rattle.own_model.specs.declared.schema.TableDef.{TableDef}
 use Rattle.schema_model.specs.Tables.{is_subject}
 use Rattle.own_model.specs.Db.{Db, Row}
 use Rattle.own_model.specs.Stored.{row_named}
-use Rattle.query_model.specs.Query.{query_rows, reply_of}
 use Rattle.schema_model.specs.OwnerSchema.{IsOwnerSchema}
 use Rattle.state_model.specs.Fault.{fault}
 use Rattle.state_model.specs.Weight.{weight}
@@ -31,19 +28,15 @@ use Rattle.subject_model.specs.Stays.{stays}
 use Rattle.subject_model.proofs.ForgetRows.{is_there-forget, schema-forget}
 use Rattle.subject_model.proofs.NamedLemmas.{name_is}
 use Rattle.subject_erase.specs.Plan.{IsPlan, leaves_row, plan_of}
-use Rattle.own_base.specs.declared.row_name.Subject.{Subject}
 use Rattle.owner_model.specs.Joins.{row_of}
-use Rattle.own_model.specs.declared.bound.Bound.TheVariants.{Get, Select}
-use Rattle.subject_model.specs.Get.{get}
 use Rattle.check_image.specs.Gated.{IsGatedImage}
 use Rattle.crash_model.specs.Room.{LaidAnew, Written}
-use Rattle.run_model.specs.Run.{Outcome, answered, forget_subject, run_bound, show_subject}
+use Rattle.run_model.specs.Run.{Outcome, forget_subject}
 use Rattle.history_model.specs.Reply.{changes, forget_reply}
-use Rattle.history_model.specs.World.{World}
 use Rattle.engine_core.specs.declared.answer.Answer.{Answer}
 use Rattle.engine_core.specs.declared.prepared.NextState.TheVariants.{Anew}
-use Rattle.engine_core.specs.Answered.{IsLaidBy, Tells, bound_reply}
-use Rattle.engine_core.proofs.Commits.{tells-kept, tells-left, tells-refused}
+use Rattle.engine_core.specs.Answered.{IsLaidBy, Tells}
+use Rattle.engine_core.proofs.Commits.{tells-kept, tells-refused}
 use Rattle.engine_core.proofs.Nets.{rows-unchanged}
 
 -- no more rows have a name than there are
@@ -90,15 +83,6 @@ pub forget-absent : {written : Written} (db : Db) (subject : RowName) (why : Ref
     → answer.reply ≡ Refused why → answer.next ≡ None → Tells db false written (λ verdict. forget_reply verdict (forget_subject db subject)) (forget_subject db subject).db answer
 forget-absent db subject why answer absent is told stays = tells-refused db (forget_subject db subject).db false _ why answer (λ verdict. rw is refl) told stays
 
--- the table of a subject is there
-there_step : (tables : List TableDef) (number : ℕ) → IsTrue (option_map_or (λ (definition : TableDef). definition.subject) (slice_get tables number) false) → number < length tables
-there_step [] number is = let never : false ≡ true = is in absurd (cc)
-there_step (table ∷ tables) zero is = omega arith
-there_step (table ∷ tables) (suc number) is = let rest = there_step tables number is in omega arith
-
-pub subject-within : (schema : Schema) (number : ℕ) → IsTrue (is_subject schema number) → number < length schema.tables
-subject-within schema number is = there_step schema.tables number is
-
 -- how many rows the changes of an erasure remove, and how many they leave without some values
 pub counts-planned : (changes : List Change)
     → Forgot (count_by (λ change. not (leaves_row change)) changes) (count_by leaves_row changes) ≡ Forgot (length (plan_of changes).removed) (length (plan_of changes).changed)
@@ -108,27 +92,6 @@ counts-planned changes =
     sym (length-filter (λ change. not (leaves_row change)) changes) ∙ sym (length-map goes (λ (change : Change). change.name)) in
     let changed : count_by leaves_row changes ≡ length (plan_of changes).changed = sym (length-filter leaves_row changes) in
     λ i. Forgot (removed i) (changed i)
-
--- GET leaves the database
-shown_step : (b : Bool) (db : Db) (reply why : Reply) → (if b then answered db reply else answered db why).db ≡ db
-shown_step true db reply why = refl
-shown_step false db reply why = refl
-
-shown-left : (db : Db) (subject : RowName) → (show_subject db subject).db ≡ db
-unfolding show_subject
-shown-left db subject = shown_step (is_there db subject) db (Got (get db subject)) _
-
-pub tells-shown : {written : Written} (world : World) (db : Db) (session : ℕ) (subject : Subject) (answer : Answer) → answer.reply ≡ (show_subject db subject.0).reply → answer.next ≡ None
-    → Tells db false written (bound_reply world db session (Get subject)) (run_bound db (Get subject)).db answer
-unfolding run_bound
-tells-shown world db session subject answer told stays =
-    tells-left db (show_subject db subject.0).db _ (show_subject db subject.0).reply answer (shown-left db subject.0) (λ verdict. refl) told stays
-
--- and so does a SELECT
-pub tells-selected : {written : Written} (world : World) (db : Db) (session : ℕ) (query : BoundSelect) (answer : Answer) → answer.reply ≡ reply_of (query_rows db.schema db.rows query) → answer.next ≡ None
-    → Tells db false written (bound_reply world db session (Select query)) (run_bound db (Select query)).db answer
-unfolding run_bound
-tells-selected world db session query answer told stays = tells-left db db _ (reply_of (query_rows db.schema db.rows query)) answer refl (λ verdict. refl) told stays
 
 -- with what an erasure leaves nothing is wrong
 pub erased-sound : (db next : Db) (subject : RowName) → IsTrue (is_subject db.schema subject.table.0) → Sound db → next ≡ forget db subject → Sound next

@@ -11,7 +11,8 @@ pub mod FewColumns
 pub mod Forgotten
 pub mod Judged
 mod JudgedCreates
-pub mod KeptViews
+mod LookEvents
+mod LookSteps
 pub mod Nets
 mod NextWorlds
 mod OpenStates
@@ -22,6 +23,9 @@ mod RecordedCreates
 mod Images
 mod InstalledEvents
 mod RepresentsLemmas
+pub mod Sent
+pub mod SentTxns
+mod ServedCalls
 mod Sizes
 mod StatedEvents
 mod Stood

@@ -23,9 +23,9 @@ use Rattle.txn_core.specs.Runs.{IsStore}
 use Rattle.txn_core.specs.Transactions.{IsQuietState, space_of}
 use Rattle.txn_core.proofs.OpenBlocks.{rows_shown}
 use Rattle.txn_core.proofs.SoundBases.{base-sound, store-sound}
+use Rattle.store_snapshot.proofs.KeptViews.{views_there-created}
 use Rattle.engine_core.specs.RepresentsWorld.{IsEvent, ServesAlone}
 use Rattle.engine_core.specs.declared.state.State.{State}
-use Rattle.engine_core.proofs.KeptViews.{views_there-created}
 use Rattle.engine_core.proofs.NextWorlds.{sound-now}
 use Rattle.engine_core.proofs.Stood.{IsOpenTxn, stood-open}
 

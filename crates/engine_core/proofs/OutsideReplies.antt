@@ -6,7 +6,7 @@ use Rattle.own_model.specs.declared.bound.Bound.{Bound}
 use Rattle.own_model.specs.declared.history.Verdict.{Verdict}
 use Rattle.own_model.specs.declared.refusal.Refusal.{Refusal}
 use Rattle.own_model.specs.declared.refusal.Refusal.TheVariants.{Busy}
-use Rattle.own_model.specs.declared.reply.Reply.TheVariants.{Graph, Refused}
+use Rattle.own_model.specs.declared.reply.Reply.TheVariants.{Refused}
 use Rattle.own_model.specs.declared.request.Request.TheVariants.{Run}
 use Rattle.own_model.specs.declared.schema.Schema.{Schema}
 use Rattle.own_model.specs.declared.statement.Statement.{Statement}
@@ -14,24 +14,19 @@ use Rattle.own_model.specs.declared.statement.Statement.TheVariants.{CreateTable
 use Rattle.own_model.specs.declared.statement.Statement.TheVariants as of
 use Rattle.own_model.specs.Db.{Db}
 use Rattle.query_model.specs.BoundStatement.{bound_statement}
-use Rattle.schema_model.specs.Explained.{explained}
 use Rattle.run_model.specs.Items.{TakesRows}
 use Rattle.run_model.specs.Run.{run}
-use Rattle.history_model.specs.Commits.{is_create}
 use Rattle.history_model.specs.Held.{lowest_other, others}
 use Rattle.history_model.specs.History.{forgotten}
 use Rattle.history_model.specs.Reply.{create_reply, reply_outside, unless_busy}
 use Rattle.history_model.specs.World.{World}
 use Rattle.txn_core.specs.SessionStates.{is_open, state_by}
 use Rattle.txn_core.proofs.RepresentsSteps.{represents_lowest}
-use Rattle.engine_core.specs.declared.answer.Answer.{Answer}
-use Rattle.crash_model.specs.Room.{written_by}
-use Rattle.engine_core.specs.Answered.{Tells, bound_reply}
+use Rattle.engine_core.specs.Answered.{bound_reply}
 use Rattle.engine_core.specs.Asked.{IsBound, IsCreate, RunsByItself, has_place_inside}
 use Rattle.engine_core.specs.RepresentsWorld.{RepresentsWorld}
 use Rattle.engine_core.specs.declared.state.State.{State}
 use Rattle.engine_core.proofs.BoundStatements.{reply-bound, reply-refused}
-use Rattle.engine_core.proofs.Commits.{tells-left}
 
 -- one that has a place in a transaction, and doesn't end it, takes rows
 pub takes-place : (asked : Statement) → has_place_inside asked ≡ true → (asked ≡ of.Commit → ⊥) → (asked ≡ of.Rollback → ⊥) → TakesRows asked
@@ -77,21 +72,6 @@ module _ (state : State) (world : World) (stands : RepresentsWorld state world) 
   pub reply-refused_in : (verdict : Verdict) (asked : Statement) (why : Refusal) → IsBound asked → bound_statement state.version.schema asked ≡ Err why
       → reply_outside world session verdict asked ≡ Refused why
   reply-refused_in verdict asked why bound is = reply-refused world session verdict asked why bound (subst (λ (db : Db). bound_statement db.schema asked ≡ Err why) stands.flat is)
-
-  -- EXPLAIN shows the schema
-  reply-explain : (verdict : Verdict) → reply_outside world session verdict Explain ≡ Graph (explained state.version.schema)
-  unfolding run
-  reply-explain verdict = ap (λ (db : Db). Graph (explained db.schema)) (sym stands.flat)
-
-  left-explain : (run state.version Explain).db ≡ state.version
-  unfolding run
-  left-explain = refl
-
-  pub tells-explain : (number : ℕ) (asked : Statement) (answer : Answer) → asked ≡ Explain → answer.reply ≡ Graph (explained state.version.schema) → answer.next ≡ None
-      → Tells state.version (is_create (Run asked)) (written_by state.version (Run asked) (run state.version asked).db number) (λ verdict. reply_outside world session verdict asked) (run state.version asked).db answer
-  tells-explain number asked answer is told stays =
-      subst (λ asked. Tells state.version (is_create (Run asked)) (written_by state.version (Run asked) (run state.version asked).db number) (λ verdict. reply_outside world session verdict asked) (run state.version asked).db answer) (sym is)
-      (tells-left state.version (run state.version Explain).db _ (Graph (explained state.version.schema)) answer left-explain reply-explain told stays)
 
   -- who keeps a CREATE waiting
   pub lowest-in : (given : Option SessionNo) → option_map (λ (other : SessionNo). other.0) given ≡ find (λ other. is_open (state_by state.txns.states other)) (others session)

@@ -1,5 +1,6 @@
 -- The state that an engine keeps, before any entry and with one more.
 use Rattle.std.proofs.Common.{◌≡◌, ◌<◌, ◌≤◌, ℕ, [], refl, subst, sym}
+use Rattle.own_base.specs.declared.number.Area.{Area}
 use Rattle.own_model.specs.declared.history.Entry.{Entry}
 use Rattle.own_model.specs.Db.{Db}
 use Rattle.state_model.specs.Weight.{weight}
@@ -37,16 +38,18 @@ may_of : (base : Db) (history : History) (entry : Entry) → MayBeUnmadeFrom (wo
 unfolding flat standing
 may_of base history entry may = may
 
-pub leaves-of : {D : Type 0} (base : Db) (start : ℕ) (at : JournalEnd) (before after : History) (spare spare_after : ℕ) (store store_after : StoreDisk D) (unmade : Entry)
+pub leaves-of : {D : Type 0} (base : Db) (start : ℕ) (area : Area) (at : JournalEnd) (opening : D) (before after : History) (spare spare_after : ℕ) (store store_after : StoreDisk D) (unmade : Entry)
     → after ≡ before → spare ≤ spare_after → store_after ≡ store
     → (0 < spare → MayBeUnmadeFrom (world base before).flat.schema ((world base before).standing unmade.session.0) unmade.request)
-    → LeavesUnmade (record { base = base; start = start; journal = at; history = before; spare = spare; store = store }) (record { base = base; start = start; journal = at; history = after; spare = spare_after; store = store_after }) unmade
-leaves-of base start at before after spare spare_after store store_after unmade same room still may = record {
+    → LeavesUnmade (record { base = base; start = start; area = area; journal = at; opening = opening; history = before; spare = spare; store = store }) (record { base = base; start = start; area = area; journal = at; opening = opening; history = after; spare = spare_after; store = store_after }) unmade
+leaves-of base start area at opening before after spare spare_after store store_after unmade same room still may = record {
   history = same;
   spare = room;
   store = still;
   base = refl;
   start = refl;
+  area = refl;
   journal = refl;
+  opening = refl;
   spared = λ some. may_of base before unmade (may some);
 }

@@ -1,5 +1,6 @@
 pub mod Answered
 pub mod Asked
+pub mod Came
 pub mod Made
 pub mod Seen
 pub mod HasDoomed

@@ -16,6 +16,7 @@ use Rattle.history_model.specs.Reply.{answer}
 use Rattle.history_model.specs.Serial.{IsHistory}
 use Rattle.crash_model.specs.Alone.{IsAloneOn, is_laid_behind}
 use Rattle.crash_model.specs.LeftBy.{IsLeftBy}
+use Rattle.crash_model.specs.MovesDisk.{MovesDisk}
 use Rattle.crash_model.specs.Room.{IsNoRoomExact, JournalEnd, bytes_written, journal_behind, lays_anew}
 use Rattle.commit_journal.specs.declared.journal.Journal.{Journal}
 use Rattle.store_disk.specs.Kept.{IsKept}
@@ -30,10 +31,12 @@ IsEndOf journal at = (journal.epoch ≡ at.epoch) × (journal.end ≡ at.end)
 
 -- Behind a history over the database that was opened, which so many commits had made, and whose journal stood there: it is known
 -- whether the disk failed; while it hasn't, the state represents the world, an honest disk keeps the flat database, and the
--- journal stands where the history says; a crash leaves what the history says; there was no room just where it says so; and where
--- the history laid the store anew, nothing but the flat database is on an honest disk.
-pub record Stands {D : Type 0} (holds : D → Area → List ℕ) (leaves : D → Area → List ℕ → Type 0) (honest : D → Bool)
-    (start : ℕ) (at : JournalEnd) (state : State) (store : StoreDisk D) (down : Option Place) (history : History) : Type 0 where
+-- journal stands where the history says; a crash leaves what the history says; there was no room just where it says so; where
+-- the history laid the store anew, nothing but the flat database is on an honest disk; and from the disk as the opening left it
+-- on, the calls did what the history says.
+pub record Stands {D : Type 0} (holds : D → Area → List ℕ) (leaves : D → Area → List ℕ → Type 0) (moment : D → ℕ)
+    (might_have_left : D → ℕ → List ℕ → List ℕ → Type 0) (honest : D → Bool) (faults : D → ℕ)
+    (opening : D) (start : ℕ) (at : JournalEnd) (state : State) (store : StoreDisk D) (down : Option Place) (history : History) : Type 0 where
   pub entries : IsHistory history
   pub begun : Sound state.opened
   pub represents : down ≡ None → RepresentsWorld state (world state.opened history)
@@ -47,6 +50,7 @@ pub record Stands {D : Type 0} (holds : D → Area → List ℕ) (leaves : D →
   pub exact : IsNoRoomExact at state.opened start history
   pub alone : is_laid_behind state.opened history ≡ true → (down ≡ None)
       × (IsTrue (honest store.journal.disk) → IsAloneOn holds leaves store.journal.disk (flat state.opened history) store.commits store.journal.epoch store.journal.area)
+  pub moves : MovesDisk moment might_have_left honest faults state.opened start history opening store.journal.disk
 
 -- A call was made over this database, of which the disk said something: its entry is the last, it was answered as in the world
 -- of the history before it, and the state represents the world with it, unless the disk has failed. What it did to the disk is

@@ -19,41 +19,48 @@ ghost use Rattle.disk_model.specs.Judged.{IsJudged};
 ghost use Rattle.disk_model.specs.JudgedArea as found;
 ghost use Rattle.crash_model.specs.Alone.{is_laid_behind};
 ghost use Rattle.crash_model.specs.LeftBy.{IsLeftBy};
+ghost use Rattle.crash_model.specs.MovesDisk.{MovesDisk};
 ghost use Rattle.crash_model.specs.Room.{IsNoRoomExact};
 ghost use Rattle.crash_model.specs.StoreIn.{IsStoreIn};
 ghost use Rattle.crash_recover.specs.Opening.{IsLeft};
 ghost use Rattle.crash_recover.specs.declared.open.OpenFault.TheVariants.{Damaged, DiskFault};
 ghost use Rattle.store_disk.specs.OpensAt.{OpensAt};
+ghost use Rattle.engine_core.specs.Came.{ComesAs, reply_by};
 ghost use Rattle.engine_core.specs.Made.{IsEndOf, IsMade};
 ghost use Rattle.engine_core.specs.RepresentsWorld.{RepresentsWorld};
-ghost use Rattle.engine_core.specs.Seen.{IsAloneBehind, Steps, disk_of, entry};
+ghost use Rattle.engine_core.specs.Seen.{Answers, IsAloneBehind, Steps, disk_of, entry};
 ghost use Rattle.engine_core.specs.Stored.{IsUp};
 
+use crate::came::{Came, into_reply, step_of, verdict_by};
 use crate::closed::Closed;
 use crate::serving::serve;
 use crate::state::State;
-use crate::step::{NoLook, Step};
 use crate::verdict::is_fault;
 use commit_replay::Replayed;
 use crash_recover::OpenFault;
 use outer_world::Disk;
-use own_base::{List, MakeCopy, Place, SessionNo};
+use own_base::{List, Place, SessionNo};
 use own_model::{Entry, Refusal, Reply, Request, Verdict};
+use serve_model::Step;
 use std::alloc::{AllocError, Global};
 use std::marker::Model;
 use std::mem::drop;
+use std::snapshot;
 use store_disk::{StoreDisk, open_disk};
+use store_snapshot::Snapshot;
 use store_version::Version;
 use txn_core::Txns;
 
 /// An opened store: its state and the transactions of its sessions, the history that made them, and its disk. Contracts see the
-/// database that it was opened with, how many commits had made it and where the journal stood then, the history, for how many
-/// entries more there is room, and the disk of the store.
+/// database that it was opened with, how many commits had made it, where the journal stood then and the disk as it was then, the
+/// history, for how many entries more there is room, and the disk of the store.
 pub struct Engine<D: Disk> {
     alloc: Global,
     state: State,
     history: Vec<Entry>,
     store: StoreDisk<D>,
+    /// The store's disk as the opening left it, for clauses alone.
+    opening: snapshot::Snapshot<StoreDisk<D>>,
     start: u64,
     epoch: u64,
     end: u64,
@@ -72,11 +79,11 @@ impl<D: Disk> Model for Engine<D> {
 
     ghost coded = { Prim.hlevel (codes, cond.the_row.coded, bound.the_row.coded, D.code) };
 
-    ghost view = { λ engine. record { base = engine.state.opened; start = engine.start; journal = record { epoch = engine.epoch; end = engine.end }; history = engine.history.items; spare = vec_capacity engine.history - vec_len engine.history; store = engine.store } };
+    ghost view = { λ engine. record { base = engine.state.opened; start = engine.start; area = engine.opening.value.journal.area; journal = record { epoch = engine.epoch; end = engine.end }; opening = engine.opening.value.journal.disk; history = engine.history.items; spare = vec_capacity engine.history - vec_len engine.history; store = engine.store } };
 
     ghost use Rattle.engine_core.specs.Made.{Stands};
 
-    ghost invariant = { λ engine. Stands D.holds D.leaves D.honest engine.start (record { epoch = engine.epoch; end = engine.end }) engine.state engine.store engine.down engine.history.items };
+    ghost invariant = { λ engine. Stands D.holds D.leaves D.moment D.might_have_left D.honest D.faults engine.opening.value.journal.disk engine.start (record { epoch = engine.epoch; end = engine.end }) engine.state engine.store engine.down engine.history.items };
 }
 
 impl<D: Disk> Engine<D> {
@@ -86,8 +93,10 @@ impl<D: Disk> Engine<D> {
         ensures sound { IfOk result (λ engine. Sound engine.base) }
         ensures history { IfOk result (λ engine. engine.history ≡ []) }
         ensures journal { IfOk result (λ engine. IsEndOf engine.store.journal engine.journal) }
+        ensures area { IfOk result (λ engine. engine.area ≡ engine.store.journal.area) }
+        ensures opening { IfOk result (λ engine. engine.opening ≡ disk_of engine) }
         ensures start { IfOk result (λ engine. IsTrue (D.honest disk)
-            → OpensAt (D.holds disk A) (D.holds disk B) engine.store.journal.area engine.journal.epoch engine.journal.end) }
+            → OpensAt (D.holds disk A) (D.holds disk B) engine.area engine.journal.epoch engine.journal.end) }
         ensures room { IfOk result (λ engine. calls ≤ engine.spare) }
 
         // What a crash leaves of the disk, at any moment of the call and after it.
@@ -120,11 +129,13 @@ impl<D: Disk> Engine<D> {
                 let start = store.commits();
                 let epoch = store.epoch();
                 let end = store.end();
+                let opening = snapshot::Snapshot::of(&store);
                 Ok(Engine {
                     alloc,
                     state,
                     history,
                     store,
+                    opening,
                     start,
                     epoch,
                     end,
@@ -135,9 +146,11 @@ impl<D: Disk> Engine<D> {
         }
     }
 
-    /// Makes a call of a session: its entry comes into the history with what the disk said, and the state changes by it. Where
-    /// memory is refused the call isn't made. Nobody waits: where sessions stand in each other's way, one of them is refused.
-    pub fn step(&mut self, session: SessionNo, call: u32, request: Request) -> Step<NoLook>
+    /// Makes a call of a session: its entry comes into the history with what the disk said, and the state changes by it. A call
+    /// that reads alone, outside a transaction, isn't answered but comes with what shows the database that it reads, which the
+    /// store may move on from. Where memory is refused the call isn't made. Nobody waits: where sessions stand in each other's
+    /// way, one of them is refused.
+    pub fn step(&mut self, session: SessionNo, call: u32, request: Request) -> Step<Snapshot>
         requires first { 1 ≤ session.0 }
         requires last { session.0 ≤ SESSIONS }
         requires readable { IsReadable request }
@@ -160,9 +173,47 @@ impl<D: Disk> Engine<D> {
             &mut self.down,
             &mut self.history,
             entry,
+            false,
         ) {
-            Ok((place, reply)) => Step::Answered(place, reply),
+            Ok((place, came)) => step_of(place, came),
             Err(AllocError) => Step::NoMemory,
+        }
+    }
+
+    /// Makes a call of a session as `step` does, and answers it at once: one that reads alone is answered before its entry comes into
+    /// the history. So where memory for what it shows is refused the call isn't made.
+    pub fn answer(
+        &mut self,
+        session: SessionNo,
+        call: u32,
+        request: Request,
+    ) -> Result<(Place, Reply), AllocError>
+        requires first { 1 ≤ session.0 }
+        requires last { session.0 ≤ SESSIONS }
+        requires readable { IsReadable request }
+        ensures answers { Answers D.holds D.leaves D.moment D.might_have_left D.honest D.faults self.old self.new (entry session call request Took) result }
+        ensures serial { Serial self.new.base self.new.history }
+        ensures count { self.new.store.commits ≡ self.new.start + length (commits self.new.base self.new.history) }
+        ensures left { IsTrue (D.honest (disk_of self.new)) → (a b : List ℕ) → D.leaves (disk_of self.new) A a → D.leaves (disk_of self.new) B b
+            → IsLeftBy self.new.base self.new.start self.new.history a b }
+    {
+        let entry = Entry {
+            session,
+            call,
+            request,
+            verdict: Verdict::Took,
+        };
+        match make(
+            self.alloc,
+            &mut self.state,
+            &mut self.store,
+            &mut self.down,
+            &mut self.history,
+            entry,
+            true,
+        ) {
+            Ok((place, came)) => Ok((place, into_reply(came))),
+            Err(AllocError) => Err(AllocError),
         }
     }
 
@@ -199,6 +250,8 @@ impl<D: Disk> Engine<D> {
         ensures serial { Serial self.base result.history }
         ensures left { IsTrue (D.honest result.disk) → (a b : List ℕ) → D.leaves result.disk A a → D.leaves result.disk B b
             → IsLeftBy self.base self.start result.history a b }
+        // What the calls did to the disk since the opening, at any moment and in all.
+        ensures moves { MovesDisk D.moment D.might_have_left D.honest D.faults self.base self.start result.history self.opening result.disk }
         // The limit `room` was told just where a call needed more of it than there was.
         ensures exact { IsNoRoomExact self.journal self.base self.start result.history }
         // Where the last call that wrote laid the store anew, as a CHECKPOINT and a FORGET do, nothing else is on the disk.
@@ -210,6 +263,7 @@ impl<D: Disk> Engine<D> {
             state,
             history,
             store,
+            opening: _,
             start: _,
             epoch: _,
             end: _,
@@ -259,7 +313,8 @@ fn make<D: Disk>(
     down: &mut Option<Place>,
     history: &mut Vec<Entry>,
     entry: Entry,
-) -> Result<(Place, Reply), AllocError>
+    at_once: bool,
+) -> Result<(Place, Came), AllocError>
     requires entries { IsHistory history.old.items }
     requires begun { Sound state.old.opened }
     requires represents { down.old ≡ None → RepresentsWorld state.old (world state.old.opened history.old.items) }
@@ -268,7 +323,8 @@ fn make<D: Disk>(
     requires is_entry { IsEntry entry }
     requires took { entry.verdict ≡ Took }
     ensures made { IfOk result (λ made. IsMade D.holds D.leaves D.moment D.might_have_left D.honest D.faults state.old.opened history.old.items history.new.items state.new
-        store.old store.new down.old down.new entry made.0.0 made.1) }
+        store.old store.new down.old down.new entry made.0.0 (reply_by made.1)) }
+    ensures comes { IfOk result (λ made. ComesAs at_once (world state.old.opened history.old.items) entry made.1) }
     ensures unmade { OnErr result ((history.new.items ≡ history.old.items) × (down.old ≡ None → RepresentsWorld state.new (world state.old.opened history.old.items)) × (store.new ≡ store.old) × (down.new ≡ down.old)) }
     ensures spared { OnErr result (0 < vec_capacity history.old - vec_len history.old
         → MayBeUnmadeFrom (world state.old.opened history.old.items).flat.schema ((world state.old.opened history.old.items).standing entry.session.0) entry.request) }
@@ -283,15 +339,17 @@ fn make<D: Disk>(
     let place = Place(history.len() as u64);
     if let Some(failed) = *down {
         history.push_reserved(entry);
-        return Ok((place, Reply::Refused(Refusal::Down(failed))));
+        let why = Refusal::Down(failed);
+        return Ok((place, Came::Replied(Verdict::Took, Reply::Refused(why))));
     }
-    match serve(alloc, state, store, history, &entry) {
-        Ok((verdict, reply)) => {
+    match serve(alloc, state, store, history, &entry, at_once) {
+        Ok(came) => {
+            let verdict = verdict_by(&came);
             if is_fault(verdict) {
                 *down = Some(place);
             }
             history.push_reserved(under(verdict, entry));
-            Ok((place, reply))
+            Ok((place, came))
         }
         Err(AllocError) => {
             drop(entry);
@@ -311,7 +369,7 @@ fn begun(alloc: Global, replayed: Replayed, calls: u32) -> Result<(State, Vec<En
     let history = Vec::with_capacity(alloc, calls as usize)?;
     let txns = Txns::new(alloc)?;
     let (version, weighs) = replayed.into_parts();
-    let opened = version.copy(alloc)?;
+    let opened = Snapshot::taken(alloc, &version)?;
     let state = State {
         opened,
         version,

@@ -1,7 +1,5 @@
-ghost use Rattle.std.specs.Prelude.{◌≡◌, ◌≢◌, true, false, IfOk, OnErr};
+ghost use Rattle.std.specs.Prelude.{◌≡◌, true, false};
 ghost use Rattle.own_model.specs.declared.history.Verdict.TheVariants.{Took};
-ghost use Rattle.own_model.specs.declared.refusal.Refusal.TheVariants.{Memory};
-ghost use Rattle.own_model.specs.declared.reply.Reply.TheVariants.{Refused};
 ghost use Rattle.own_model.specs.declared.request.Request.TheVariants.{Run};
 ghost use Rattle.own_model.specs.declared.statement.Statement.TheVariants.{Commit};
 ghost use Rattle.run_model.specs.Items.{TakesRows};
@@ -12,6 +10,7 @@ ghost use Rattle.engine_core.specs.Asked as spec;
 ghost use Rattle.engine_core.specs.RepresentsWorld.{IsEvent, Serves, ServesAlone};
 ghost use Rattle.engine_core.specs.Stored.{IsUp, Stores};
 
+use crate::came::refused;
 use crate::commit::commit;
 use crate::installing::install;
 use crate::state::State;
@@ -24,17 +23,6 @@ use std::alloc::{AllocError, Global};
 use std::mem::drop;
 use store_disk::StoreDisk;
 use store_version::Shown;
-
-/// What a refusal is reported as, unless it is for want of memory.
-fn refused(why: Refusal) -> Result<Reply, AllocError>
-    ensures told { IfOk result (λ reply. (reply ≡ Refused why) × (why ≢ Memory)) }
-    ensures memory { OnErr result (why ≡ Memory) }
-{
-    match why {
-        Refusal::Memory => Err(AllocError),
-        why => Ok(Reply::Refused(why)),
-    }
-}
 
 /// Whether a statement has a place in a transaction.
 fn has_place_inside(statement: &Statement) -> bool

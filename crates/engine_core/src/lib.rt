@@ -3,6 +3,7 @@
 
 mod answer;
 mod asker;
+mod came;
 mod checkpoint;
 mod closed;
 mod commit;
@@ -10,12 +11,13 @@ mod creating;
 mod engine;
 mod inside;
 mod installing;
+mod keeps;
+mod looking;
 mod outside;
 mod prepared;
-mod reading;
+mod serves;
 mod serving;
 mod state;
-mod step;
 mod subjects;
 mod taking;
 mod verdict;
@@ -23,4 +25,4 @@ mod writing;
 
 pub use closed::Closed;
 pub use engine::Engine;
-pub use step::{NoLook, Step};
+pub use serve_model::Step;

@@ -12,7 +12,7 @@ ghost use Rattle.txn_core.specs.SessionStates.{state_by};
 ghost use Rattle.txn_core.specs.declared.session_state.SessionState.TheVariants.{Nothing};
 ghost use Rattle.crash_model.specs.Room.{written_by};
 ghost use Rattle.engine_core.specs.Answered.{Erases, ErasesBound, Tells, bound_reply, bound_written};
-ghost use Rattle.engine_core.specs.Asked.{IsBound, IsCreate, IsMeant, RunsByItself};
+ghost use Rattle.engine_core.specs.Asked.{IsBound, IsCreate, IsMeant, RunsByItself, reads_alone};
 ghost use Rattle.engine_core.specs.RepresentsWorld.{IsEvent, Serves, RepresentsWorld};
 ghost use Rattle.engine_core.specs.Stored.{IsUp, Stores};
 
@@ -21,9 +21,8 @@ use crate::asker::Asker;
 use crate::checkpoint::checkpoint;
 use crate::creating::create;
 use crate::installing::install;
-use crate::reading::read;
 use crate::state::State;
-use crate::subjects::{forget, get_reply};
+use crate::subjects::forget;
 use crate::writing::write;
 use outer_world::Disk;
 use own_base::Place;
@@ -33,7 +32,7 @@ use std::alloc::{AllocError, Global};
 use std::mem::drop;
 use store_disk::StoreDisk;
 
-/// The answer to a bound statement outside a transaction.
+/// The answer to a bound statement outside a transaction that changes rows.
 #[tactic(auto, unfolding(run_model::specs::Run::run_bound))]
 fn answer_meant(alloc: Global, asker: &Asker<'_>, bound: &Bound) -> Result<Answer, AllocError>
     requires sound { Sound asker.now.state.now.version }
@@ -44,16 +43,8 @@ fn answer_meant(alloc: Global, asker: &Asker<'_>, bound: &Bound) -> Result<Answe
     ensures erases { IfOk result (ErasesBound asker.now.state.now.version bound.now) }
 {
     match bound {
-        Bound::Select(query) => {
-            let reply = read(alloc, &asker.state.version, query)?;
-            Ok(Answer::told(alloc, reply))
-        }
         Bound::Insert { .. } | Bound::Update { .. } | Bound::Delete { .. } => {
             write(alloc, asker, bound)
-        }
-        Bound::Get(subject) => {
-            let reply = get_reply(alloc, &asker.state.version, subject)?;
-            Ok(Answer::told(alloc, reply))
         }
         Bound::Forget(subject) => forget(
             alloc,
@@ -62,7 +53,7 @@ fn answer_meant(alloc: Global, asker: &Asker<'_>, bound: &Bound) -> Result<Answe
             asker.commits,
             subject,
         ),
-        Bound::Explain => unreachable!(),
+        _ => unreachable!(),
     }
 }
 
@@ -109,12 +100,13 @@ fn answer_to_create(
     }
 }
 
-/// The answer to a statement outside a transaction that runs by itself.
+/// The answer to a statement outside a transaction that runs by itself, and doesn't read alone.
 fn answer(alloc: Global, asker: &Asker<'_>, statement: &Statement) -> Result<Answer, AllocError>
     requires sound { Sound asker.now.state.now.version }
     requires stands { RepresentsWorld asker.now.state.now (world asker.now.state.now.opened asker.now.history.now) }
     requires written { IsWritten STATEMENT_BYTES statement.now }
     requires itself { RunsByItself statement.now }
+    requires changes { reads_alone statement.now ≡ false }
     ensures tells { IfOk result (Tells asker.now.state.now.version (is_create (Run statement.now)) (written_by asker.now.state.now.version (Run statement.now) (run asker.now.state.now.version statement.now).db asker.now.commits) (λ verdict. reply_outside (world asker.now.state.now.opened asker.now.history.now) asker.now.session.0 verdict statement.now) (run asker.now.state.now.version statement.now).db) }
     ensures erases { IfOk result (Erases asker.now.state.now.version (Run statement.now)) }
 {
@@ -122,15 +114,11 @@ fn answer(alloc: Global, asker: &Asker<'_>, statement: &Statement) -> Result<Ans
         Statement::CreateTable(_) | Statement::CreateView(_) => {
             answer_to_create(alloc, asker, statement)
         }
-        Statement::Explain => {
-            let graph = asker.state.version.catalog().explain(alloc)?;
-            Ok(Answer::told(alloc, graph))
-        }
         _ => answer_by_meaning(alloc, asker, statement),
     }
 }
 
-/// Serves a statement of a session that is outside a transaction.
+/// Serves a statement of a session that is outside a transaction, where it doesn't read alone.
 pub(crate) fn serve_outside<D: Disk>(
     alloc: Global,
     state: &mut State,
@@ -144,6 +132,7 @@ pub(crate) fn serve_outside<D: Disk>(
     requires store { IsUp D.holds D.leaves D.honest store.old state.old.version }
     requires outside { state_by state.old.txns.states entry.now.session.0 ≡ Nothing }
     requires asks { entry.now.request ≡ Run statement.now }
+    requires changes { reads_alone statement.now ≡ false }
     ensures served { Serves state.old.opened state.new history.now entry.now result }
     ensures stored { Stores D.holds D.leaves D.moment D.might_have_left D.honest D.faults (world state.old.opened history.now) entry.now store.old result store.new }
     ensures opened { state.new.opened ≡ state.old.opened }

@@ -1,12 +1,15 @@
-ghost use Rattle.std.specs.Prelude.{◌≡◌, None};
+ghost use Rattle.std.specs.Prelude.{◌≡◌, None, IfOk};
 ghost use Rattle.own_model.specs.declared.history.Verdict.TheVariants.{Took};
 ghost use Rattle.own_model.specs.declared.request.Request.TheVariants.{Run};
 ghost use Rattle.history_model.specs.History.{world};
 ghost use Rattle.txn_core.specs.SessionStates.{doom_of, state_by};
+ghost use Rattle.engine_core.specs.Came.{ComesAs, told_of};
 ghost use Rattle.engine_core.specs.RepresentsWorld.{IsEvent, Serves};
 ghost use Rattle.engine_core.specs.Stored.{IsUp, Stores};
 
+use crate::came::{Came, replied};
 use crate::inside::serve_inside;
+use crate::looking::{read, reads_alone};
 use crate::outside::serve_outside;
 use crate::state::State;
 use outer_world::Disk;
@@ -14,7 +17,8 @@ use own_model::{Entry, Refusal, Reply, Request, Statement, Verdict};
 use std::alloc::{AllocError, Global};
 use store_disk::StoreDisk;
 
-/// Serves a statement of a session that isn't doomed.
+/// Serves a statement of a session that isn't doomed. Outside a transaction one that reads alone comes to a look, or is
+/// answered at once.
 fn serve_statement<D: Disk>(
     alloc: Global,
     state: &mut State,
@@ -22,21 +26,25 @@ fn serve_statement<D: Disk>(
     history: &[Entry],
     entry: &Entry,
     statement: &Statement,
-) -> Result<(Verdict, Reply), AllocError>
+    at_once: bool,
+) -> Result<Came, AllocError>
     requires event { IsEvent state.old history.now entry.now }
     requires took { entry.now.verdict ≡ Took }
     requires store { IsUp D.holds D.leaves D.honest store.old state.old.version }
     requires undoomed { doom_of (state_by state.old.txns.states entry.now.session.0) ≡ None }
     requires asks { entry.now.request ≡ Run statement.now }
-    ensures served { Serves state.old.opened state.new history.now entry.now result }
-    ensures stored { Stores D.holds D.leaves D.moment D.might_have_left D.honest D.faults (world state.old.opened history.now) entry.now store.old result store.new }
+    ensures served { Serves state.old.opened state.new history.now entry.now (told_of result) }
+    ensures stored { Stores D.holds D.leaves D.moment D.might_have_left D.honest D.faults (world state.old.opened history.now) entry.now store.old (told_of result) store.new }
+    ensures comes { IfOk result (ComesAs at_once (world state.old.opened history.now) entry.now) }
     ensures opened { state.new.opened ≡ state.old.opened }
 {
     if state.txns.is_open(entry.session) {
-        serve_inside(alloc, state, store, history, entry, statement)
-    } else {
-        serve_outside(alloc, state, store, history, entry, statement)
+        return replied(serve_inside(alloc, state, store, history, entry, statement));
     }
+    if reads_alone(statement) {
+        return read(alloc, &state.version, statement, at_once);
+    }
+    replied(serve_outside(alloc, state, store, history, entry, statement))
 }
 
 /// Serves a request of a session that isn't doomed.
@@ -46,24 +54,40 @@ fn serve_undoomed<D: Disk>(
     store: &mut StoreDisk<D>,
     history: &[Entry],
     entry: &Entry,
-) -> Result<(Verdict, Reply), AllocError>
+    at_once: bool,
+) -> Result<Came, AllocError>
     requires event { IsEvent state.old history.now entry.now }
     requires took { entry.now.verdict ≡ Took }
     requires store { IsUp D.holds D.leaves D.honest store.old state.old.version }
     requires undoomed { doom_of (state_by state.old.txns.states entry.now.session.0) ≡ None }
-    ensures served { Serves state.old.opened state.new history.now entry.now result }
-    ensures stored { Stores D.holds D.leaves D.moment D.might_have_left D.honest D.faults (world state.old.opened history.now) entry.now store.old result store.new }
+    ensures served { Serves state.old.opened state.new history.now entry.now (told_of result) }
+    ensures stored { Stores D.holds D.leaves D.moment D.might_have_left D.honest D.faults (world state.old.opened history.now) entry.now store.old (told_of result) store.new }
+    ensures comes { IfOk result (ComesAs at_once (world state.old.opened history.now) entry.now) }
     ensures opened { state.new.opened ≡ state.old.opened }
 {
     match &entry.request {
-        Request::Syntax(byte) => { Ok((Verdict::Took, Reply::Refused(Refusal::Syntax(*byte)))) }
-        Request::Limit(limit) => { Ok((Verdict::Took, Reply::Refused(Refusal::Limit(*limit)))) }
+        Request::Syntax(byte) => {
+            let why = Refusal::Syntax(*byte);
+            Ok(Came::Replied(Verdict::Took, Reply::Refused(why)))
+        }
+        Request::Limit(limit) => {
+            let why = Refusal::Limit(*limit);
+            Ok(Came::Replied(Verdict::Took, Reply::Refused(why)))
+        }
         Request::End => {
             state.txns.finish(entry.session);
-            Ok((Verdict::Took, Reply::Ended))
+            Ok(Came::Replied(Verdict::Took, Reply::Ended))
         }
         Request::Run(statement) => {
-            serve_statement(alloc, state, store, history, entry, statement.get())
+            serve_statement(
+                alloc,
+                state,
+                store,
+                history,
+                entry,
+                statement.get(),
+                at_once,
+            )
         },
     }
 }
@@ -75,16 +99,21 @@ pub(crate) fn serve<D: Disk>(
     store: &mut StoreDisk<D>,
     history: &[Entry],
     entry: &Entry,
-) -> Result<(Verdict, Reply), AllocError>
+    at_once: bool,
+) -> Result<Came, AllocError>
     requires event { IsEvent state.old history.now entry.now }
     requires took { entry.now.verdict ≡ Took }
     requires store { IsUp D.holds D.leaves D.honest store.old state.old.version }
-    ensures served { Serves state.old.opened state.new history.now entry.now result }
-    ensures stored { Stores D.holds D.leaves D.moment D.might_have_left D.honest D.faults (world state.old.opened history.now) entry.now store.old result store.new }
+    ensures served { Serves state.old.opened state.new history.now entry.now (told_of result) }
+    ensures stored { Stores D.holds D.leaves D.moment D.might_have_left D.honest D.faults (world state.old.opened history.now) entry.now store.old (told_of result) store.new }
+    ensures comes { IfOk result (ComesAs at_once (world state.old.opened history.now) entry.now) }
     ensures opened { state.new.opened ≡ state.old.opened }
 {
     match state.txns.tell_doom(entry.session) {
-        Some(place) => Ok((Verdict::Took, Reply::Refused(Refusal::Doomed(place)))),
-        None => serve_undoomed(alloc, state, store, history, entry),
+        Some(place) => {
+            let why = Refusal::Doomed(place);
+            Ok(Came::Replied(Verdict::Took, Reply::Refused(why)))
+        }
+        None => serve_undoomed(alloc, state, store, history, entry, at_once),
     }
 }

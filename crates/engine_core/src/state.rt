@@ -1,3 +1,4 @@
+use store_snapshot::Snapshot;
 use store_version::Version;
 use txn_core::Txns;
 
@@ -6,7 +7,7 @@ use txn_core::Txns;
 #[derive(Drop)]
 pub(crate) struct State {
     /// The state that the opening left.
-    pub(crate) opened: Version,
+    pub(crate) opened: Snapshot,
     pub(crate) version: Version,
     pub(crate) weighs: u64,
     pub(crate) txns: Txns,

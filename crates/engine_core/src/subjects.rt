@@ -5,9 +5,9 @@ ghost use Rattle.move_model.specs.Moves.{AreMovesOf};
 ghost use Rattle.schema_model.specs.Tables.{is_subject};
 ghost use Rattle.ref_index.specs.Tells.{Tell};
 ghost use Rattle.state_model.specs.Put.{put};
-ghost use Rattle.state_model.specs.Sound.{IsWellFormed, Sound};
+ghost use Rattle.state_model.specs.Sound.{Sound};
 ghost use Rattle.state_model.specs.Weight.{weight};
-ghost use Rattle.run_model.specs.Run.{forget_subject, show_subject};
+ghost use Rattle.run_model.specs.Run.{forget_subject};
 ghost use Rattle.subject_erase.specs.Plan.{leaves_row};
 ghost use Rattle.history_model.specs.Reply.{forget_reply};
 ghost use Rattle.check_image.specs.Gated.{IsGatedImage};
@@ -21,32 +21,11 @@ use check_image::encode;
 use move_model::OwnerMove;
 use own_base::{Change, List, MakeCopy, RowName, Subject};
 use own_model::{Reply, StoreView};
-use shelf_access::{collect, sights_of};
 use shelf_erase::erase_changes;
 use std::alloc::{AllocError, Global};
 use std::mem::drop;
 use store_version::{Next, Shown, Version, prepare};
 use subject_access::no_subject;
-
-/// The reply to a bound GDPR GET: from the subject's shelf, and the rows that it sees beside that.
-#[tactic(auto, unfolding(run_model::specs::Run::show_subject))]
-pub(crate) fn get_reply(
-    alloc: Global,
-    version: &Version,
-    subject: &Subject,
-) -> Result<Reply, AllocError>
-    requires well_formed { IsWellFormed version.now }
-    requires subject { IsTrue (is_subject version.now.schema subject.now.0.table.0) }
-    ensures { IfOk result (λ reply. reply ≡ (show_subject version.now subject.now.0).reply) }
-{
-    let shown = Shown { version };
-    if shown.row(&subject.0).is_none() {
-        let why = no_subject(alloc, version.schema(), subject)?;
-        return Ok(Reply::Refused(why));
-    }
-    let seen = sights_of(alloc, &shown, subject)?;
-    collect(alloc, version.schema(), &shown, seen.items(), subject)
-}
 
 /// The reply to a GDPR FORGET that makes these changes: how many rows they remove, and how many they change.
 fn forgotten(changes: &[Change]) -> Reply

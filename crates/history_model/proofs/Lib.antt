@@ -8,6 +8,7 @@ pub mod DiskAnswers
 pub mod DoomLemmas
 pub mod DoomTold
 pub mod EveryHistory
+pub mod Failures
 pub mod GrantLemmas
 pub mod HistoryLemmas
 pub mod HolderLemmas

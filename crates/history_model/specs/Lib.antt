@@ -1,5 +1,6 @@
 pub mod AsksDisk
 pub mod Commits
+pub mod Fails
 pub mod HasWritten
 pub mod Held
 pub mod History

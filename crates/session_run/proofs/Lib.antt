@@ -1,3 +1,12 @@
+pub mod FirstLemmas
+pub mod JobLemmas
 pub mod LookedLemmas
+pub mod OutLemmas
 pub mod PassLemmas
+pub mod PlacedLemmas
+pub mod RunLemmas
+pub mod SentJobs
+pub mod SplitLemmas
+pub mod TogetherLemmas
 pub mod ToldLemmas
+pub mod WrittenLemmas

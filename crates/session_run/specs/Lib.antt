@@ -1,3 +1,6 @@
+pub mod Jobs
 pub mod Serving
+pub mod Sessions
 pub mod Telling
 pub mod ToldCalls
+pub mod Written

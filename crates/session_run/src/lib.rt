@@ -3,8 +3,15 @@
 #![tactic(auto)]
 
 mod calling;
+mod printing;
 mod replies;
+mod running;
+mod serving;
+mod sessions;
 mod telling;
 mod working;
 
+pub use printing::{RunFault, print_sessions};
 pub use replies::{SessionReplies, Told};
+pub use running::run_threads;
+pub use serving::serve_sessions;

@@ -29,7 +29,8 @@ use Rattle.history_model.specs.World.{Block, Open}
 use Rattle.history_model.proofs.HistoryLemmas.{reply-last}
 use Rattle.reply_json.specs.declared.columns.TableNames.{TableNames}
 use Rattle.crash_model.specs.LeftBy.{IsLeftBy}
-use Rattle.engine_core.specs.Seen.{IsLeftByEither, LeavesUnmade, Makes, Seen, Writes, disk_of, entry}
+use Rattle.crash_model.specs.MovesDisk.{IsLeftByEither}
+use Rattle.engine_core.specs.Seen.{LeavesUnmade, Makes, Seen, Writes, disk_of, entry}
 use Rattle.engine_core.specs.Stored.{is_fault}
 use Rattle.shell_session.specs.Answered.{IsAnswered, IsMadeAt}
 use Rattle.shell_session.specs.DiskView.{DiskView, view_of}

@@ -292,6 +292,12 @@ lived-end view are_given form first here last pieces stream fault remaining_old 
 abbrev pub IsClosed : Option ShellFault → Option ShellFault → Type 0
 IsClosed fault told = (told ≡ fault) ⊎ ((told ≡ Some Disk) × ((fault ≡ None) ⊎ (fault ≡ Some Refused)))
 
+-- a fault that isn't told wasn't met, unless it was a refusal
+pub untold-unmet : {A : Type 0} (why other : ShellFault) (told : Option ShellFault) (result : Result A ShellFault) → IsClosed (Some why) told → other ≢ Refused → told ≢ Some other → result ≡ Err why → result ≢ Err other
+untold-unmet why other told result (inl same) unrefused untold is met = untold cc
+untold-unmet why other told result (inr (disk, inl none)) unrefused untold is met = let never : ⊥ = cc in never
+untold-unmet why other told result (inr (disk, inr refused)) unrefused untold is met = unrefused cc
+
 last-cut : (bytes : List ℕ) (calls made unmade : List ScriptCall) (fault : Option ShellFault) (why : ShellFault) → AreLast bytes calls made unmade fault → AreLast bytes calls made unmade (Some why)
 last-cut bytes calls made unmade fault why (inl all) = inl all
 last-cut bytes calls made unmade fault why (inr cut) = inr (cut.0, λ none. cc)

@@ -5,10 +5,11 @@ ghost use Rattle.shell_session.specs.DiskView.{view_of};
 ghost use Rattle.shell_session.specs.Life.{IsCalled};
 ghost use Rattle.shell_session.specs.Opening.{opening_of};
 
-use engine_core::{Engine, Step};
+use engine_core::Engine;
 use outer_world::Disk;
 use own_base::Place;
 use own_model::{Refusal, Reply, ScriptCall};
+use std::alloc::AllocError;
 
 /// What a call was answered, and at which place of the history; without one memory kept it from being made.
 #[derive(Drop)]
@@ -28,13 +29,12 @@ pub(crate) fn make_call<D: Disk>(engine: &mut Engine<D>, call: ScriptCall) -> An
         call: number,
         request,
     } = call;
-    match engine.step(session, number, request) {
-        Step::Answered(place, reply) => Answer {
+    match engine.answer(session, number, request) {
+        Ok((place, reply)) => Answer {
             place: Some(place),
             reply,
         },
-        Step::Look(..) => unreachable!(),
-        Step::NoMemory => Answer {
+        Err(AllocError) => Answer {
             place: None,
             reply: Reply::Refused(Refusal::Memory),
         },

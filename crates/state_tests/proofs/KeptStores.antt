@@ -7,7 +7,7 @@ use Rattle.state_model.proofs.CreatedSchema.{owner_schema-created, within-create
 use Rattle.txn_core.specs.Runs.{IsStore}
 use Rattle.query_eval.specs.Views.{AreViewsThere}
 use Rattle.txn_core.proofs.SoundBases.{store-sound}
-use Rattle.engine_core.proofs.KeptViews.{views_there-created}
+use Rattle.store_snapshot.proofs.KeptViews.{views_there-created}
 
 -- its schema
 pub within_limits : (db : Db) → IsWellFormed db → IsWithinLimits db.schema

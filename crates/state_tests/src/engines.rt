@@ -2,11 +2,12 @@
 ghost use Rattle.grammar_model.specs.Readable.{IsReadable};
 
 use crate::texts::read;
-use engine_core::{Closed, Engine, NoLook, Step};
+use engine_core::{Closed, Engine};
 use outer_world::MemDisk;
-use own_base::{Boxed, SessionNo, Text};
-use own_model::{Entry, Request, SESSIONS};
+use own_base::{Boxed, Place, SessionNo, Text};
+use own_model::{Entry, Reply, Request, SESSIONS};
 use sql_print::{print_reply, print_statement};
+use std::alloc::AllocError;
 use std::mem::drop;
 use std::process::Abort;
 
@@ -81,16 +82,12 @@ fn lines_of(
     rt: &(impl Abort + AllocGlobal),
     session: SessionNo,
     number: u32,
-    step: Step<NoLook>,
+    answer: Result<(Place, Reply), AllocError>,
 ) -> Text {
-    match step {
-        Step::Answered(place, reply) => {
-            let lines = print_reply(rt.alloc(), Some(place), session, number, &reply);
-            drop(reply);
-            lines.expect(rt, "memory")
-        }
-        Step::Look(..) | Step::NoMemory => panic!(rt; "no answer"),
-    }
+    let (place, reply) = answer.expect(rt, "no answer");
+    let lines = print_reply(rt.alloc(), Some(place), session, number, &reply);
+    drop(reply);
+    lines.expect(rt, "memory")
 }
 
 /// Makes a call, which takes room for one entry.
@@ -104,9 +101,9 @@ fn make(
     assert!(rt; 1 <= session && session <= SESSIONS);
     let request = request_of(rt, text);
     let spare = engine.spare();
-    let step = engine.step(SessionNo(session), number, request);
+    let answer = engine.answer(SessionNo(session), number, request);
     assert_eq!(rt; Some(engine.spare()), spare.checked_sub(1), "{text}");
-    lines_of(rt, SessionNo(session), number, step)
+    lines_of(rt, SessionNo(session), number, answer)
 }
 
 /// Makes the calls, and gives their lines.

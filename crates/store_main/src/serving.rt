@@ -28,7 +28,8 @@ pub(crate) fn serve_system<
     ensures unserved { is_served (map string_bytes words.now) ≡ false
         → IsOfWords result.fault ⊎ ((is_in_memory (map string_bytes words.now) ≡ false) × (result.fault ≡ Some TopFault.Disk)) }
 
-    // Without a fault all the calls were made: in mode step those of what some reader of the system gave, which was read to its end.
+    // Without a fault all the calls were made: in a mode that reads an input those of what some reader of the system gave, which was
+    // read to its end.
     ensures whole { result.fault ≡ None
         → (opened : _) × (history : History) × (before : Rt.Reader) × (after : Rt.Reader)
         × IsWholeAs (Rt.Reader.remaining before) (Rt.Reader.remaining after) None None opened history (served_mode (map string_bytes words.now)) }

@@ -20,8 +20,10 @@ use Rattle.made_model.specs.Answered.{answered_as}
 use Rattle.transcript_model.specs.Transcript.{text_of_call}
 use Rattle.engine_core.specs.Seen.{LeavesUnmade, Makes, Seen, Writes, disk_of}
 use Rattle.engine_core.specs.Stored.{is_fault}
-use Rattle.store_top.specs.Steps.{AnswersCall, MakesCall, MovesDiskOnce, fails_at}
-use Rattle.store_top.proofs.Failures.{fails-past}
+use Rattle.history_model.specs.Fails.{fails_at}
+use Rattle.crash_model.specs.MovesDisk.{MovesDiskOnce}
+use Rattle.store_top.specs.Steps.{AnswersCall, MakesCall}
+use Rattle.history_model.proofs.Failures.{fails-past}
 
 -- a call was made, and is answered by the reply at its place
 pub answers-made : {D : Type 0} (call : ScriptCall) (verdict : Verdict) (before after : Seen D) (place : ℕ) (told : Reply) → Makes before after (entry_of call verdict) place told

@@ -16,8 +16,8 @@ use Rattle.history_model.specs.Serial.{IsEntry, IsHistory}
 use Rattle.transcript_model.specs.Transcript.{text_of_call}
 use Rattle.transcript_model.proofs.PrintedLemmas.{CallsWithin, EntriesWithin}
 use Rattle.transcript_model.proofs.TranscriptLemmas.{calls_within-more, entries_within-more, transcript-more, transcript-none}
-use Rattle.store_top.specs.declared.steps.RunFault.{RunFault}
-use Rattle.store_top.specs.declared.steps.RunFault.TheVariants.{Write, Memory}
+use Rattle.session_run.specs.declared.printing.RunFault.{RunFault}
+use Rattle.session_run.specs.declared.printing.RunFault.TheVariants.{Write, Memory}
 use Rattle.store_top.specs.Steps.{AreReadable, RunsTo, MakesCallTo, StopsAtCall, TellsCall, ToldBefore, ToldInPart}
 
 -- bytes that were appended one after another

@@ -1,7 +1,6 @@
 mod Complete
 pub mod Calls
-pub mod Failures
-pub mod Moves
+pub mod InputLemmas
 pub mod OnDiskLemmas
 pub mod RanLemmas
 pub mod ReadFaults
@@ -10,3 +9,4 @@ pub mod CallsServed
 pub mod CallsTallied
 pub mod RanMadeLemmas
 pub mod RanAsLemmas
+pub mod TogetherLemmas

@@ -24,11 +24,13 @@ use Rattle.crash_recover.specs.declared.open.OpenFault.TheVariants as opening
 use Rattle.store_disk.specs.OpensAt.{OpensAt}
 use Rattle.store_top.specs.declared.served.TopFault.{TopFault}
 use Rattle.store_top.specs.declared.served.TopFault.TheVariants.{Disk, Damaged}
-use Rattle.store_top.specs.OnDisk.{IsServedOn, OnDisk}
+use Rattle.store_top.specs.OnDisk.{IsServedOn, IsServedOver, IsServedSince, OnDiskBy}
 use Rattle.store_top.specs.Status.{unopened}
 use Rattle.store_top.specs.declared.serving.Telling.{Telling}
 use Rattle.store_top.specs.declared.serving.Telling.TheVariants.{Lines, Summary}
-use Rattle.store_top.specs.Steps.{HasFailed, MovesDisk, RunsTo, StopsAtCall, SumsUp, ToldBefore, ToldInPart}
+use Rattle.history_model.specs.Fails.{HasFailed}
+use Rattle.crash_model.specs.MovesDisk.{MovesDisk}
+use Rattle.store_top.specs.Steps.{RunsTo, StopsAtCall, SumsUp, ToldBefore, ToldInPart}
 use Rattle.store_top.specs.Top.{IsBeforeOpening, ServedBy, ServesCallsAs}
 use Rattle.store_top.proofs.Runs.{calls-failed, calls-later, calls-undamaged, calls-whole}
 
@@ -49,15 +51,14 @@ not_before (opening.Damaged area offset) before = before
 not_before opening.Memory before = before
 
 module _ {D : Type 0} (holds : D → Area → List ℕ) (leaves : D → Area → List ℕ → Type 0) (moment : D → ℕ) (might : D → ℕ → List ℕ → List ℕ → Type 0)
-    (only_now : (disk : D) (a b : List ℕ) → might disk (moment disk) a b → leaves disk A a × leaves disk B b)
-    (honest : D → Bool) (faults : D → ℕ) (old new : D) (opened : Option Db) (history : History) where
+    (honest : D → Bool) (faults : D → ℕ) (old new : D) (opened : Option Db) (history : History) (Served : Db → Type 0) where
   abbrev Did : Option TopFault → Type 0
-  Did fault = OnDisk holds leaves moment might honest faults old new opened history fault
+  Did fault = OnDiskBy holds leaves moment might honest faults old new opened history Served fault
 
   -- no store was opened, since the run ended before that
-  pub on_disk-before : (fault : TopFault) → new ≡ old → opened ≡ None → Some fault ≢ Some Disk
+  pub on_disk-before : ((disk : D) (a b : List ℕ) → might disk (moment disk) a b → leaves disk A a × leaves disk B b) → (fault : TopFault) → new ≡ old → opened ≡ None → Some fault ≢ Some Disk
       → ((area : Area) (offset : ℕ) → Some fault ≢ Some (Damaged area offset)) → Did (Some fault)
-  on_disk-before fault same none other sound = record {
+  on_disk-before only_now fault same none other sound = record {
     rose = λ is. absurd (other is);
     failed = λ base over failed. let never : ⊥ = cc in absurd never;
     steady = λ other failed. ap faults same;
@@ -94,24 +95,21 @@ module _ {D : Type 0} (holds : D → Area → List ℕ) (leaves : D → Area →
     served = λ base over. let never : ⊥ = cc in absurd never;
   }
 
-  -- calls were served over the database that was opened
+  -- calls were served over the database that was opened, since a moment at which the disk was so
   module _ (mid : D) (base : Db) (start : ℕ) (over : opened ≡ Some base)
       (store : IsTrue (honest old) → IsStoreIn (holds old A) (holds old B) base start) (honesty : honest mid ≡ honest old) (time : moment old ≤ moment mid) (steady : faults mid ≡ faults old)
-      (moments : IsTrue (honest old) → LeavesOnly moment might (IsLeft holds leaves old) old mid) (moves : MovesDisk moment might honest faults base start history mid new)
+      (moves : MovesDisk moment might honest faults base start history mid new)
       (left : IsTrue (honest new) → (a b : List ℕ) → leaves new A a → leaves new B b → IsLeftBy base start history a b)
       (area : Area) (journal : JournalEnd) (opens : IsTrue (honest old) → OpensAt (holds old A) (holds old B) area journal.epoch journal.end) (exact : IsNoRoomExact journal base start history)
       (alone : is_laid_behind base history ≡ true → IsTrue (honest new) → IsAloneBehind holds leaves new journal base start history) where
     abbrev Either : List ℕ → List ℕ → Type 0
     Either a b = IsLeft holds leaves old a b ⊎ IsLeftOf base start history a b
 
-    served_on : IsTrue (honest old) → IsServedOn holds leaves moment might old new base history
-    served_on can = record {
+    served_over : IsTrue (honest old) → IsServedOver holds leaves old new base history
+    served_over can = record {
       start = start;
       store = store can;
       left = left (subst IsTrue (sym (moves.honesty ∙ honesty)) can);
-      moments = then leaves moment might only_now old mid new Either
-          (weaker leaves moment might only_now old mid (IsLeft holds leaves old) Either (λ a b before. inl before) (moments can))
-          (weaker leaves moment might only_now mid new (IsLeftOf base start history) Either (λ a b of. inr of) (moves.moments (subst IsTrue (sym honesty) can)));
       area = area;
       journal = journal;
       opens = opens can;
@@ -119,11 +117,28 @@ module _ {D : Type 0} (holds : D → Area → List ℕ) (leaves : D → Area →
       alone = λ laid. alone laid (subst IsTrue (sym (moves.honesty ∙ honesty)) can);
     }
 
+    -- one after another
+    pub served-on : ((disk : D) (a b : List ℕ) → might disk (moment disk) a b → leaves disk A a × leaves disk B b) → (IsTrue (honest old) → LeavesOnly moment might (IsLeft holds leaves old) old mid) → IsTrue (honest old) → IsServedOn holds leaves moment might old new base history
+    unfolding served_over
+    served-on only_now moments can = record {
+      over = served_over can;
+      moments = then leaves moment might only_now old mid new Either
+          (weaker leaves moment might only_now old mid (IsLeft holds leaves old) Either (λ a b before. inl before) (moments can))
+          (weaker leaves moment might only_now mid new (IsLeftOf base start history) Either (λ a b of. inr of) (moves.moments (subst IsTrue (sym honesty) can)));
+    }
+
+    -- or side by side
+    pub served-since : IsTrue (honest old) → IsServedSince holds leaves moment might old new base history
+    unfolding served_over
+    served-since can =
+        let moments = moves.moments (subst IsTrue (sym honesty) can) in
+        record { over = served_over can; opening = moment mid; later = time; moments = record { later = moments.later; each = moments.between } }
+
     rose_since : HasFailed base history → CountRose (faults old) (faults new)
     rose_since failed = rw (← steady) (moves.rose failed)
 
-    on_disk-served : (rose whole part before : Type 0) (fault : Option TopFault) → ServedBy base history rose whole part before fault → Did fault
-    on_disk-served rose whole part before fault serves =
+    pub on_disk-served : (IsTrue (honest old) → Served base) → (rose whole part before : Type 0) (fault : Option TopFault) → ServedBy base history rose whole part before fault → Did fault
+    on_disk-served served rose whole part before fault serves =
         let later = moves.time in
         let risen = moves.risen in
         record {
@@ -137,15 +152,15 @@ module _ {D : Type 0} (holds : D → Area → List ℕ) (leaves : D → Area →
           honesty = moves.honesty ∙ honesty;
           time = omega arith;
           unopened = λ none. let never : ⊥ = cc in absurd never;
-          served = λ of is can. let same : base ≡ of = cc in subst (λ db. IsServedOn holds leaves moment might old new db history) same (served_on can);
+          served = λ of is can. let same : base ≡ of = cc in subst Served same (served can);
         }
 
-    -- whatever was told of them
-    pub on_disk-served_as : (telling : Telling) (calls : List ScriptCall) (written_old written_new : Option (List ℕ)) (rose : Type 0) (fault : Option TopFault)
+    -- whatever was told of calls that were made one after another
+    pub on_disk-served_as : (IsTrue (honest old) → Served base) → (telling : Telling) (calls : List ScriptCall) (written_old written_new : Option (List ℕ)) (rose : Type 0) (fault : Option TopFault)
         → ServesCallsAs telling base calls history written_old written_new rose fault → Did fault
-    on_disk-served_as Lines calls written_old written_new rose fault serves =
-        on_disk-served rose (RunsTo base calls history written_old written_new) (StopsAtCall base calls history (ToldInPart written_old written_new))
+    on_disk-served_as served Lines calls written_old written_new rose fault serves =
+        on_disk-served served rose (RunsTo base calls history written_old written_new) (StopsAtCall base calls history (ToldInPart written_old written_new))
         (StopsAtCall base calls history (ToldBefore written_old written_new)) fault serves
-    on_disk-served_as Summary calls written_old written_new rose fault serves =
-        on_disk-served rose (SumsUp base calls history (Appends written_old written_new)) (SumsUp base calls history (ToldInPart written_old written_new []))
+    on_disk-served_as served Summary calls written_old written_new rose fault serves =
+        on_disk-served served rose (SumsUp base calls history (Appends written_old written_new)) (SumsUp base calls history (ToldInPart written_old written_new []))
         (SumsUp base calls history (ToldBefore written_old written_new [])) fault serves

@@ -1,8 +1,10 @@
 pub mod Complete
+pub mod LeavesDisk
 pub mod OnDisk
 pub mod Ran
 pub mod RanAs
 pub mod RanMade
+pub mod RanTogether
 pub mod Status
 pub mod Steps
 pub mod Top

@@ -1,4 +1,4 @@
--- What a run in mode step did to its disk.
+-- What a run did to its disk.
 use Rattle.std.specs.Prelude.{◌≡◌, ◌≢◌, ◌⊎◌, ◌≤◌, ℕ, List, Bool, true, IsTrue, Option, None, Some}
 use Rattle.outer_world.specs.FaultCount.{CountRose}
 use Rattle.outer_world.specs.LeavesOnly.{LeavesOnly}
@@ -10,6 +10,7 @@ use Rattle.history_model.specs.History.{History}
 use Rattle.disk_model.specs.Judged.{IsJudged}
 use Rattle.disk_model.specs.JudgedArea as found
 use Rattle.crash_model.specs.Alone.{is_laid_behind}
+use Rattle.crash_model.specs.LeavesSince.{LeavesSince}
 use Rattle.crash_model.specs.LeftBy.{IsLeftBy, IsLeftOf}
 use Rattle.crash_model.specs.Room.{IsNoRoomExact, JournalEnd}
 use Rattle.crash_model.specs.StoreIn.{IsStoreIn}
@@ -18,7 +19,7 @@ use Rattle.store_disk.specs.OpensAt.{OpensAt}
 use Rattle.engine_core.specs.Seen.{IsAloneBehind}
 use Rattle.store_top.specs.declared.served.TopFault.{TopFault}
 use Rattle.store_top.specs.declared.served.TopFault.TheVariants.{Disk, Damaged}
-use Rattle.store_top.specs.Steps.{HasFailed}
+use Rattle.history_model.specs.Fails.{HasFailed}
 use Rattle.store_top.specs.Top.{IsBeforeOpening}
 
 -- What an honest disk holds is damaged there, and both areas stay as they were.
@@ -28,14 +29,11 @@ pub record IsFoundDamaged {D : Type 0} (holds : D → Area → List ℕ) (leaves
   pub kept_b : Stays holds leaves B old new
 
 -- An honest disk held this database, which so many commits had made, and calls made a history over it. A crash of what the
--- disk is now leaves what all of the history says. One at any moment of the run leaves what one might have left before, or
--- the database of before; or what the history says up to some place.
-pub record IsServedOn {D : Type 0} (holds : D → Area → List ℕ) (leaves : D → Area → List ℕ → Type 0) (moment : D → ℕ) (might_have_left : D → ℕ → List ℕ → List ℕ → Type 0)
-    (old new : D) (base : Db) (history : History) : Type 0 where
+-- disk is now leaves what all of the history says.
+pub record IsServedOver {D : Type 0} (holds : D → Area → List ℕ) (leaves : D → Area → List ℕ → Type 0) (old new : D) (base : Db) (history : History) : Type 0 where
   pub start : ℕ
   pub store : IsStoreIn (holds old A) (holds old B) base start
   pub left : (a b : List ℕ) → leaves new A a → leaves new B b → IsLeftBy base start history a b
-  pub moments : LeavesOnly moment might_have_left (λ a b. IsLeft holds leaves old a b ⊎ IsLeftOf base start history a b) old new
   -- Its journal stood where the bytes of its areas say; from there on an entry found no room just where it asked the disk, and
   -- needed more than a journal may have.
   pub area : Area
@@ -46,9 +44,26 @@ pub record IsServedOn {D : Type 0} (holds : D → Area → List ℕ) (leaves : D
   -- write, nothing but the flat database is on the disk, for what reads give and for every crash.
   pub alone : is_laid_behind base history ≡ true → IsAloneBehind holds leaves new journal base start history
 
--- What a run did to its disk, by the database that was opened, by the history of the calls that it made and by its fault.
-pub record OnDisk {D : Type 0} (holds : D → Area → List ℕ) (leaves : D → Area → List ℕ → Type 0) (moment : D → ℕ) (might_have_left : D → ℕ → List ℕ → List ℕ → Type 0)
-    (honest : D → Bool) (faults : D → ℕ) (old new : D) (opened : Option Db) (history : History) (fault : Option TopFault) : Type 0 where
+-- The same, where calls were made one after another. A crash at any moment of the run leaves what one might have left before, or the
+-- database of before; or what the history says up to some place.
+pub record IsServedOn {D : Type 0} (holds : D → Area → List ℕ) (leaves : D → Area → List ℕ → Type 0) (moment : D → ℕ) (might_have_left : D → ℕ → List ℕ → List ℕ → Type 0)
+    (old new : D) (base : Db) (history : History) : Type 0 where
+  pub over : IsServedOver holds leaves old new base history
+  pub moments : LeavesOnly moment might_have_left (λ a b. IsLeft holds leaves old a b ⊎ IsLeftOf base over.start history a b) old new
+
+-- The same, where sessions made them side by side. A crash at any moment since the store was opened leaves what the history says up to
+-- some place.
+pub record IsServedSince {D : Type 0} (holds : D → Area → List ℕ) (leaves : D → Area → List ℕ → Type 0) (moment : D → ℕ) (might_have_left : D → ℕ → List ℕ → List ℕ → Type 0)
+    (old new : D) (base : Db) (history : History) : Type 0 where
+  pub over : IsServedOver holds leaves old new base history
+  pub opening : ℕ
+  pub later : moment old ≤ opening
+  pub moments : LeavesSince moment might_have_left opening (IsLeftOf base over.start history) new
+
+-- What a run did to its disk, by the database that was opened, by the history of the calls that it made and by its fault; of a store
+-- that was opened on an honest disk `Served` is so.
+pub record OnDiskBy {D : Type 0} (holds : D → Area → List ℕ) (leaves : D → Area → List ℕ → Type 0) (moment : D → ℕ) (might_have_left : D → ℕ → List ℕ → List ℕ → Type 0)
+    (honest : D → Bool) (faults : D → ℕ) (old new : D) (opened : Option Db) (history : History) (Served : Db → Type 0) (fault : Option TopFault) : Type 0 where
   -- A fault of the disk is told, and a call answered so, only where its count of faults rose; else that stands still.
   pub rose : fault ≡ Some Disk → CountRose (faults old) (faults new)
   pub failed : (base : Db) → opened ≡ Some base → HasFailed base history → CountRose (faults old) (faults new)
@@ -63,4 +78,16 @@ pub record OnDisk {D : Type 0} (holds : D → Area → List ℕ) (leaves : D →
   pub time : moment old ≤ moment new
   -- What a crash leaves, of an honest disk: where no store was opened, what one might have left before, or the same database.
   pub unopened : opened ≡ None → IsTrue (honest old) → LeavesOnly moment might_have_left (IsLeft holds leaves old) old new
-  pub served : (base : Db) → opened ≡ Some base → IsTrue (honest old) → IsServedOn holds leaves moment might_have_left old new base history
+  pub served : (base : Db) → opened ≡ Some base → IsTrue (honest old) → Served base
+
+-- in modes step and make
+abbrev pub OnDisk : {D : Type 0} → (D → Area → List ℕ) → (D → Area → List ℕ → Type 0) → (D → ℕ) → (D → ℕ → List ℕ → List ℕ → Type 0) → (D → Bool) → (D → ℕ)
+    → D → D → Option Db → History → Option TopFault → Type 0
+OnDisk holds leaves moment might_have_left honest faults old new opened history fault =
+    OnDiskBy holds leaves moment might_have_left honest faults old new opened history (λ base. IsServedOn holds leaves moment might_have_left old new base history) fault
+
+-- in mode serve
+abbrev pub OnDiskTogether : {D : Type 0} → (D → Area → List ℕ) → (D → Area → List ℕ → Type 0) → (D → ℕ) → (D → ℕ → List ℕ → List ℕ → Type 0) → (D → Bool) → (D → ℕ)
+    → D → D → Option Db → History → Option TopFault → Type 0
+OnDiskTogether holds leaves moment might_have_left honest faults old new opened history fault =
+    OnDiskBy holds leaves moment might_have_left honest faults old new opened history (λ base. IsServedSince holds leaves moment might_have_left old new base history) fault

@@ -10,7 +10,8 @@ use Rattle.made_model.specs.Made.{IsMade}
 use Rattle.store_top.specs.declared.served.TopFault.{TopFault}
 use Rattle.store_top.specs.declared.served.TopFault.TheVariants.{Write, Disk, Damaged, Memory}
 use Rattle.store_top.specs.Ran.{LastFault}
-use Rattle.store_top.specs.Steps.{SumsUp, TellsFailure, ToldBefore, ToldInPart}
+use Rattle.history_model.specs.Fails.{TellsFailure}
+use Rattle.store_top.specs.Steps.{SumsUp, ToldBefore, ToldInPart}
 use Rattle.store_top.specs.Top.{IsBeforeOpening, IsUnserved}
 
 -- A store was opened, and the calls of a large script were all made over what that left, but for those that memory may keep

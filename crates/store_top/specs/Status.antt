@@ -4,8 +4,8 @@ use Rattle.crash_recover.specs.declared.open.OpenFault.{OpenFault}
 use Rattle.crash_recover.specs.declared.open.OpenFault.TheVariants as opening
 use Rattle.store_top.specs.declared.served.TopFault.{TopFault}
 use Rattle.store_top.specs.declared.served.TopFault.TheVariants.{Usage, Read, Write, Disk, Damaged, Input, Memory}
-use Rattle.store_top.specs.declared.steps.RunFault.{RunFault}
-use Rattle.store_top.specs.declared.steps.RunFault.TheVariants as running
+use Rattle.session_run.specs.declared.printing.RunFault.{RunFault}
+use Rattle.session_run.specs.declared.printing.RunFault.TheVariants as running
 
 -- 0 for a run to its end, and a number for each fault
 abbrev pub status_of : Option TopFault → ℕ

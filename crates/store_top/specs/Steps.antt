@@ -1,30 +1,23 @@
 -- What serving calls one after another does to a history, a sink and a disk.
-use Rattle.std.specs.Prelude.{◌≡◌, ◌≢◌, ◌⊎◌, ℕ, ◌+◌, ◌<◌, ◌≤◌, List, [], ◌∷◌, ◌++◌, length, Bool, true, false, IsTrue, Option, Some, take, Result, Ok, Err, IfOk}
+use Rattle.std.specs.Prelude.{◌≡◌, ◌≢◌, ℕ, ◌<◌, ◌≤◌, ◌+◌, List, [], ◌∷◌, ◌++◌, length, Bool, Option, take, Result, Ok, Err, IfOk}
 use Rattle.std.specs.Io.KnownBytes.{Appends}
 use Rattle.std.specs.List.{AllByRecursion}
-use Rattle.std.specs.Option.{option_map_or}
-use Rattle.outer_world.specs.FaultCount.{CountRose}
-use Rattle.outer_world.specs.LeavesOnly.{LeavesOnly}
 use Rattle.own_model.specs.declared.history.Verdict.{Verdict}
 use Rattle.own_model.specs.declared.limit.TheConstants.{INPUT_CALLS, SESSIONS}
-use Rattle.own_model.specs.declared.refusal.Refusal.TheVariants as refusal
 use Rattle.own_model.specs.declared.reply.Reply.{Reply}
-use Rattle.own_model.specs.declared.reply.Reply.TheVariants.{Refused}
 use Rattle.own_model.specs.declared.script.ScriptCall.{ScriptCall}
 use Rattle.own_model.specs.Db.{Db}
 use Rattle.grammar_model.specs.Readable.{IsReadable}
 use Rattle.script_model.specs.Split.{IsOfASession}
-use Rattle.history_model.specs.History.{History, is_disk, reply}
+use Rattle.history_model.specs.History.{History}
 use Rattle.history_model.specs.Made.{Want, Unmade, Unshown, added, entry_of, place_by}
 use Rattle.history_model.specs.MayBeUnmade.{MayBeUnmade}
 use Rattle.made_model.specs.Answered.{AreAnswered, answered_as, counted}
 use Rattle.made_model.specs.Summary.{Summary, summary}
 use Rattle.made_model.specs.SummaryText.{summary_text}
 use Rattle.transcript_model.specs.Transcript.{IsTranscript, text_of_call}
-use Rattle.crash_model.specs.LeftBy.{IsLeftOf}
-use Rattle.engine_core.specs.Seen.{IsLeftByEither}
-use Rattle.store_top.specs.declared.steps.RunFault.{RunFault}
-use Rattle.store_top.specs.declared.steps.RunFault.TheVariants.{Write, Memory}
+use Rattle.session_run.specs.declared.printing.RunFault.{RunFault}
+use Rattle.session_run.specs.declared.printing.RunFault.TheVariants.{Write, Memory}
 
 -- each of these calls asks for what a text or a session's end can give
 abbrev pub AreReadable : List ScriptCall → Type 0
@@ -126,38 +119,3 @@ pub record SumsUp (base : Db) (calls : List ScriptCall) (history : History) (Tol
   pub replies : List Reply
   pub answered : AreAnswered base calls history replies
   pub told : Told (summary_text (summary replies))
-
--- whether the entry at a place was answered with a fault of the disk
-abbrev pub fails_at : Db → History → ℕ → Bool
-fails_at base history place = option_map_or is_disk (reply base history place) false
-
--- an entry was answered with a fault of the disk
-abbrev pub HasFailed : Db → History → Type 0
-HasFailed base history = (place : ℕ) × (reply base history place ≡ Some (Refused refusal.Disk))
-
--- one was, or none
-abbrev pub TellsFailure : Bool → Db → History → Type 0
-TellsFailure true base history = HasFailed base history
-TellsFailure false base history = HasFailed base history → ⊥
-
--- What calls did to the disk that made a history from the opening of a store on, whose database so many commits had made.
--- Its count of faults rose just where an entry was answered so.
-pub record MovesDisk {D : Type 0} (moment : D → ℕ) (might_have_left : D → ℕ → List ℕ → List ℕ → Type 0) (honest : D → Bool) (faults : D → ℕ)
-    (base : Db) (start : ℕ) (history : History) (old new : D) : Type 0 where
-  pub honesty : honest new ≡ honest old
-  pub time : moment old ≤ moment new
-  pub risen : faults old ≤ faults new
-  pub rose : HasFailed base history → CountRose (faults old) (faults new)
-  pub steady : TellsFailure false base history → faults new ≡ faults old
-  -- a crash leaves the first commits, or with all of them the one that the disk failed
-  pub moments : IsTrue (honest old) → LeavesOnly moment might_have_left (IsLeftOf base start history) old new
-
--- what one call did to it, which made the history grow
-pub record MovesDiskOnce {D : Type 0} (moment : D → ℕ) (might_have_left : D → ℕ → List ℕ → List ℕ → Type 0) (honest : D → Bool) (faults : D → ℕ)
-    (base : Db) (start : ℕ) (before after : History) (old new : D) : Type 0 where
-  pub honesty : honest new ≡ honest old
-  pub time : moment old ≤ moment new
-  pub risen : faults old ≤ faults new
-  pub rose : fails_at base after (length before) ≡ true → CountRose (faults old) (faults new)
-  pub steady : fails_at base after (length before) ≡ false → faults new ≡ faults old
-  pub moments : IsTrue (honest old) → (new ≡ old) ⊎ LeavesOnly moment might_have_left (IsLeftByEither base start before after) old new

@@ -1,19 +1,21 @@
 -- What a run did, by its fault.
-use Rattle.std.specs.Prelude.{◌≡◌, ◌≢◌, ℕ, ◌≤◌, List, [], length, Bool, true, false, Option, None, Some, Ok, Err}
+use Rattle.std.specs.Prelude.{◌≡◌, ◌≢◌, ℕ, ◌+◌, ◌≤◌, List, [], length, Bool, true, false, Option, None, Some, Ok, Err}
 use Rattle.std.specs.Io.KnownBytes.{Appends, Consumes, IsAtEnd}
+use Rattle.own_model.specs.declared.limit.TheConstants.{INPUT_BYTES}
 use Rattle.own_model.specs.declared.script.InputFault.{InputFault}
 use Rattle.own_model.specs.declared.script.InputFault.TheVariants as input
 use Rattle.own_model.specs.declared.script.ScriptCall.{ScriptCall}
 use Rattle.own_model.specs.Db.{Db}
 use Rattle.history_model.specs.History.{History}
-use Rattle.script_model.specs.Script.{IsScript, IsText}
+use Rattle.script_model.specs.Script.{IsScript}
 use Rattle.store_words.specs.declared.words.Mode.{Mode}
-use Rattle.store_words.specs.declared.words.Mode.TheVariants.{Step, Make}
+use Rattle.store_words.specs.declared.words.Mode.TheVariants.{Step, Serve, Make}
 use Rattle.store_top.specs.declared.served.TopFault.{TopFault}
 use Rattle.store_top.specs.declared.served.TopFault.TheVariants.{Usage, Read, Write, Disk, Damaged, Input, Memory}
 use Rattle.store_top.specs.declared.serving.Telling.{Telling}
 use Rattle.store_top.specs.declared.serving.Telling.TheVariants.{Lines, Summary}
-use Rattle.store_top.specs.Steps.{RunsTo, StopsAtCall, SumsUp, TellsFailure, ToldBefore, ToldInPart}
+use Rattle.history_model.specs.Fails.{TellsFailure}
+use Rattle.store_top.specs.Steps.{RunsTo, StopsAtCall, SumsUp, ToldBefore, ToldInPart}
 
 -- the input was read to its end, and has calls
 pub record ReadsScript (remaining_old remaining_new : Option (List ℕ)) : Type 0 where
@@ -23,21 +25,17 @@ pub record ReadsScript (remaining_old remaining_new : Option (List ℕ)) : Type 
   pub ends : IsAtEnd remaining_new
   pub is_script : IsScript bytes (Ok calls)
 
--- The input was read to its end and a store opened; its calls were all made over what that left, but for those that memory
--- may keep from being made, and the text of all of them was written. A call was answered with a fault of the disk, or none.
-pub record RunsWhole (remaining_old remaining_new written_old written_new : Option (List ℕ)) (opened : Option Db) (history : History) (failed : Bool) : Type 0 where
+-- The input was read to its end and a store opened, and of its calls over what that left something is so.
+pub record RunsOver (remaining_old remaining_new : Option (List ℕ)) (opened : Option Db) (Did : Db → List ScriptCall → Type 0) : Type 0 where
   pub script : ReadsScript remaining_old remaining_new
   pub base : Db
   pub over : opened ≡ Some base
-  pub runs : RunsTo base script.calls history written_old written_new
-  pub failure : TellsFailure failed base history
+  pub did : Did base script.calls
 
--- the input was read to its end and a store opened, and the run stopped at one of its calls
-pub record RunsInPart (remaining_old remaining_new : Option (List ℕ)) (opened : Option Db) (history : History) (Told : List ℕ → List ℕ → Type 0) : Type 0 where
-  pub script : ReadsScript remaining_old remaining_new
-  pub base : Db
-  pub over : opened ≡ Some base
-  pub stops : StopsAtCall base script.calls history Told
+-- The same, and a call was answered with a fault of the disk, or none.
+abbrev pub RunsWhole : Option (List ℕ) → Option (List ℕ) → Option Db → History → Bool → (Db → List ScriptCall → Type 0) → Type 0
+RunsWhole remaining_old remaining_new opened history failed Did =
+    RunsOver remaining_old remaining_new opened (λ base calls. Did base calls × TellsFailure failed base history)
 
 -- the bytes that were read have this input fault; they were read to their end, unless they are too many
 pub record RefusesInput (remaining_old remaining_new : Option (List ℕ)) (fault : InputFault) : Type 0 where
@@ -102,22 +100,22 @@ abbrev pub ServesScript : Telling → List ScriptCall → Option Db → History 
 ServesScript telling calls (Some base) history old new rose silent fault = ServesCallsAs telling base calls history old new rose fault
 ServesScript telling calls None history old new rose silent fault = silent × IsOfOpening fault
 
--- what is so of bytes by which no store was opened; memory is taken only for text that isn't too long
-abbrev pub IsUnservedInput : List ℕ → Option TopFault → Type 0
-IsUnservedInput bytes (Some Disk) = (calls : List ScriptCall) × IsScript bytes (Ok calls)
-IsUnservedInput bytes (Some (Damaged area offset)) = (calls : List ScriptCall) × IsScript bytes (Ok calls)
-IsUnservedInput bytes (Some Memory) = IsText bytes
-IsUnservedInput bytes (Some (Input fault)) = IsScript bytes (Err fault) × (fault ≢ input.Memory)
-IsUnservedInput bytes None = ⊥
-IsUnservedInput bytes (Some Usage) = ⊥
-IsUnservedInput bytes (Some Read) = ⊥
-IsUnservedInput bytes (Some Write) = ⊥
+-- what serving calls over a store left, where `whole`, `part` and `before` are said of the database that was opened
+abbrev pub ServedOver : Option Db → History → Type 0 → Type 0 → (Db → Type 0) → (Db → Type 0) → (Db → Type 0) → Option TopFault → Type 0
+ServedOver (Some base) history rose silent whole part before fault = ServedBy base history rose (whole base) (part base) (before base) fault
+ServedOver None history rose silent whole part before fault = silent × IsOfOpening fault
 
--- what serving the bytes of an input left
-abbrev pub ServesBytes : List ℕ → Option Db → History → Option (List ℕ) → Option (List ℕ) → Type 0 → Type 0 → Option TopFault → Type 0
-ServesBytes bytes (Some base) history old new rose silent fault =
-    (calls : List ScriptCall) × IsScript bytes (Ok calls) × ServesCalls base calls history old new rose fault
-ServesBytes bytes None history old new rose silent fault = silent × IsUnservedInput bytes fault
+-- The calls of an input weren't read: the source failed, in the last call made of it; memory was refused, of what isn't too long
+-- for an input; or the bytes that were read have an input fault.
+abbrev pub IsUnread : {R : Type 0} → (R → Option (List ℕ)) → (R → ℕ) → Type 0 → R → R → TopFault → Type 0
+IsUnread remaining reads failed old new Read = failed × ReadsAtMost (remaining old) (remaining new) INPUT_BYTES
+IsUnread remaining reads failed old new Memory = (reads new ≡ reads old) × ReadsAtMost (remaining old) (remaining new) INPUT_BYTES
+IsUnread remaining reads failed old new (Input why) =
+    (reads new ≡ reads old) × RefusesInput (remaining old) (remaining new) why × (why ≢ input.Memory) × ReadsAtMost (remaining old) (remaining new) (INPUT_BYTES + 1)
+IsUnread remaining reads failed old new Usage = ⊥
+IsUnread remaining reads failed old new Write = ⊥
+IsUnread remaining reads failed old new Disk = ⊥
+IsUnread remaining reads failed old new (Damaged area offset) = ⊥
 
 -- the faults that come before any opening
 abbrev pub IsBeforeOpening : Option TopFault → Type 0
@@ -130,11 +128,12 @@ IsBeforeOpening (Some Memory) = ⊥
 IsBeforeOpening (Some Disk) = ⊥
 IsBeforeOpening (Some (Damaged area offset)) = ⊥
 
--- the words are mode step
-abbrev pub IsStep : Option Mode → Type 0
-IsStep None = ⊥
-IsStep (Some Step) = Unit {0}
-IsStep (Some (Make people seed)) = ⊥
+-- the words are a mode that reads an input
+abbrev pub ReadsInput : Option Mode → Type 0
+ReadsInput None = ⊥
+ReadsInput (Some Step) = Unit {0}
+ReadsInput (Some Serve) = Unit {0}
+ReadsInput (Some (Make people seed)) = ⊥
 
 -- the faults that words which are no mode may end with
 abbrev pub IsUsageOrMemory : Option TopFault → Type 0

@@ -9,13 +9,16 @@ ghost use Rattle.script_model.specs.Split.{IsOfASession};
 ghost use Rattle.crash_model.specs.StoreIn.{IsStoreIn};
 ghost use Rattle.engine_core.specs.Seen.{disk_of};
 ghost use Rattle.store_top.specs.Ran.{LastFault};
-ghost use Rattle.store_top.specs.Steps.{AreOfInput, AreReadable, MakesCall, MakesCallTo, MovesDisk, MovesDiskOnce, RunsTo, StopsAtCall, TellsFailure, ToldBefore, ToldInPart, fails_at};
+ghost use Rattle.history_model.specs.Fails.{TellsFailure, fails_at};
+ghost use Rattle.crash_model.specs.MovesDisk.{MovesDisk, MovesDiskOnce};
+ghost use Rattle.store_top.specs.Steps.{AreOfInput, AreReadable, MakesCall, MakesCallTo, RunsTo, StopsAtCall, ToldBefore, ToldInPart};
 
-use crate::steps::{RunFault, is_disk, make_call};
+use crate::steps::{is_disk, make_call};
 use engine_core::Engine;
 use outer_world::{Disk, Sink, write_all};
 use own_base::Text;
 use own_model::ScriptCall;
+use session_run::RunFault;
 use sql_print::print_reply;
 use std::alloc::{AllocError, Global};
 use std::mem::drop;

@@ -1,60 +1,29 @@
-ghost use Rattle.std.specs.Prelude.{◌≡◌, ◌≢◌, ◌⊎◌, ◌≤◌, ℕ, List, [], map, IfErr, IfOk, Ok, Some, None, string_bytes};
-ghost use Rattle.own_model.specs.declared.script.ScriptCall.{ScriptCall};
-ghost use Rattle.own_model.specs.Db.{Db};
-ghost use Rattle.script_model.specs.Script.{IsScript};
-ghost use Rattle.sql_reader.specs.InputFaults.{IsFaultOf};
-ghost use Rattle.history_model.specs.Serial.{Serial};
+ghost use Rattle.std.specs.Prelude.{◌≡◌, ◌≢◌, ◌⊎◌, ◌≤◌, map, Some, None, string_bytes};
 ghost use Rattle.made_model.specs.declared.limits.TheConstants.{PEOPLE, SEEDS};
 ghost use Rattle.store_words.specs.Words.{mode_of};
 ghost use Rattle.outer_world.specs.FaultCount.{CountRose};
 ghost use Rattle.store_top.specs.Complete.{IsLawfulInput, IsServedOrRefused, IsWholeDisk};
-ghost use Rattle.store_top.specs.OnDisk.{OnDisk};
-ghost use Rattle.store_top.specs.Ran.{LastFault, Ran};
-ghost use Rattle.store_top.specs.RanAs.{RanAs};
+ghost use Rattle.store_top.specs.OnDisk.{OnDisk, OnDiskBy, OnDiskTogether};
+ghost use Rattle.store_top.specs.Ran.{Ran};
+ghost use Rattle.store_top.specs.RanAs.{RanAs, ServedAs};
 ghost use Rattle.store_top.specs.RanMade.{RanMade};
+ghost use Rattle.store_top.specs.RanTogether.{RanTogether};
 ghost use Rattle.store_top.specs.Status.{status_of};
-ghost use Rattle.store_top.specs.Top.{IsStep, IsUnserved, IsUsageOrMemory, ReadsScript, ServesBytes};
+ghost use Rattle.store_top.specs.Top.{IsUnserved, IsUsageOrMemory, ReadsInput, ReadsScript};
 
+use crate::input::read_calls;
 use crate::served::{Served, TopFault, status};
 use crate::serving::{Ended, Telling, serve_script, without_calls};
+use crate::together::serve_together;
 use made_script::make_script;
-use outer_world::{Disk, Gate, ReadAllFault, Sink, Source, read_all};
-use own_model::{INPUT_BYTES, InputFault, ScriptCall};
-use sql_reader::read_script;
+use outer_world::{Disk, Gate, Sink, Source};
 use std::alloc::{AllocError, Global};
 use std::sync::Wait;
 use std::thread::Threads;
 use store_words::{Mode, mode_of};
 
-/// The script of an input, which is given up once it is read: the calls hold what they need of it.
-fn script_of(alloc: Global, bytes: Vec<u8>) -> Result<Vec<ScriptCall>, InputFault>
-    ensures ok { IfOk result (λ calls. IsScript bytes.items (Ok calls.items)) }
-    ensures err { IfErr result (λ fault. IsFaultOf bytes.items fault) }
-{
-    let script = read_script(alloc, &bytes)?;
-    let mut calls = script.calls.into_vec();
-    calls.shrink_to_fit();
-    Ok(calls)
-}
-
-/// Serves the calls of an input.
-fn serve_bytes<W: Sink, D: Disk>(alloc: Global, bytes: Vec<u8>, sink: &mut W, disk: D) -> Ended<D>
-    ensures served { ServesBytes bytes.items result.opened result.history (W.written sink.old) (W.written sink.new) (LastFault W.faults W.fails sink.old sink.new)
-        ((sink.new ≡ sink.old) × (result.history ≡ [])) result.fault }
-    ensures steady { result.fault ≢ Some TopFault.Write → W.faults sink.new ≡ W.faults sink.old }
-    ensures serial { (base : Db) → result.opened ≡ Some base → Serial base result.history }
-    ensures order { (result.disk ≡ disk) ⊎ ((calls : List ScriptCall) × IsScript bytes.items (Ok calls)) }
-    ensures on_disk { OnDisk D.holds D.leaves D.moment D.might_have_left D.honest D.faults disk result.disk result.opened result.history result.fault }
-{
-    match script_of(alloc, bytes) {
-        Ok(calls) => serve_script(alloc, calls, Telling::Lines, sink, disk),
-        Err(InputFault::Memory) => without_calls(alloc, TopFault::Memory, disk),
-        Err(fault) => without_calls(alloc, TopFault::Input(fault), disk),
-    }
-}
-
-/// Reads the input whole, and serves its calls.
-fn serve_source<R: Source, W: Sink, D: Disk>(
+/// Reads an input, and makes its calls one after another.
+fn step_input<R: Source, W: Sink, D: Disk>(
     alloc: Global,
     source: &mut R,
     sink: &mut W,
@@ -65,10 +34,29 @@ fn serve_source<R: Source, W: Sink, D: Disk>(
     ensures order { (result.disk ≡ disk) ⊎ ReadsScript (R.remaining source.old) (R.remaining source.new) }
     ensures on_disk { OnDisk D.holds D.leaves D.moment D.might_have_left D.honest D.faults disk result.disk result.opened result.history result.fault }
 {
-    match read_all(alloc, source, INPUT_BYTES + 1) {
-        Ok(bytes) => serve_bytes(alloc, bytes, sink, disk),
-        Err(ReadAllFault::Failed) => without_calls(alloc, TopFault::Read, disk),
-        Err(ReadAllFault::Memory) => without_calls(alloc, TopFault::Memory, disk),
+    match read_calls(alloc, source) {
+        Ok(calls) => serve_script(alloc, calls, Telling::Lines, sink, disk),
+        Err(fault) => without_calls(alloc, fault, disk),
+    }
+}
+
+/// Reads an input, and serves its sessions side by side.
+fn serve_input<Rt: Threads + Wait + Sync, R: Source, W: Sink, D: Disk + Send, G: Gate + Sync>(
+    rt: &Rt,
+    alloc: Global,
+    source: &mut R,
+    sink: &mut W,
+    disk: D,
+    gate: &G,
+) -> Ended<D>
+    ensures ran { RanTogether R.remaining R.faults R.fails W.written W.faults W.fails source.old source.new sink.old sink.new result.opened result.history result.fault }
+    ensures lawful { result.fault ≢ Some TopFault.Usage }
+    ensures order { (result.disk ≡ disk) ⊎ ReadsScript (R.remaining source.old) (R.remaining source.new) }
+    ensures on_disk { OnDiskTogether D.holds D.leaves D.moment D.might_have_left D.honest D.faults disk result.disk result.opened result.history result.fault }
+{
+    match read_calls(alloc, source) {
+        Ok(calls) => serve_together(rt, alloc, calls, sink, disk, gate),
+        Err(fault) => without_calls(alloc, fault, disk),
     }
 }
 
@@ -121,7 +109,42 @@ pub fn step<R: Source, W: Sink, D: Disk>(
         → (CountRose (D.faults disk) (D.faults result.disk) → ⊥) → IsLawfulInput (R.remaining source.old) (R.remaining source.new) → IsWholeDisk D.holds D.honest disk
         → IsServedOrRefused result.fault }
 {
-    served(serve_source(alloc, source, sink, disk))
+    served(step_input(alloc, source, sink, disk))
+}
+
+/// What mode `serve` does: it reads an input of calls from the source, opens the store of the disk, and serves the sessions of the
+/// input side by side over it, by a worker for each: a worker makes the calls of its session in their order, each under a turn that
+/// the workers take, and answers what reads alone beside the others. When all are done each call's reply is written to the sink, session by session.
+/// Before each call the gate is asked, and it is told after.
+///
+/// That the run comes to its end isn't claimed: a worker waits until it has the turn. Where no thread can be made the sessions are
+/// served one after another. A source that tells nothing of its bytes, or a sink, has no clause on them; nor has a disk that isn't
+/// honest.
+pub fn serve<Rt: Threads + Wait + Sync, R: Source, W: Sink, D: Disk + Send, G: Gate + Sync>(
+    rt: &Rt,
+    alloc: Global,
+    source: &mut R,
+    sink: &mut W,
+    disk: D,
+    gate: &G,
+) -> Served<D>
+    ensures status { result.status ≡ status_of result.fault }
+
+    // What was read, made and written, by the fault.
+    ensures ran { RanTogether R.remaining R.faults R.fails W.written W.faults W.fails source.old source.new sink.old sink.new result.opened result.history result.fault }
+    ensures lawful { result.fault ≢ Some TopFault.Usage }
+
+    // What became of the disk, which is touched only once the input was read to its end and has calls.
+    ensures order { (result.disk ≡ disk) ⊎ ReadsScript (R.remaining source.old) (R.remaining source.new) }
+    ensures on_disk { OnDiskTogether D.holds D.leaves D.moment D.might_have_left D.honest D.faults disk result.disk result.opened result.history result.fault }
+
+    // A run that no fault of the source, the sink or the disk disturbs, of a lawful input, over an honest disk on which nothing
+    // is damaged, comes to its end, unless memory is refused. Then no call was answered with a fault of the disk, by `on_disk`.
+    ensures complete { (CountRose (R.faults source.old) (R.faults source.new) → ⊥) → (CountRose (W.faults sink.old) (W.faults sink.new) → ⊥)
+        → (CountRose (D.faults disk) (D.faults result.disk) → ⊥) → IsLawfulInput (R.remaining source.old) (R.remaining source.new) → IsWholeDisk D.holds D.honest disk
+        → IsServedOrRefused result.fault }
+{
+    served(serve_input(rt, alloc, source, sink, disk, gate))
 }
 
 /// Makes the calls of a large script over the store of a disk, and sums them up.
@@ -173,18 +196,16 @@ pub fn make<W: Sink, D: Disk>(
     served(make_large(alloc, people, seed, sink, disk))
 }
 
-/// Runs the mode that the words after the store's name are: `step`, which does what the function `step` does, or `make`, which
-/// does what `make` does.
-///
-/// The gate is asked nothing, until the mode that uses it comes.
+/// Runs the mode that the words after the store's name are: `step`, `serve` or `make`, which do what the functions of these names
+/// do. The gate is asked by `serve` alone.
 pub fn run<Rt: Threads + Wait + Sync, R: Source, W: Sink, D: Disk + Send, G: Gate + Sync>(
-    _rt: &Rt,
+    rt: &Rt,
     alloc: Global,
     words: &[String],
     source: &mut R,
     sink: &mut W,
     disk: D,
-    _gate: &G,
+    gate: &G,
 ) -> Served<D>
     ensures status { result.status ≡ status_of result.fault }
 
@@ -197,21 +218,23 @@ pub fn run<Rt: Threads + Wait + Sync, R: Source, W: Sink, D: Disk + Send, G: Gat
     // What was read, made and written, by the mode and the fault.
     ensures ran { RanAs R.remaining R.faults R.fails W.written W.faults W.fails source.old source.new sink.old sink.new result.opened result.history result.fault (mode_of (map string_bytes words.now)) }
 
-    // In mode step the disk is touched only once the input was read to its end and has calls.
-    ensures order { IsStep (mode_of (map string_bytes words.now)) → (result.disk ≡ disk) ⊎ ReadsScript (R.remaining source.old) (R.remaining source.new) }
+    // In a mode that reads an input the disk is touched only once that was read to its end and has calls.
+    ensures order { ReadsInput (mode_of (map string_bytes words.now)) → (result.disk ≡ disk) ⊎ ReadsScript (R.remaining source.old) (R.remaining source.new) }
 
     // What became of the disk.
-    ensures on_disk { OnDisk D.holds D.leaves D.moment D.might_have_left D.honest D.faults disk result.disk result.opened result.history result.fault }
+    ensures on_disk { OnDiskBy D.holds D.leaves D.moment D.might_have_left D.honest D.faults disk result.disk result.opened result.history
+        (ServedAs D.holds D.leaves D.moment D.might_have_left disk result.disk result.history (mode_of (map string_bytes words.now))) result.fault }
 
-    // A run that no fault of the source, the sink or the disk disturbs, in mode step of a lawful input, over an honest disk on
-    // which nothing is damaged, comes to its end, unless memory is refused. Then no call was answered with a fault of the disk, by
+    // A run that no fault of the source, the sink or the disk disturbs, of a lawful input where its mode reads one, over an honest disk
+    // on which nothing is damaged, comes to its end, unless memory is refused. Then no call was answered with a fault of the disk, by
     // `on_disk`.
     ensures complete { mode_of (map string_bytes words.now) ≢ None → (CountRose (R.faults source.old) (R.faults source.new) → ⊥) → (CountRose (W.faults sink.old) (W.faults sink.new) → ⊥)
-        → (CountRose (D.faults disk) (D.faults result.disk) → ⊥) → (IsStep (mode_of (map string_bytes words.now)) → IsLawfulInput (R.remaining source.old) (R.remaining source.new))
+        → (CountRose (D.faults disk) (D.faults result.disk) → ⊥) → (ReadsInput (mode_of (map string_bytes words.now)) → IsLawfulInput (R.remaining source.old) (R.remaining source.new))
         → IsWholeDisk D.holds D.honest disk → IsServedOrRefused result.fault }
 {
     match mode_of(alloc, words) {
         Ok(Some(Mode::Step)) => step(alloc, source, sink, disk),
+        Ok(Some(Mode::Serve)) => serve(rt, alloc, source, sink, disk, gate),
         Ok(Some(Mode::Make { people, seed })) => make(alloc, people, seed, sink, disk),
         Ok(None) => served(without_calls(alloc, TopFault::Usage, disk)),
         Err(AllocError) => served(without_calls(alloc, TopFault::Memory, disk)),

@@ -3,7 +3,7 @@ ghost use Rattle.store_top.specs.Status.{status_of};
 
 use own_base::{Area, List};
 use own_model::{Entry, InputFault};
-use store_version::Version;
+use store_snapshot::Snapshot;
 use thiserror::Error;
 
 /// How a run ended, and what it leaves.
@@ -13,7 +13,7 @@ pub struct Served<D> {
     /// None exactly with status 0.
     pub fault: Option<TopFault>,
     /// The state that the opening left; None exactly where no store was opened.
-    pub opened: Option<Version>,
+    pub opened: Option<Snapshot>,
     /// The entries of the calls made, in the order of their events.
     pub history: List<Entry>,
     /// The disk that was handed in.

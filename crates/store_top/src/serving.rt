@@ -12,21 +12,22 @@ ghost use Rattle.engine_core.specs.Seen.{IsAloneBehind, disk_of};
 ghost use Rattle.store_top.specs.OnDisk.{OnDisk};
 ghost use Rattle.store_top.specs.Ran.{LastFault};
 ghost use Rattle.store_top.specs.Status.{fault_of, unopened};
-ghost use Rattle.store_top.specs.Steps.{AreOfInput, AreReadable, MovesDisk};
+ghost use Rattle.crash_model.specs.MovesDisk.{MovesDisk};
+ghost use Rattle.store_top.specs.Steps.{AreOfInput, AreReadable};
 ghost use Rattle.store_top.specs.Top.{ServesCallsAs, ServesScript};
 
 use crate::lines::serve_calls;
 use crate::served::TopFault;
-use crate::steps::RunFault;
 use crate::summing::sum_up_calls;
 use crash_recover::OpenFault;
 use engine_core::{Closed, Engine};
 use outer_world::{Disk, Sink};
 use own_base::List;
 use own_model::{Entry, ScriptCall};
+use session_run::RunFault;
 use std::alloc::Global;
 use std::mem::drop;
-use store_version::Version;
+use store_snapshot::Snapshot;
 
 /// What is told of calls.
 #[derive(Clone, Copy, Debug)]
@@ -40,7 +41,7 @@ pub(crate) enum Telling {
 /// How a run ended.
 pub(crate) struct Ended<D> {
     pub(crate) fault: Option<TopFault>,
-    pub(crate) opened: Option<Version>,
+    pub(crate) opened: Option<Snapshot>,
     pub(crate) history: List<Entry>,
     pub(crate) disk: D,
 }
@@ -61,7 +62,7 @@ pub(crate) fn without_calls<D>(alloc: Global, fault: TopFault, disk: D) -> Ended
 }
 
 /// The fault of a run whose store was not opened.
-fn unopened(fault: OpenFault) -> TopFault
+pub(crate) fn unopened(fault: OpenFault) -> TopFault
     ensures { result ≡ unopened fault }
 {
     match fault {
@@ -98,7 +99,7 @@ pub(crate) fn serve_script<W: Sink, D: Disk>(
 }
 
 /// The fault of a run by what its calls came to.
-fn fault_of(served: Result<bool, RunFault>) -> Option<TopFault>
+pub(crate) fn fault_of(served: Result<bool, RunFault>) -> Option<TopFault>
     ensures { result ≡ fault_of served }
 {
     match served {
@@ -138,6 +139,33 @@ fn tell_calls<W: Sink, D: Disk>(
     }
 }
 
+/// How a run ended whose calls were made by an engine.
+pub(crate) fn end_of<D: Disk>(engine: Engine<D>, fault: Option<TopFault>) -> Ended<D>
+    ensures fault { result.fault ≡ fault }
+    ensures opened { result.opened ≡ Some engine.base }
+    ensures history { result.history ≡ engine.history }
+    ensures disk { result.disk ≡ disk_of engine }
+    ensures serial { Serial engine.base result.history }
+    ensures moves { MovesDisk D.moment D.might_have_left D.honest D.faults engine.base engine.start result.history engine.opening result.disk }
+    ensures left { IsTrue (D.honest result.disk) → (a b : List ℕ) → D.leaves result.disk A a → D.leaves result.disk B b
+        → IsLeftBy engine.base engine.start result.history a b }
+    ensures exact { IsNoRoomExact engine.journal engine.base engine.start result.history }
+    ensures alone { is_laid_behind engine.base result.history ≡ true → IsTrue (D.honest result.disk)
+        → IsAloneBehind D.holds D.leaves result.disk engine.journal engine.base engine.start result.history }
+{
+    let Closed {
+        opened,
+        history,
+        disk,
+    } = engine.close();
+    Ended {
+        fault,
+        opened: Some(opened),
+        history,
+        disk,
+    }
+}
+
 /// Serves calls by an engine that has served none yet.
 fn serve_engine<W: Sink, D: Disk>(
     engine: Engine<D>,
@@ -167,15 +195,5 @@ fn serve_engine<W: Sink, D: Disk>(
 {
     let mut engine = engine;
     let fault = tell_calls(&mut engine, alloc, calls, telling, sink);
-    let Closed {
-        opened,
-        history,
-        disk,
-    } = engine.close();
-    Ended {
-        fault,
-        opened: Some(opened),
-        history,
-        disk,
-    }
+    end_of(engine, fault)
 }

@@ -3,21 +3,15 @@ ghost use Rattle.grammar_model.specs.Readable.{IsReadable};
 ghost use Rattle.script_model.specs.Split.{IsOfASession};
 ghost use Rattle.history_model.specs.History as spec;
 ghost use Rattle.engine_core.specs.Seen.{disk_of};
-ghost use Rattle.store_top.specs.Steps.{AnswersCall, MovesDiskOnce, fails_at};
+ghost use Rattle.history_model.specs.Fails.{fails_at};
+ghost use Rattle.crash_model.specs.MovesDisk.{MovesDiskOnce};
+ghost use Rattle.store_top.specs.Steps.{AnswersCall};
 
-use engine_core::{Engine, Step};
+use engine_core::Engine;
 use outer_world::Disk;
 use own_base::Place;
 use own_model::{Refusal, Reply, ScriptCall};
-
-/// Why calls were not all served, or not all told.
-#[derive(Clone, Copy, Debug, PartialEq, Eq)]
-pub(crate) enum RunFault {
-    /// The sink met a fault.
-    Write,
-    /// Memory for what is written was refused.
-    Memory,
-}
+use std::alloc::AllocError;
 
 /// What a call came to: its place in the history, if it was made, and its reply.
 #[derive(Debug, Drop)]
@@ -51,13 +45,12 @@ pub(crate) fn make_call<D: Disk>(engine: &mut Engine<D>, call: ScriptCall) -> To
         call: number,
         request,
     } = call;
-    match engine.step(session, number, request) {
-        Step::Answered(place, reply) => Told {
+    match engine.answer(session, number, request) {
+        Ok((place, reply)) => Told {
             place: Some(place),
             reply,
         },
-        Step::Look(..) => unreachable!(),
-        Step::NoMemory => Told {
+        Err(AllocError) => Told {
             place: None,
             reply: Reply::Refused(Refusal::Memory),
         },

@@ -27,12 +27,19 @@ command_is_simple_and_free = refl
 abbrev step_shape : Shape
 step_shape = built_leaf (inherited command_app.top (new_shape (codes "step")))
 
+abbrev serve_shape : Shape
+serve_shape = built_leaf (inherited command_app.top (new_shape (codes "serve")))
+
 abbrev make_shape : Shape
 make_shape = built_leaf (inherited command_app.top make_app.top)
 
 -- the words of mode `step`
 abbrev pub step_words : List Text
 step_words = codes "step" ∷ []
+
+-- and of `serve`
+abbrev pub serve_words : List Text
+serve_words = codes "serve" ∷ []
 
 -- the words of mode `make` with these two
 abbrev pub make_words : Text → Text → List Text
@@ -41,6 +48,7 @@ make_words people seed = codes "make" ∷ people ∷ seed ∷ []
 -- the words are a mode's word with as many as it has
 pub data IsOfAMode : List Text → Type 0 where
   of_step : IsOfAMode step_words
+  of_serve : IsOfAMode serve_words
   of_make : (people seed : Text) → IsOfAMode (make_words people seed)
 
 -- where neither of two steps of a parse fails, the first doesn't
@@ -171,8 +179,9 @@ two_words_pass people seed plain plain_seed = ap₂ make_fault (both_pass people
 -- ---- the words of the command
 
 -- a word other than the modes' names no subcommand
-unknown_name : (word : Text) → bytes_eq (codes "step") word ≡ false → bytes_eq (codes "make") word ≡ false → find (answers_to word) (names_of (built command_app)) ≡ None
-unknown_name word no_step no_make = rw (no_step, no_make) refl
+unknown_name : (word : Text) → bytes_eq (codes "step") word ≡ false → bytes_eq (codes "serve") word ≡ false → bytes_eq (codes "make") word ≡ false
+    → find (answers_to word) (names_of (built command_app)) ≡ None
+unknown_name word no_step no_serve no_make = rw (no_step, no_serve, no_make) refl
 
 -- the command fails where there is no word
 none_fails : fault_of command_app [] ≡ [] → ⊥
@@ -180,10 +189,10 @@ unfolding clap_on_literals
 none_fails e = let bad : MissingSubcommand ∷ [] ≡ [] = e in cc
 
 -- at a first word that is no mode's
-first_fails : (word : Text) (rest : List Text) → begins_with_dash word ≡ false → bytes_eq (codes "step") word ≡ false → bytes_eq (codes "make") word ≡ false
-    → fault_of command_app (word ∷ rest) ≡ [] → ⊥
-first_fails word rest dash no_step no_make e =
-    walk_fails (built command_app).top (names_of (built command_app)) nothing_held 1 word rest dash (unknown_name word no_step no_make) refl (or_else_first _ _ e)
+first_fails : (word : Text) (rest : List Text) → begins_with_dash word ≡ false → bytes_eq (codes "step") word ≡ false → bytes_eq (codes "serve") word ≡ false
+    → bytes_eq (codes "make") word ≡ false → fault_of command_app (word ∷ rest) ≡ [] → ⊥
+first_fails word rest dash no_step no_serve no_make e =
+    walk_fails (built command_app).top (names_of (built command_app)) nothing_held 1 word rest dash (unknown_name word no_step no_serve no_make) refl (or_else_first _ _ e)
 
 -- and after a mode's word where the mode does
 within_step : (rest : List Text) → fault_of command_app (codes "step" ∷ rest) ≡ [] → level_fault step_shape [] nothing_held rest false [] ≡ []
@@ -191,6 +200,13 @@ unfolding clap_on_literals
 within_step rest e =
     let met = walked [] (names_of (built command_app)) (walk_from nothing_held) (codes "step") in
     let stop = stop_stays [] (names_of (built command_app)) met (codes "step") [] rest refl in
+    sym (ap (entered_fault (built command_app)) stop) ∙ or_else_first _ _ (or_else_next _ _ e)
+
+within_serve : (rest : List Text) → fault_of command_app (codes "serve" ∷ rest) ≡ [] → level_fault serve_shape [] nothing_held rest false [] ≡ []
+unfolding clap_on_literals
+within_serve rest e =
+    let met = walked [] (names_of (built command_app)) (walk_from nothing_held) (codes "serve") in
+    let stop = stop_stays [] (names_of (built command_app)) met (codes "serve") [] rest refl in
     sym (ap (entered_fault (built command_app)) stop) ∙ or_else_first _ _ (or_else_next _ _ e)
 
 within_make : (rest : List Text) → fault_of command_app (codes "make" ∷ rest) ≡ [] → level_fault make_shape [] nothing_held rest false [] ≡ []
@@ -205,6 +221,11 @@ only_step : (rest : List Text) → list_any begins_with_dash rest ≡ false → 
 only_step [] plain e = of_step
 only_step (word ∷ rest) plain e = absurd (walk_fails step_shape [] nothing_held 1 word rest (neither _ _ plain).0 refl refl (or_else_first _ _ e))
 
+-- nor after `serve`
+only_serve : (rest : List Text) → list_any begins_with_dash rest ≡ false → level_fault serve_shape [] nothing_held rest false [] ≡ [] → IsOfAMode (codes "serve" ∷ rest)
+only_serve [] plain e = of_serve
+only_serve (word ∷ rest) plain e = absurd (walk_fails serve_shape [] nothing_held 1 word rest (neither _ _ plain).0 refl refl (or_else_first _ _ e))
+
 -- and after `make` two
 only_make : (rest : List Text) → list_any begins_with_dash rest ≡ false → level_fault make_shape [] nothing_held rest false [] ≡ [] → IsOfAMode (codes "make" ∷ rest)
 only_make [] plain e = absurd (no_word_fails e)
@@ -217,7 +238,7 @@ only_make (people ∷ seed ∷ word ∷ rest) plain e =
 -- where no word begins with `-`, the command takes the words of modes alone
 pub only_modes : (words : List Text) → list_any begins_with_dash words ≡ false → fault_of command_app words ≡ [] → IsOfAMode words
 only_modes [] plain e = absurd (none_fails e)
-only_modes (word ∷ rest) plain e = go (bytes_eq (codes "step") word) (bytes_eq (codes "make") word) refl refl
+only_modes (word ∷ rest) plain e = go (bytes_eq (codes "step") word) (bytes_eq (codes "serve") word) (bytes_eq (codes "make") word) refl refl refl
   where
     is : (name : Text) → bytes_eq name word ≡ true → name ≡ word
     is name same = (bytes_eq-Decides name word).0 same
@@ -225,12 +246,14 @@ only_modes (word ∷ rest) plain e = go (bytes_eq (codes "step") word) (bytes_eq
     passes : (name : Text) → name ≡ word → fault_of command_app (name ∷ rest) ≡ []
     passes name same = ap (λ first. fault_of command_app (first ∷ rest)) same ∙ e
 
-    go : (step make : Bool) → bytes_eq (codes "step") word ≡ step → bytes_eq (codes "make") word ≡ make → IsOfAMode (word ∷ rest)
-    go true make step_is make_is =
+    go : (step serve make : Bool) → bytes_eq (codes "step") word ≡ step → bytes_eq (codes "serve") word ≡ serve → bytes_eq (codes "make") word ≡ make → IsOfAMode (word ∷ rest)
+    go true serve make step_is serve_is make_is =
         subst (λ first. IsOfAMode (first ∷ rest)) (is _ step_is) (only_step rest (neither _ _ plain).1 (within_step rest (passes _ (is _ step_is))))
-    go false true step_is make_is =
+    go false true make step_is serve_is make_is =
+        subst (λ first. IsOfAMode (first ∷ rest)) (is _ serve_is) (only_serve rest (neither _ _ plain).1 (within_serve rest (passes _ (is _ serve_is))))
+    go false false true step_is serve_is make_is =
         subst (λ first. IsOfAMode (first ∷ rest)) (is _ make_is) (only_make rest (neither _ _ plain).1 (within_make rest (passes _ (is _ make_is))))
-    go false false step_is make_is = absurd (first_fails word rest (neither _ _ plain).0 step_is make_is e)
+    go false false false step_is serve_is make_is = absurd (first_fails word rest (neither _ _ plain).0 step_is serve_is make_is e)
 
 -- it takes those of `make`
 takes_make : (people seed : Text) → begins_with_dash people ≡ false → begins_with_dash seed ≡ false → fault_of command_app (make_words people seed) ≡ []
@@ -242,15 +265,26 @@ takes_step : fault_of command_app step_words ≡ []
 unfolding clap_on_literals
 takes_step = refl
 
+-- and those of `serve`
+takes_serve : fault_of command_app serve_words ≡ []
+unfolding clap_on_literals
+takes_serve = refl
+
 -- so of each mode
 pub takes_modes : (words : List Text) → IsOfAMode words → list_any begins_with_dash words ≡ false → fault_of command_app words ≡ []
 takes_modes _ of_step plain = takes_step
+takes_modes _ of_serve plain = takes_serve
 takes_modes _ (of_make people seed) plain = takes_make people seed (neither _ _ plain).0 (neither _ _ (neither _ _ plain).1).0
 
 -- in those of `step` it finds that mode
 finds_step : mode_matched (subcommand_of command_app step_words) ≡ mode_of step_words
 unfolding clap_on_literals
 finds_step = refl
+
+-- and in those of `serve`
+finds_serve : mode_matched (subcommand_of command_app serve_words) ≡ mode_of serve_words
+unfolding clap_on_literals
+finds_serve = refl
 
 -- in those of `make` the one with the two words
 finds_make : (people seed : Text) → begins_with_dash people ≡ false → begins_with_dash seed ≡ false
@@ -262,16 +296,21 @@ finds_make people seed plain plain_seed =
 -- so the mode that the words are
 pub finds_modes : (words : List Text) → IsOfAMode words → list_any begins_with_dash words ≡ false → mode_matched (subcommand_of command_app words) ≡ mode_of words
 finds_modes _ of_step plain = finds_step
+finds_modes _ of_serve plain = finds_serve
 finds_modes _ (of_make people seed) plain = finds_make people seed (neither _ _ plain).0 (neither _ _ (neither _ _ plain).1).0
 
 -- words that are a mode's are of a mode
 pub mode_or_none : (words : List Text) → (mode_of words ≡ None) ⊎ IsOfAMode words
 mode_or_none [] = inl refl
-mode_or_none (word ∷ []) = go (bytes_eq word (codes "step")) refl
+mode_or_none (word ∷ []) = go (bytes_eq word (codes "step")) (bytes_eq word (codes "serve")) refl refl
   where
-    go : (same : Bool) → bytes_eq word (codes "step") ≡ same → (mode_of (word ∷ []) ≡ None) ⊎ IsOfAMode (word ∷ [])
-    go true same = inr (subst (λ first. IsOfAMode (first ∷ [])) (sym ((bytes_eq-Decides word (codes "step")).0 same)) of_step)
-    go false same = inl (rw same refl)
+    is : (name : Text) → bytes_eq word name ≡ true → name ≡ word
+    is name same = sym ((bytes_eq-Decides word name).0 same)
+
+    go : (step serve : Bool) → bytes_eq word (codes "step") ≡ step → bytes_eq word (codes "serve") ≡ serve → (mode_of (word ∷ []) ≡ None) ⊎ IsOfAMode (word ∷ [])
+    go true serve step_is serve_is = inr (subst (λ first. IsOfAMode (first ∷ [])) (is _ step_is) of_step)
+    go false true step_is serve_is = inr (subst (λ first. IsOfAMode (first ∷ [])) (is _ serve_is) of_serve)
+    go false false step_is serve_is = inl (rw (step_is, serve_is) refl)
 mode_or_none (word ∷ people ∷ []) = inl refl
 mode_or_none (word ∷ people ∷ seed ∷ []) = go (bytes_eq word (codes "make")) refl
   where

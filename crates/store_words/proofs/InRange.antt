@@ -11,7 +11,7 @@ use Rattle.clap.proofs.WalkLemmas.{both}
 use Rattle.made_model.specs.declared.limits.TheConstants.{PEOPLE, SEEDS}
 use Rattle.store_words.specs.Numbers.{is_numeral, number_up_to}
 use Rattle.store_words.specs.Words.{make_of, mode_of}
-use Rattle.store_words.specs.declared.words.Mode.TheVariants.{Make, Step}
+use Rattle.store_words.specs.declared.words.Mode.TheVariants.{Make, Serve, Step}
 
 -- from 1 to so much
 abbrev pub IsUpTo : ℕ → ℕ → Type 0
@@ -64,11 +64,12 @@ make_in_range people_word seed_word people seed e = go (number_up_to PEOPLE peop
 -- the numbers of the mode that words are
 pub mode_in_range : (words : List (List ℕ)) (people seed : ℕ) → mode_of words ≡ Some (Make people seed) → IsUpTo PEOPLE people × IsUpTo SEEDS seed
 mode_in_range [] people seed e = cc
-mode_in_range (word ∷ []) people seed e = go (bytes_eq word (codes "step")) e
+mode_in_range (word ∷ []) people seed e = go (bytes_eq word (codes "step")) (bytes_eq word (codes "serve")) e
   where
-    go : (same : Bool) → (if same then Some Step else None) ≡ Some (Make people seed) → IsUpTo PEOPLE people × IsUpTo SEEDS seed
-    go true step = cc
-    go false none = cc
+    go : (step serve : Bool) → (if step then Some Step else (if serve then Some Serve else None)) ≡ Some (Make people seed) → IsUpTo PEOPLE people × IsUpTo SEEDS seed
+    go true serve is = cc
+    go false true is = cc
+    go false false none = cc
 mode_in_range (word ∷ first ∷ []) people seed e = cc
 mode_in_range (word ∷ first ∷ second ∷ []) people seed e = go (bytes_eq word (codes "make")) e
   where

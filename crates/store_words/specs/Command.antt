@@ -5,7 +5,7 @@ use Rattle.clap.specs.Words.{App, Row, Rule, Shape, Text, first_of}
 use Rattle.clap.specs.Simple.{new_app, new_rule, new_shape, on_top, with_rule, with_subcommand}
 use Rattle.store_words.specs.Words.{make_of}
 use Rattle.store_words.specs.declared.words.Mode.{Mode}
-use Rattle.store_words.specs.declared.words.Mode.TheVariants.{Step}
+use Rattle.store_words.specs.declared.words.Mode.TheVariants.{Serve, Step}
 
 -- the first byte is `-`
 abbrev pub begins_with_dash : List ℕ → Bool
@@ -32,7 +32,8 @@ make_app = with_rule (with_rule (new_app (codes "make")) (word_rule (codes "peop
 
 -- what clap reads of the command whose subcommands are the modes
 abbrev pub command_app : App
-command_app = with_subcommand (with_subcommand (on_top as_modes (new_app (codes "subjectdb"))) (new_shape (codes "step"))) make_app.top
+command_app =
+    with_subcommand (with_subcommand (with_subcommand (on_top as_modes (new_app (codes "subjectdb"))) (new_shape (codes "step"))) (new_shape (codes "serve"))) make_app.top
 
 -- the mode `make` of the words that were read
 abbrev pub make_matched : List Row → Option Mode
@@ -44,4 +45,5 @@ abbrev pub mode_matched : Option (Text × List Row) → Option Mode
 mode_matched None = None
 mode_matched (Some found) =
     if bytes_eq found.0 (codes "step") then Some Step
-    else (if bytes_eq found.0 (codes "make") then make_matched found.1 else None)
+    else (if bytes_eq found.0 (codes "serve") then Some Serve
+    else (if bytes_eq found.0 (codes "make") then make_matched found.1 else None))

@@ -22,6 +22,7 @@ pub(crate) fn command<'a>(alloc: Global) -> Result<Command<'a>, AllocError>
         .disable_version_flag(true)
         .subcommand_required(true)
         .subcommand(Command::new(alloc, "step"))?
+        .subcommand(Command::new(alloc, "serve"))?
         .subcommand(make)
 }
 
@@ -49,6 +50,7 @@ pub(crate) fn mode_matched(matches: &ArgMatches<'_>) -> Option<Mode>
 {
     match matches.subcommand() {
         Some(("step", _)) => Some(Mode::Step),
+        Some(("serve", _)) => Some(Mode::Serve),
         Some(("make", words)) => make_matched(words),
         _ => None,
     }

@@ -12,6 +12,8 @@ use std::alloc::{AllocError, Global};
 pub enum Mode {
     /// One session at a time: the calls of the input are made one after another.
     Step,
+    /// A worker for each session, which makes its calls side by side with the others.
+    Serve,
     /// The calls of a large script of so many people, whose numbers are drawn from the seed.
     Make { people: u32, seed: u32 },
 }

@@ -2,11 +2,15 @@
 #![tactic(auto)]
 
 #[cfg(test)]
+mod beside;
+#[cfg(test)]
 mod disks;
 #[cfg(test)]
 mod erasures;
 #[cfg(test)]
 mod runs;
+#[cfg(test)]
+mod sessions;
 #[cfg(test)]
 mod stops;
 #[cfg(test)]

@@ -39,7 +39,7 @@ const CATALOG: &str =
 const SUMMARY: &str =
     "calls 18\ndone 18\nrefused 0\nmemory 0\ngot 2\nforgot 2 0\nheld 1\nsum 138\n";
 
-const CASES: [Case; 12] = [
+const CASES: [Case; 14] = [
     Case {
         words: "make 2 1",
         input: FIRST,
@@ -122,6 +122,24 @@ const CASES: [Case; 12] = [
         output: "",
     },
     Case {
+        words: "serve 1",
+        input: FIRST,
+        source_fails: &[],
+        sink_fails: &[],
+        status: 2,
+        entries: 0,
+        output: "",
+    },
+    Case {
+        words: "serve",
+        input: FIRST,
+        source_fails: &[],
+        sink_fails: &[1],
+        status: 4,
+        entries: 4,
+        output: "0 1.1 ok\n",
+    },
+    Case {
         words: "stop",
         input: FIRST,
         source_fails: &[],
@@ -150,10 +168,15 @@ const CASES: [Case; 12] = [
     },
 ];
 
-/// Runs a case, and tells its status, its entries and its output.
-fn told<Rt: Threads + Wait + Sync>(rt: &Rt, alloc: Global, case: &Case) -> Result<String, Fail> {
+/// Runs a case by these words, and tells its status, its entries and its output.
+fn told<Rt: Threads + Wait + Sync>(
+    rt: &Rt,
+    alloc: Global,
+    mode: &str,
+    case: &Case,
+) -> Result<(u8, usize, String), Fail> {
     let mut words = Vec::new(alloc);
-    for word in case.words.split(' ') {
+    for word in mode.split(' ') {
         words.push(String::from_str(alloc, word)?)?;
     }
     let mut source = MemSource::new(alloc, case.input.as_bytes(), case.source_fails)?;
@@ -172,17 +195,29 @@ fn told<Rt: Threads + Wait + Sync>(rt: &Rt, alloc: Global, case: &Case) -> Resul
     drop(opened);
     drop(disk);
     let output = String::from_utf8_lossy(alloc, sink.bytes())?;
-    Ok(format!(in alloc; "{status} {entries} {}", output.as_str())?)
+    Ok((status, entries, output))
 }
 
 #[test]
 fn runs(rt: HostRuntime) -> Result<(), Fail> {
     for case in &CASES {
-        let wanted = format!(in rt.alloc();
-            "{} {} {}",
-            case.status, case.entries, case.output
-        ).expect(&rt, "memory");
-        assert_eq!(rt; told(&rt, rt.alloc(), case)?.as_str(), wanted.as_str());
+        let (status, entries, output) = told(&rt, rt.alloc(), case.words, case)?;
+        assert_eq!(rt;
+            (status, entries, output.as_str()),
+            (case.status, case.entries, case.output)
+        );
+    }
+    Ok(())
+}
+
+/// All of its calls are made before the first is written, so the entries of a run whose sink fails are others.
+#[test]
+fn one_session_is_served_as_it_steps(rt: HostRuntime) -> Result<(), Fail> {
+    for case in &CASES {
+        if case.words == "step" && case.input != SESSIONS {
+            let (status, _, output) = told(&rt, rt.alloc(), "serve", case)?;
+            assert_eq!(rt; (status, output.as_str()), (case.status, case.output));
+        }
     }
     Ok(())
 }
@@ -204,33 +239,34 @@ impl Gate for CountingGate {
     }
 }
 
-#[test]
-fn mode_step_asks_the_gate_nothing(rt: HostRuntime) -> Result<(), Fail> {
+/// How often the gate is called by a run of `FIRST` in a mode.
+fn gate_calls<Rt: Threads + Wait + Sync>(rt: &Rt, alloc: Global, mode: &str) -> Result<u64, Fail> {
     let gate = CountingGate {
         calls: AtomicU64::new(0),
     };
-    let words = vec![in rt.alloc(); String::from_str(rt.alloc(), "step").expect(&rt, "memory")]?;
-    let mut source = MemSource::new(rt.alloc(), FIRST.as_bytes(), &[]).expect(&rt, "memory");
-    let mut sink = MemSink::new(rt.alloc(), &[]).expect(&rt, "memory");
-    let disk = MemDisk::new(rt.alloc(), &[]).expect(&rt, "memory");
+    let words = vec![in alloc; String::from_str(alloc, mode)?]?;
+    let mut source = MemSource::new(alloc, FIRST.as_bytes(), &[])?;
+    let mut sink = MemSink::new(alloc, &[])?;
+    let disk = MemDisk::new(alloc, &[])?;
     let Served {
-        status,
+        status: _,
         fault,
         opened,
         history,
         disk,
-    } = run(&rt, rt.alloc(), &words, &mut source, &mut sink, disk, &gate);
-    let entries = history.items().len();
+    } = run(rt, alloc, &words, &mut source, &mut sink, disk, &gate);
     drop(history);
     drop(fault);
     drop(opened);
     drop(disk);
-    assert_eq!(rt; status, 0);
-    assert_eq!(rt; entries, 4);
-    assert_eq!(rt; gate.calls.load(Ordering::SeqCst), 0);
-    assert_eq!(rt; gate.before(SessionNo(1), 1), Gone::Passed);
-    gate.after(SessionNo(1), 1);
-    assert_eq!(rt; gate.calls.load(Ordering::SeqCst), 2);
+    Ok(gate.calls.load(Ordering::SeqCst))
+}
+
+/// Mode step asks it nothing; mode serve before each of the four calls, the End too, and tells it after each.
+#[test]
+fn the_gate_is_asked_in_mode_serve_alone(rt: HostRuntime) -> Result<(), Fail> {
+    assert_eq!(rt; gate_calls(&rt, rt.alloc(), "step")?, 0);
+    assert_eq!(rt; gate_calls(&rt, rt.alloc(), "serve")?, 8);
     Ok(())
 }
 

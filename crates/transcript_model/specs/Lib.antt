@@ -1,3 +1,4 @@
 pub mod Printed
 pub mod TellsMemory
+pub mod Together
 pub mod Transcript

@@ -77,6 +77,7 @@ answer-requires g c = record {
   stands = c.requires.event.stands;
   written = written-event c.args.history.now c.args.entry.now c.args.state.now c.args.statement.now c.requires.event c.requires.asks;
   itself = runs-itself c.args.statement.now c.in_default.not-Checkpoint c.in_default.not-Begin c.in_default.not-Commit c.in_default.not-Rollback;
+  changes = c.requires.changes;
 }
 
 -- an image that is prepared has a commit more than there are

@@ -1,11 +1,11 @@
 use Rattle.std.proofs.Common.{refl, ◌∙◌, ◌+◌, arith, inl, inr}
-use Rattle.std.specs.Prelude.{Some, true, false}
+use Rattle.std.specs.Prelude.{Err, Some, true, false}
 use Rattle.call_stream.specs.declared.fault.StreamFault.TheVariants.{TooLong}
 use Rattle.shell_session.specs.DiskView.{view_of}
 use Rattle.shell_session.specs.Opening.{opening_of}
 use Rattle.shell_session.specs.declared.ending.ShellFault.TheVariants.{Input, Read, Write}
 use Rattle.shell_session.proofs.LifeLemmas.{unopened-input, unopened-other}
-use Rattle.shell_session.proofs.PieceLemmas.{closed-over, lived-closed, lived-cut, lived-end, lived-piece, lives-ended, ok-other, on-none, on-piece, on-silent}
+use Rattle.shell_session.proofs.PieceLemmas.{closed-over, lived-closed, lived-cut, lived-end, lived-piece, lives-ended, ok-other, on-none, on-piece, on-silent, untold-unmet}
 use Rattle.shell_session.proofs.shell.serve_pieces.Goals as goal
 
 -- nothing was read yet
@@ -109,3 +109,13 @@ returns-clause-lives g c = let view = view_of g.D.Disk.leaves g.D.Disk.moment g.
     (lived-cut view c.calls_are_given.ensures form first here c.loop.counter c.loop.stream (Input TooLong) old new written_old written_new (λ is. cc) c.loop.invariant.lives
     (λ why is. (cc, omega (arith, c.loop-test)))))
     (inl (closed-over c.loop.opened.book here c.closed-2.result.fault c.closed-2.result.disk c.loop.invariant.keeps c.closed-2.ensures.failed c.closed-2.ensures.calm c.closed-2.ensures.undamaged c.closed-2.ensures.disk))
+
+-- a read that didn't fail raised no count
+pub returns-in-Err-clause-read_steady : goal.returns-in-Err-clause-read_steady
+returns-in-Err-clause-read_steady g c untold =
+    c.in-Err.ensures.read_steady (untold-unmet c.in-Err.fault Read c.closed.result.fault (Err c.in-Err.fault) c.closed.ensures.same (λ is. cc) untold refl) ∙ c.loop.invariant.read_steady
+
+-- nor did a write
+pub returns-in-Err-clause-write_steady : goal.returns-in-Err-clause-write_steady
+returns-in-Err-clause-write_steady g c untold =
+    c.in-Err.ensures.steady (untold-unmet c.in-Err.fault Write c.closed.result.fault (Err c.in-Err.fault) c.closed.ensures.same (λ is. cc) untold refl) ∙ c.loop.invariant.write_steady

@@ -1,9 +1,9 @@
 use Rattle.std.proofs.Common.{◌≡◌, Err, arith, refl, sym, ◌∙◌}
 use Rattle.std.proofs.lemmas.Result.{err_from_is_err_and}
 use Rattle.engine_core.specs.Seen.{disk_of}
-use Rattle.store_top.specs.declared.steps.RunFault.TheVariants.{Write}
-use Rattle.store_top.proofs.Failures.{failed-at, none-failed, tells-more}
-use Rattle.store_top.proofs.Moves.{moves-more, moves-none}
+use Rattle.session_run.specs.declared.printing.RunFault.TheVariants.{Write}
+use Rattle.history_model.proofs.Failures.{failed-at, none-failed, tells-more}
+use Rattle.crash_model.proofs.Moves.{moves-more, moves-none}
 use Rattle.store_top.proofs.CallsServed.{serving-none, serving-more, serving-breaks, serving-refused, serving-entered}
 use Rattle.store_top.proofs.lines.serve_calls.Goals as goal
 

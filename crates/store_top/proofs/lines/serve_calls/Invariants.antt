@@ -1,7 +1,8 @@
 use Rattle.std.proofs.Common.{◌≡◌, ◌≤◌, length}
 use Rattle.std.specs.Vec.Iter.{into_iter_items}
 use Rattle.engine_core.specs.Seen.{disk_of}
-use Rattle.store_top.specs.Steps.{MovesDisk, TellsFailure}
+use Rattle.history_model.specs.Fails.{TellsFailure}
+use Rattle.crash_model.specs.MovesDisk.{MovesDisk}
 use Rattle.store_top.proofs.CallsServed.{Serving}
 use Rattle.store_top.proofs.lines.serve_calls.Given as goal
 

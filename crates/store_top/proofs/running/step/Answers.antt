@@ -10,8 +10,9 @@ returns-clause-complete g c reads writes rose lawful whole =
     let R = g.R.Source in
     let W = g.W.Sink in
     let D = g.D.Disk in
-    let ended = c.serve_source.result in
-    let did = c.serve_source.ensures in
+    let ended = c.step_input.result in
+    let did = c.step_input.ensures in
     subst IsServedOrRefused (sym c.served.ensures.fault)
-    (complete R.remaining R.faults R.fails W.written W.faults W.fails D.holds D.leaves D.moment D.might_have_left D.honest D.faults c.args.source.now c.serve_source.new.source c.args.sink.now c.serve_source.new.sink
-    c.args.disk ended.disk ended.opened ended.history reads writes (λ risen. rose (subst (λ disk. CountRose (D.faults c.args.disk) (D.faults disk)) (sym c.served.ensures.disk) risen)) lawful whole ended.fault did.lawful did.ran did.on_disk)
+    (complete R.remaining R.faults R.fails W.faults W.fails D.holds D.leaves D.moment D.might_have_left D.honest D.faults c.args.source.now c.step_input.new.source c.args.sink.now c.step_input.new.sink
+    c.args.disk ended.disk ended.opened ended.history _ _ _ _ reads writes (λ risen. rose (subst (λ disk. CountRose (D.faults c.args.disk) (D.faults disk)) (sym c.served.ensures.disk) risen)) lawful whole ended.fault did.lawful did.ran
+    did.on_disk)

@@ -1,7 +1,7 @@
 use Rattle.std.proofs.Common.{arith, refl, sym, ◌∙◌}
 use Rattle.engine_core.specs.Seen.{disk_of}
-use Rattle.store_top.proofs.Failures.{failed-at, none-failed, tells-more}
-use Rattle.store_top.proofs.Moves.{moves-more, moves-none}
+use Rattle.history_model.proofs.Failures.{failed-at, none-failed, tells-more}
+use Rattle.crash_model.proofs.Moves.{moves-more, moves-none}
 use Rattle.store_top.proofs.CallsTallied.{tallying-ends, tallying-entered, tallying-more, tallying-none, tallying-room}
 use Rattle.store_top.proofs.summing.tally_calls.Goals as goal
 

@@ -11,6 +11,9 @@ returns-clause-exact g c = rw c.from_vec.ensures (rw (← c.self.view_is) c.self
 pub returns-clause-left : goal.returns-clause-left
 returns-clause-left g c = rw (c.from_vec.ensures, c.close.ensures) (rw (← c.self.view_is) c.self.invariant.left)
 
+pub returns-clause-moves : goal.returns-clause-moves
+returns-clause-moves g c = rw (c.from_vec.ensures, c.close.ensures) (rw (← c.self.view_is) c.self.invariant.moves)
+
 pub returns-clause-alone : goal.returns-clause-alone
 returns-clause-alone g c =
     let D = g.D.Disk in

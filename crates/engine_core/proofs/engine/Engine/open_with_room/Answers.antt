@@ -11,7 +11,7 @@ pub invariant_of-result : goal.invariant_of-result
 invariant_of-result g c =
     let D = g.D.Disk in
     let store = c.in_ok-store.store in
-    rw c.in-Ok.ensures.history
+    rw (c.in-Ok.ensures.history, c.of-opening.ensures)
     (stands-begun D.holds D.leaves D.moment D.might_have_left D.honest D.faults g.met.D.Disk.only_now g.met.D.Disk.now_counts c.in-Ok.state store c.commits-start.result
     (record { epoch = c.epoch-epoch.result; end = c.end-end.result }) (sym c.epoch-epoch.ensures, sym c.end-end.ensures) c.commits-start.ensures
     c.in-Ok.ensures.sound c.in-Ok.ensures.stands c.in_ok-store.ensures.sound
@@ -25,4 +25,4 @@ returns-in-Ok-clause-left g c honest a b in_a in_b =
     (subst (IsStoreIn a b c.in_ok-store.replayed) (sym c.commits-start.ensures) (kept-left D.holds D.leaves store.journal c.in_ok-store.replayed store.commits (c.in_ok-store.ensures.kept honest) a b in_a in_b))
 
 pub returns-in-Ok-clause-start : goal.returns-in-Ok-clause-start
-returns-in-Ok-clause-start g c honest = rw (c.epoch-epoch.ensures, c.end-end.ensures) (c.in_ok-store.ensures.start honest)
+returns-in-Ok-clause-start g c honest = rw (c.of-opening.ensures, c.epoch-epoch.ensures, c.end-end.ensures) (c.in_ok-store.ensures.start honest)

@@ -7,10 +7,11 @@ use Rattle.own_model.specs.Db.{Db}
 use Rattle.history_model.proofs.EveryHistory.{serial-history}
 use Rattle.history_model.proofs.HistoryLemmas.{flat-world}
 use Rattle.store_disk.specs.Kept.{IsKept}
+use Rattle.serve_model.specs.declared.step.Step.{Step}
+use Rattle.engine_core.specs.Came.{reply_by}
 use Rattle.engine_core.specs.Seen.{Seen, Steps, entry as made}
-use Rattle.engine_core.specs.declared.step.NoLook.{NoLook}
-use Rattle.engine_core.specs.declared.step.Step.{Step}
 use Rattle.engine_core.proofs.EngineStands.{makes-made, stands-after, writes-made}
+use Rattle.engine_core.proofs.LookSteps.{steps-came}
 use Rattle.engine_core.proofs.RepresentsLemmas.{leaves-of}
 use Rattle.engine_core.proofs.engine.Engine.step.Goals as goal
 use Rattle.engine_core.proofs.engine.Engine.step.Goals.{in-Err, in-Ok}
@@ -31,7 +32,7 @@ invariant_of-self g c =
     let was = c.self.inside in
     let now = c.make.new in
     stands-after D.holds D.leaves D.moment D.might_have_left D.honest D.faults g.met.D.Disk.only_now g.met.D.Disk.now_counts was.start (record { epoch = was.epoch; end = was.end }) was.state now.state was.store now.store was.down now.down was.history.items now.history.items
-    c.self.invariant c.make.ensures.opened (made c.args.session c.args.call c.args.request Took) refl
+    c.self.invariant c.make.ensures.opened reply_by (made c.args.session c.args.call c.args.request Took) refl
     (record { readable = c.requires.readable; first = c.requires.first; last = c.requires.last }) c.make.result c.make.ensures.made c.make.ensures.unmade
 
 pub returns-clause-steps : goal.returns-clause-steps
@@ -40,22 +41,23 @@ returns-clause-steps g c =
     let was = c.self.inside in
     let now = c.make.new in
     let call : Entry = made c.args.session c.args.call c.args.request Took in
+    let first = was.opening.value.journal in
     let spare = vec_capacity was.history - vec_len was.history in
     let spare_after = vec_capacity now.history - vec_len now.history in
-    let before : Seen g.row.D.Denot = record { base = was.state.opened; start = was.start; journal = record { epoch = was.epoch; end = was.end }; history = was.history.items; spare = spare; store = was.store } in
-    let after : Db → Seen g.row.D.Denot = λ base. record { base = base; start = was.start; journal = record { epoch = was.epoch; end = was.end }; history = now.history.items; spare = spare_after; store = now.store } in
-    let steps : Step NoLook → Type 0 = λ step. Steps D.holds D.leaves D.moment D.might_have_left D.honest D.faults before (after was.state.opened) call step in
+    let before : Seen g.row.D.Denot = record { base = was.state.opened; start = was.start; area = first.area; journal = record { epoch = was.epoch; end = was.end }; opening = first.disk; history = was.history.items; spare = spare; store = was.store } in
+    let after : Db → Seen g.row.D.Denot = λ base. record { base = base; start = was.start; area = first.area; journal = record { epoch = was.epoch; end = was.end }; opening = first.disk; history = now.history.items; spare = spare_after; store = now.store } in
+    let steps : Step Db → Type 0 = λ step. Steps D.holds D.leaves D.moment D.might_have_left D.honest D.faults before (after was.state.opened) call step in
     let told : steps c.match-make.result =
     elim c.match-make.branch [
-      | in-Ok w ↦ subst steps (sym w.result-is) (
-        w.in-Ok.ensures.made.verdict,
-        makes-made D.holds D.leaves D.moment D.might_have_left D.honest D.faults g.met.D.Disk.only_now g.met.D.Disk.now_counts was.start (record { epoch = was.epoch; end = was.end }) was.state now.state was.store now.store was.down now.down was.history.items
-            now.history.items c.self.invariant call refl w.in-Ok.place.0 w.in-Ok.reply w.in-Ok.ensures.made spare spare_after c.make.ensures.room,
-        writes-made D.holds D.leaves D.moment D.might_have_left D.honest D.faults g.met.D.Disk.only_now g.met.D.Disk.now_counts was.start (record { epoch = was.epoch; end = was.end }) was.state now.state was.store now.store was.down now.down was.history.items
-            now.history.items c.self.invariant call refl w.in-Ok.place.0 w.in-Ok.reply w.in-Ok.ensures.made spare spare_after,
-      )
+      | in-Ok w ↦ subst steps (sym (w.result-is ∙ w.step_of.ensures))
+          (steps-came D.holds D.leaves D.moment D.might_have_left D.honest D.faults before (after was.state.opened) call refl w.in-Ok.place w.in-Ok.came w.in-Ok.ensures.made.verdict
+          (makes-made D.holds D.leaves D.moment D.might_have_left D.honest D.faults g.met.D.Disk.only_now g.met.D.Disk.now_counts was.start (record { epoch = was.epoch; end = was.end }) was.state now.state was.store now.store was.down now.down was.history.items
+          now.history.items c.self.invariant call refl w.in-Ok.place.0 (reply_by w.in-Ok.came) w.in-Ok.ensures.made first.area spare spare_after c.make.ensures.room)
+          (writes-made D.holds D.leaves D.moment D.might_have_left D.honest D.faults g.met.D.Disk.only_now g.met.D.Disk.now_counts was.start (record { epoch = was.epoch; end = was.end }) was.state now.state was.store now.store was.down now.down was.history.items
+          now.history.items c.self.invariant call refl w.in-Ok.place.0 (reply_by w.in-Ok.came) w.in-Ok.ensures.made first.area spare spare_after)
+          w.in-Ok.ensures.comes)
       | in-Err w ↦ subst steps (sym w.result-is)
-          (leaves-of was.state.opened was.start _ was.history.items now.history.items spare spare_after was.store now.store call w.in-Err.ensures.unmade.0 w.in-Err.ensures.room_left w.in-Err.ensures.unmade.2
+          (leaves-of was.state.opened was.start first.area _ first.disk was.history.items now.history.items spare spare_after was.store now.store call w.in-Err.ensures.unmade.0 w.in-Err.ensures.room_left w.in-Err.ensures.unmade.2
           w.in-Err.ensures.spared)
     ] in
     subst (λ seen. Steps D.holds D.leaves D.moment D.might_have_left D.honest D.faults seen (after now.state.opened) call c.match-make.result) c.self.view_is

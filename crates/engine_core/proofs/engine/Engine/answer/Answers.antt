@@ -1,0 +1,74 @@
+use Rattle.std.proofs.Common.{◌∙◌, ◌-◌, ap, refl, subst, sym}
+use Rattle.std.specs.Prelude.{Result, Ok, is_some, vec_len}
+use Rattle.std.specs.Vec.{vec_capacity}
+use Rattle.std.specs.declared.alloc.AllocError.{AllocError}
+use Rattle.own_base.specs.declared.number.Place.{Place}
+use Rattle.own_model.specs.declared.history.Entry.{Entry}
+use Rattle.own_model.specs.declared.reply.Reply.{Reply}
+use Rattle.own_model.specs.declared.history.Verdict.TheVariants.{Took}
+use Rattle.own_model.specs.Db.{Db}
+use Rattle.history_model.proofs.EveryHistory.{serial-history}
+use Rattle.history_model.proofs.HistoryLemmas.{flat-world}
+use Rattle.store_disk.specs.Kept.{IsKept}
+use Rattle.engine_core.specs.Came.{reply_by}
+use Rattle.engine_core.specs.Seen.{Answers, Seen, entry as made}
+use Rattle.engine_core.proofs.EngineStands.{makes-made, stands-after, writes-made}
+use Rattle.engine_core.proofs.RepresentsLemmas.{leaves-of}
+use Rattle.engine_core.proofs.engine.Engine.answer.Goals as goal
+use Rattle.engine_core.proofs.engine.Engine.answer.Goals.{in-Err, in-Ok}
+
+-- while the disk hasn't failed it keeps the state
+pub make-requires-clause-store : goal.make-requires-clause-store
+make-requires-clause-store g c none = record {
+  sound = c.self.invariant.failed ∙ ap is_some none;
+  kept = λ honest.
+      let D = g.D.Disk in
+      let store = c.self.inside.store in
+      subst (λ db. IsKept D.holds D.leaves store.journal db store.commits) (flat-world _ _ ∙ sym (c.self.invariant.represents none).flat) (c.self.invariant.kept none honest);
+}
+
+pub invariant_of-self : goal.invariant_of-self
+invariant_of-self g c =
+    let D = g.D.Disk in
+    let was = c.self.inside in
+    let now = c.make.new in
+    stands-after D.holds D.leaves D.moment D.might_have_left D.honest D.faults g.met.D.Disk.only_now g.met.D.Disk.now_counts was.start (record { epoch = was.epoch; end = was.end }) was.state now.state was.store now.store was.down now.down was.history.items now.history.items
+    c.self.invariant c.make.ensures.opened reply_by (made c.args.session c.args.call c.args.request Took) refl
+    (record { readable = c.requires.readable; first = c.requires.first; last = c.requires.last }) c.make.result c.make.ensures.made c.make.ensures.unmade
+
+pub returns-clause-answers : goal.returns-clause-answers
+returns-clause-answers g c =
+    let D = g.D.Disk in
+    let was = c.self.inside in
+    let now = c.make.new in
+    let call : Entry = made c.args.session c.args.call c.args.request Took in
+    let first = was.opening.value.journal in
+    let spare = vec_capacity was.history - vec_len was.history in
+    let spare_after = vec_capacity now.history - vec_len now.history in
+    let before : Seen g.row.D.Denot = record { base = was.state.opened; start = was.start; area = first.area; journal = record { epoch = was.epoch; end = was.end }; opening = first.disk; history = was.history.items; spare = spare; store = was.store } in
+    let after : Db → Seen g.row.D.Denot = λ base. record { base = base; start = was.start; area = first.area; journal = record { epoch = was.epoch; end = was.end }; opening = first.disk; history = now.history.items; spare = spare_after; store = now.store } in
+    let answers : Result (Place × Reply) AllocError → Type 0 = λ told. Answers D.holds D.leaves D.moment D.might_have_left D.honest D.faults before (after was.state.opened) call told in
+    let told : answers c.match-make.result =
+    elim c.match-make.branch [
+      | in-Ok w ↦ subst answers (sym w.result-is) (subst (λ (reply : Reply). answers (Ok (w.in-Ok.place, reply))) (sym w.into_reply.ensures) (
+        w.in-Ok.ensures.made.verdict,
+        makes-made D.holds D.leaves D.moment D.might_have_left D.honest D.faults g.met.D.Disk.only_now g.met.D.Disk.now_counts was.start (record { epoch = was.epoch; end = was.end }) was.state now.state was.store now.store was.down now.down was.history.items
+            now.history.items c.self.invariant call refl w.in-Ok.place.0 (reply_by w.in-Ok.came) w.in-Ok.ensures.made first.area spare spare_after c.make.ensures.room,
+        writes-made D.holds D.leaves D.moment D.might_have_left D.honest D.faults g.met.D.Disk.only_now g.met.D.Disk.now_counts was.start (record { epoch = was.epoch; end = was.end }) was.state now.state was.store now.store was.down now.down was.history.items
+            now.history.items c.self.invariant call refl w.in-Ok.place.0 (reply_by w.in-Ok.came) w.in-Ok.ensures.made first.area spare spare_after,
+      ))
+      | in-Err w ↦ subst answers (sym w.result-is)
+          (leaves-of was.state.opened was.start first.area _ first.disk was.history.items now.history.items spare spare_after was.store now.store call w.in-Err.ensures.unmade.0 w.in-Err.ensures.room_left w.in-Err.ensures.unmade.2
+          w.in-Err.ensures.spared)
+    ] in
+    subst (λ seen. Answers D.holds D.leaves D.moment D.might_have_left D.honest D.faults seen (after now.state.opened) call c.match-make.result) c.self.view_is
+    (subst (λ base. Answers D.holds D.leaves D.moment D.might_have_left D.honest D.faults before (after base) call c.match-make.result) (sym c.make.ensures.opened) told)
+
+pub returns-clause-serial : goal.returns-clause-serial
+returns-clause-serial g c = let stands = invariant_of-self g c in serial-history c.make.new.state.opened c.make.new.history.items stands.begun stands.entries
+
+pub returns-clause-count : goal.returns-clause-count
+returns-clause-count g c = (invariant_of-self g c).count
+
+pub returns-clause-left : goal.returns-clause-left
+returns-clause-left g c = (invariant_of-self g c).left
