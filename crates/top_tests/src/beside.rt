@@ -103,7 +103,8 @@ fn commits_meanwhile<Rt: Threads + Wait + Sync + Abort + AllocGlobal>(
         commit_first: AtomicU64::new(0),
     };
     let disk = loaded(rt.alloc())?;
-    let (status, output) = told_together(rt, rt.alloc(), CALLS, disk, &gate)?;
+    let (status, output, disk) = told_together(rt, rt.alloc(), CALLS, disk, &gate)?;
+    drop(disk);
     assert_eq!(rt; status, 0);
     let commit = place_of(output.as_str(), "2.1 ok 1").expect(rt, "a commit");
     if let Some(look) = place_of(output.as_str(), WITHOUT) {

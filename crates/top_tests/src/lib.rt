@@ -8,6 +8,8 @@ mod disks;
 #[cfg(test)]
 mod erasures;
 #[cfg(test)]
+mod failing;
+#[cfg(test)]
 mod runs;
 #[cfg(test)]
 mod sessions;

@@ -30,14 +30,14 @@ const REPLIES: [&str; 6] = [
     "2.3 end",
 ];
 
-/// Serves the sessions of an input over a disk, and tells the status and the output.
+/// Serves the sessions of an input over a disk, and tells the status and the output. The disk comes back.
 pub(crate) fn told_together<Rt: Threads + Wait + Sync, G: Gate + Sync>(
     rt: &Rt,
     alloc: Global,
     input: &str,
     disk: MemDisk,
     gate: &G,
-) -> Result<(u8, String), Fail> {
+) -> Result<(u8, String, MemDisk), Fail> {
     let words = vec![in alloc; String::from_str(alloc, "serve")?]?;
     let mut source = MemSource::new(alloc, input.as_bytes(), &[])?;
     let mut sink = MemSink::new(alloc, &[])?;
@@ -51,9 +51,8 @@ pub(crate) fn told_together<Rt: Threads + Wait + Sync, G: Gate + Sync>(
     drop(history);
     drop(fault);
     drop(opened);
-    drop(disk);
     let output = String::from_utf8_lossy(alloc, sink.bytes())?;
-    Ok((status, output))
+    Ok((status, output, disk))
 }
 
 /// Waits until the word has come to a number, and says whether it has.
@@ -140,7 +139,8 @@ fn two_meet(rt: HostRuntime) -> Result<(), Fail> {
         two: Words::new(),
         late: AtomicU64::new(0),
     };
-    let (status, output) = told_together(&rt, rt.alloc(), MEETING, disk, &gate)?;
+    let (status, output, disk) = told_together(&rt, rt.alloc(), MEETING, disk, &gate)?;
+    drop(disk);
     assert_eq!(rt; gate.late.load(Ordering::SeqCst), 0);
     assert_eq!(rt; status, 0);
     let mut places = 0;
