@@ -1,0 +1,212 @@
+"""The statements of calls' texts, as tests/histories/model.py asks for them.
+
+It reads what tests/histories/try writes and not much more: conditions are equations joined by AND, without brackets,
+and a reference stands behind its column. Of any other text it says that it is `Unknown`.
+"""
+import re
+from collections import namedtuple
+
+
+class Unknown(ValueError):
+    """The model doesn't know such a call."""
+
+
+Column = namedtuple("Column", "name kind not_null unique refers")  # refers: None, or the word and the table
+Table = namedtuple("Table", "name subject key columns")  # key: the position of the primary key
+
+# Statements. Where: the columns and the values that they have to equal. Items: None for all columns, else what each
+# is ("column", "count" or "sum"), of which column, and its name. Sets: a column, and a value or a column and a number.
+CreateTable = namedtuple("CreateTable", "table rules")
+CreateView = namedtuple("CreateView", "name select")
+Select = namedtuple("Select", "items source where group order")
+Insert = namedtuple("Insert", "table tuples")
+Update = namedtuple("Update", "table sets where")
+Delete = namedtuple("Delete", "table where")
+Get = namedtuple("Get", "table key")
+Forget = namedtuple("Forget", "table key")
+Control = namedtuple("Control", "word")
+Value = namedtuple("Value", "value")
+Sum = namedtuple("Sum", "column number")
+Item = namedtuple("Item", "what column name")
+
+CONTROLS = ("BEGIN", "COMMIT", "ROLLBACK", "CHECKPOINT", "EXPLAIN COMPLIANCE")
+REFERENCES = ("REFERENCES", "OWNED_BY", "OWNS", "ACCESSED_BY", "ACCESSES")
+
+
+class Reader:
+    """The words, numbers, quoted texts and marks of a call, from first to last."""
+
+    def __init__(self, text):
+        self.text = text
+        self.left = re.findall(r"'(?:[^']|'')*'|\w+|\S", text)
+
+    def takes(self, *words):
+        """Whether these words come next; then they are taken."""
+        if [found.upper() for found in self.left[:len(words)]] != list(words):
+            return False
+        del self.left[:len(words)]
+        return True
+
+    def wants(self, *words):
+        if not self.takes(*words):
+            raise Unknown(f"the model can't read {self.text!r}")
+
+    def name(self):
+        if not self.left or not re.fullmatch(r"[A-Za-z_]\w*", self.left[0]):
+            raise Unknown(f"the model can't read {self.text!r}")
+        return self.left.pop(0).lower()
+
+    def number(self):
+        sign = -1 if self.takes("-") else 1
+        if not self.left or not self.left[0].isdigit():
+            raise Unknown(f"the model can't read {self.text!r}")
+        return sign * int(self.left.pop(0))
+
+    def literal(self):
+        if self.takes("NULL"):
+            return None
+        if self.left and self.left[0].startswith("'"):
+            return self.left.pop(0)[1:-1].replace("''", "'")
+        return self.number()
+
+    def listed(self, read):
+        """What is read once, and once more after each comma."""
+        found = [read()]
+        while self.takes(","):
+            found.append(read())
+        return found
+
+    def bracketed(self, read):
+        self.wants("(")
+        found = self.listed(read)
+        self.wants(")")
+        return found
+
+
+def read(text):
+    """The statement of a call's text."""
+    reader = Reader(text)
+    statement = read_statement(reader)
+    reader.wants(";")
+    if reader.left:
+        raise Unknown(f"the model can't read {text!r}")
+    return statement
+
+
+def read_statement(reader):
+    for word in CONTROLS:
+        if reader.takes(*word.split()):
+            return Control(word)
+    if reader.takes("CREATE", "VIEW"):
+        name = reader.name()
+        reader.wants("AS", "SELECT")
+        return CreateView(name, read_select(reader))
+    if reader.takes("CREATE"):
+        return read_table(reader)
+    if reader.takes("SELECT"):
+        return read_select(reader)
+    if reader.takes("INSERT", "INTO"):
+        table = reader.name()
+        reader.wants("VALUES")
+        return Insert(table, reader.listed(lambda: reader.bracketed(reader.literal)))
+    if reader.takes("UPDATE"):
+        table = reader.name()
+        reader.wants("SET")
+        return Update(table, reader.listed(lambda: read_set(reader)), read_where(reader))
+    if reader.takes("DELETE", "FROM"):
+        return Delete(reader.name(), read_where(reader))
+    reader.wants("GDPR")
+    kind = Get if reader.takes("GET") else Forget
+    if kind is Forget:
+        reader.wants("FORGET")
+    return kind(reader.name(), reader.literal())
+
+
+def read_select(reader):
+    items = None if reader.takes("*") else reader.listed(lambda: read_item(reader))
+    reader.wants("FROM")
+    source = reader.name()
+    where = read_where(reader)
+    group = reader.name() if reader.takes("GROUP", "BY") else None
+    order = (reader.name(), reader.takes("DESC")) if reader.takes("ORDER", "BY") else None
+    return Select(items, source, where, group, order)
+
+
+def read_item(reader):
+    if reader.takes("COUNT", "(", "*", ")"):
+        what, column, name = "count", None, "count"
+    elif reader.takes("SUM", "("):
+        what, column, name = "sum", reader.name(), "sum"
+        reader.wants(")")
+    else:
+        what, column = "column", reader.name()
+        name = column
+    return Item(what, column, reader.name() if reader.takes("AS") else name)
+
+
+def read_where(reader):
+    """The columns and values of a condition of equations that are joined by AND; none without one."""
+    def equation():
+        column = reader.name()
+        reader.wants("=")
+        return column, reader.literal()
+    equations = []
+    if reader.takes("WHERE"):
+        equations.append(equation())
+        while reader.takes("AND"):
+            equations.append(equation())
+    return equations
+
+
+def read_set(reader):
+    column = reader.name()
+    reader.wants("=")
+    if reader.left and re.match(r"[A-Za-z_]", reader.left[0]) and reader.left[0].upper() != "NULL":
+        summed = reader.name()
+        if reader.takes("+"):
+            return column, Sum(summed, reader.number())
+        return column, Sum(summed, -reader.number() if reader.takes("-") else 0)
+    return column, Value(reader.literal())
+
+
+def read_table(reader):
+    """A CREATE TABLE, with its rules: the word GET or DEL, the column, and the names, or None for the row."""
+    subject = reader.takes("DATA_SUBJECT")
+    reader.wants("TABLE")
+    name, keys, columns, rules = reader.name(), [], [], []
+
+    def part():
+        if reader.takes("ON"):
+            word = "GET" if reader.takes("GET") else "DEL" if reader.takes("DEL") else reader.wants("GET")
+            column = reader.name()
+            named = None if reader.takes("DELETE_ROW") else reader.wants("ANON") or reader.bracketed(reader.name)
+            rules.append((word, column, named))
+        else:
+            columns.append(read_column(reader, keys))
+
+    reader.bracketed(part)
+    if len(keys) != 1:
+        raise Unknown(f"the model knows no table without one primary key: {reader.text!r}")
+    position = [column.name for column in columns].index(keys[0])
+    return CreateTable(Table(name, subject, position, columns), rules)
+
+
+def read_column(reader, keys):
+    """A column of a CREATE TABLE; where it is the primary key its name is put to the keys."""
+    name = reader.name()
+    kind = "INT" if reader.takes("INT") else reader.wants("TEXT") or "TEXT"
+    not_null = unique = False
+    refers = None
+    while reader.left[0] not in (",", ")"):
+        if reader.takes("PRIMARY", "KEY"):
+            keys.append(name)
+            not_null = True
+        elif reader.takes("NOT", "NULL"):
+            not_null = True
+        elif reader.takes("UNIQUE"):
+            unique = True
+        else:
+            word = next((word for word in REFERENCES if reader.takes(word)), None)
+            refers = (word, reader.name()) if word else reader.wants("REFERENCES")
+            reader.bracketed(reader.name)
+    return Column(name, kind, not_null, unique, refers)
