@@ -10,12 +10,12 @@ own: whenever something is asked of it, all its statements are run once more on 
 
 An answer is the list of its lines, the first without the call's place and number. The calls have to come in the order
 of their places. It knows the statements that tests/histories/try makes, and says of any other that it doesn't know it
-(`Unknown`), as it does of a CREATE that would be refused for its schema. The disk never fails and has room, memory
-never runs out, and the limits on rows, weight and bytes are out of reach of these scripts.
+(`Unknown`). What it doesn't judge: a CREATE is taken to be one that no rule of schemas refuses; the disk never fails and
+has room, memory never runs out, and no limit is passed.
 """
 from collections import namedtuple
 
-from texts import Column, Control, CreateTable, CreateView, Delete, Forget, Get, Insert, Select, Sum, Update, Value, read
+from texts import Column, Control, Copy, CreateTable, CreateView, Delete, Forget, Get, Insert, Select, Sum, Update, Value, read
 
 END = "the end of a session's calls"
 LEAST, GREATEST = -2 ** 63, 2 ** 63 - 1
@@ -226,26 +226,30 @@ def tuple_faults(columns, row):
 
 
 def update_faults(table, update):
-    faults, seen = [], []
-    for name, value in update.sets:
-        used = [name, value.column] if isinstance(value, Sum) else [name]
-        faults += column_faults(table.columns, used)
-        if name in seen:
+    faults, named = [], []
+    for name, expression in update.sets:
+        faults += set_faults(table, name, expression)
+        if name in named:
             faults.append((5, "count 2 1"))
-        seen.append(name)
-        at = position(table.columns, name)
-        if at is None:
-            continue
-        column = table.columns[at]
-        if at == table.key:
-            faults.append((10, f"key {name}"))
-        if isinstance(value, Value) and value.value is None and column.not_null:
-            faults.append((12, f"null {name}"))
-        if isinstance(value, Value) and not fits(column, value.value) or isinstance(value, Sum) and column.kind == "TEXT":
-            faults.append((4, f"kind {name}"))
-        elif isinstance(value, Sum) and position(table.columns, value.column) is not None:
-            if table.columns[position(table.columns, value.column)].kind == "TEXT":
-                faults.append((4, f"kind {value.column}"))
+        named.append(name)
+    return faults
+
+
+def set_faults(table, name, expression):
+    columns = table.columns
+    used = [name] if isinstance(expression, Value) else [name, expression.column]
+    if column_faults(columns, used):
+        return column_faults(columns, used)
+    column, kinds = columns[position(columns, name)], [columns[position(columns, one)].kind for one in used]
+    faults = []
+    if isinstance(expression, Value) and not fits(column, expression.value) or isinstance(expression, Copy) and kinds[0] != kinds[1]:
+        faults.append((4, f"kind {name}"))
+    if isinstance(expression, Sum):
+        faults += [(4, f"kind {one}") for one, kind in zip(used, kinds) if kind == "TEXT"]
+    if column is columns[table.key]:
+        faults.append((10, f"key {name}"))
+    if expression == Value(None) and column.not_null:
+        faults.append((12, f"null {name}"))
     return faults
 
 
@@ -324,7 +328,7 @@ def value_of(columns, expression, row):
     if isinstance(expression, Value):
         return expression.value
     before = row[position(columns, expression.column)]
-    return None if before is None else before + expression.number
+    return before if before is None or isinstance(expression, Copy) else before + expression.number
 
 
 def updated(columns, sets, row):
@@ -354,14 +358,16 @@ def run_table(db, create):
 
 
 def edge_of(tables, table, column, rules):
+    """The edge that a column holds, with what the rules on it say of the lower table's columns."""
     word, other = column.refers
     lower, upper = (table.name, other) if word in ("OWNED_BY", "ACCESSED_BY") else (other, table.name)
-    below = tables[lower].columns
-    named = {(kind, names is None): names or [] for kind, name, names in rules if name == column.name}
-    hides = {position(below, name) for name in named.get(("GET", False), [])}
-    blanks = {position(below, name) for name in named.get(("DEL", False), [])}
-    owner = word in ("OWNED_BY", "OWNS")
-    return Edge(word, table.name, column.name, lower, upper, owner, frozenset(hides), frozenset(blanks), ("DEL", True) in named)
+
+    def ruled(kind):
+        named = [names for rule, name, names in rules if (rule, name) == (kind, column.name) and names]
+        return frozenset(position(tables[lower].columns, name) for names in named for name in names)
+
+    strikes = ("DEL", column.name, None) in rules
+    return Edge(word, table.name, column.name, lower, upper, word in ("OWNED_BY", "OWNS"), ruled("GET"), ruled("DEL"), strikes)
 
 
 def run_view(db, create):
@@ -541,20 +547,27 @@ def settle(db):
 Held = namedtuple("Held", "table key writes")  # key: None for the whole table
 
 
+def base_table(db, source):
+    """The table that a table is, or on which a view stands."""
+    return source if source in db.tables else base_table(db, db.views[source].source)
+
+
 def footprint(db, statement):
-    """What a statement reads or writes, by table, whole tables before keys; nothing, where binding refuses it."""
+    """What a statement reads or writes, by table, whole tables before keys; nothing, where binding refuses it.
+
+    It is the rows of the keys that an INSERT puts; the row of the first key that a condition on a table asks for; else the
+    whole table, be there a row or not.
+    """
     if binding_refusal(db, statement):
         return []
     if isinstance(statement, Insert):
         key = db.tables[statement.table].key
-        return [Held(statement.table, row, True) for row in sorted({row[key] for row in statement.tuples}, key=rank)]
+        return [Held(statement.table, value, True) for value in sorted({row[key] for row in statement.tuples}, key=rank)]
     source = statement.source if isinstance(statement, Select) else statement.table
-    while source in db.views:
-        source = db.views[source].source
-        statement = Select(None, source, [], None, None)
-    table = db.tables[source]
-    pinned = [value for name, value in statement.where if name == table.columns[table.key].name and value is not None]
-    return [Held(source, pinned[0] if pinned else None, isinstance(statement, WRITES))]
+    table = db.tables[base_table(db, source)]
+    key = table.columns[table.key].name
+    asked = [value for name, value in statement.where if source == table.name and name == key and value is not None]
+    return [Held(table.name, asked[0] if asked else None, isinstance(statement, WRITES))]
 
 
 def overlap(one, other):

@@ -9,6 +9,14 @@ from collections import namedtuple
 Sort = namedtuple("Sort", "setup statement alone")  # the calls before, and what gives a statement or a call outside
 
 USERS, POSTS, ACCOUNTS, CIRCLES = 4, 12, 3, 3
+WIDE_USERS, WIDE_POSTS, WIDE_CIRCLES = [1, 2, 3, 4], [1, 2, 3, 4, 5, 6], [1, 2, 3]
+FIRMS, MAILS = ["'red'", "'blue'"], ["NULL", "'m1'", "'m2'"]
+GREATEST = 2 ** 63 - 1
+REFUSED = [
+    "SELECT nothing FROM nowhere;", "SELECT nothing FROM liked;", "SELECT * FROM posts WHERE body = 1;", "SELECT SUM(body) FROM posts;",
+    "INSERT INTO users VALUES (1, NULL, NULL, NULL);", "INSERT INTO circles VALUES (1);", "INSERT INTO circles VALUES ('one', 1);",
+    "UPDATE posts SET id = 1;", "UPDATE posts SET likes = NULL;", "UPDATE posts SET likes = body + 1;", "DELETE FROM liked;",
+]
 
 NARROW_SCHEMA = [
     "CREATE DATA_SUBJECT TABLE users (id INT PRIMARY KEY, name TEXT);",
@@ -17,7 +25,9 @@ NARROW_SCHEMA = [
     "CREATE VIEW liked AS SELECT author, COUNT(*) AS posts, SUM(likes) AS likes FROM posts GROUP BY author;",
 ]
 WIDE_SCHEMA = [
-    "CREATE DATA_SUBJECT TABLE users (id INT PRIMARY KEY, name TEXT NOT NULL, mail TEXT UNIQUE);",
+    "CREATE DATA_SUBJECT TABLE firms (name TEXT PRIMARY KEY);",
+    "CREATE DATA_SUBJECT TABLE users (id INT PRIMARY KEY, name TEXT NOT NULL, mail TEXT UNIQUE, firm TEXT ACCESSED_BY firms(name),"
+    " ON GET firm ANON (mail), ON DEL firm ANON (firm, mail));",
     "CREATE TABLE circles (id INT PRIMARY KEY, title TEXT);",
     "CREATE TABLE members (id INT PRIMARY KEY, who INT OWNED_BY users(id), circle INT OWNS circles(id));",
     "CREATE TABLE posts (id INT PRIMARY KEY, author INT OWNED_BY users(id), editor INT OWNED_BY users(id),"
@@ -25,6 +35,8 @@ WIDE_SCHEMA = [
     " ON GET circle ANON (likes), ON GET editor ANON (body, likes), ON DEL author ANON (body));",
     "CREATE TABLE notes (id INT PRIMARY KEY, post INT OWNED_BY posts(id), writer INT OWNED_BY users(id),"
     " about INT REFERENCES posts(id), ON DEL writer DELETE_ROW);",
+    "CREATE TABLE reviews (id INT PRIMARY KEY, who INT OWNED_BY users(id), post INT ACCESSES posts(id),"
+    " ON GET post ANON (likes), ON DEL post ANON (likes));",
     "CREATE VIEW liked AS SELECT author, COUNT(*) AS posts, SUM(likes) AS likes FROM posts GROUP BY author;",
 ]
 
@@ -66,23 +78,25 @@ def narrow_alone(rng):
 
 
 def wide_setup():
-    calls = list(WIDE_SCHEMA)
-    calls += [f"INSERT INTO users VALUES ({n}, 'it''s {n}', 'm{n}');" for n in range(1, USERS + 1)]
+    calls = list(WIDE_SCHEMA) + ["INSERT INTO firms VALUES ('red'), ('blue');"]
+    calls += [f"INSERT INTO users VALUES ({n}, 'it''s {n}', 'm{n}', {'NULL' if n == 1 else FIRMS[n % 2]});" for n in range(1, USERS + 1)]
     for n in range(1, CIRCLES):
         calls += ["BEGIN;", f"INSERT INTO circles VALUES ({n}, 'circle {n}');",
                   f"INSERT INTO members VALUES ({n}, {n}, {n}), ({n + 6}, {n + 1}, {n});", "COMMIT;"]
     calls += [f"INSERT INTO posts VALUES ({n}, {n % USERS + 1}, {n // 2 + 1}, {n % 2 + 1}, {n}, 'body');" for n in range(1, 5)]
-    return calls + ["INSERT INTO posts VALUES (5, 3, NULL, NULL, 0, NULL);",
+    return calls + ["INSERT INTO posts VALUES (5, 3, NULL, NULL, 0, NULL);", "INSERT INTO reviews VALUES (1, 1, 5), (2, 4, 1);",
                     "INSERT INTO notes VALUES (1, 1, 2, NULL), (2, 2, NULL, 3), (3, NULL, 4, 1);"]
 
 
-def wide_statement(rng):
-    """One statement, over rows of every class; now and then one that is refused as it runs or when it commits."""
-    def nullable(most):
-        return rng.choice(["NULL", *range(1, most + 1), *range(1, most + 1)])
-    user, post, circle = rng.randint(1, USERS), rng.randint(1, POSTS // 2), rng.randint(1, CIRCLES)
-    member, note = rng.randint(1, 8), rng.randint(1, 6)
-    reads = [
+def nullable(rng, values):
+    """One of these, now and then NULL."""
+    return "NULL" if rng.random() < 0.15 else rng.choice(values)
+
+
+def wide_read(rng):
+    """A SELECT over rows of every class."""
+    user, post, circle = rng.choice(WIDE_USERS), rng.choice(WIDE_POSTS), rng.choice(WIDE_CIRCLES)
+    return rng.choice([
         f"SELECT * FROM posts WHERE id = {post};",
         f"SELECT id, likes FROM posts WHERE author = {user} ORDER BY likes DESC;",
         f"SELECT * FROM posts WHERE editor = {user} AND id = {post};",
@@ -92,40 +106,58 @@ def wide_statement(rng):
         f"SELECT who, COUNT(*) FROM members WHERE circle = {circle} GROUP BY who;",
         "SELECT * FROM notes ORDER BY about;",
         f"SELECT * FROM users WHERE id = {user};",
-    ]
-    writes = [
-        f"INSERT INTO posts VALUES ({post}, {nullable(USERS)}, {nullable(USERS)}, {nullable(CIRCLES)}, 0, 'new');",
-        f"INSERT INTO members VALUES ({member}, {nullable(USERS)}, {nullable(CIRCLES)});",
+    ])
+
+
+def wide_insert(rng):
+    user, post, circle = [rng.choice(values) for values in (WIDE_USERS, WIDE_POSTS, WIDE_CIRCLES)]
+    nobody, nothing, nowhere = [nullable(rng, values) for values in (WIDE_USERS, WIDE_POSTS, WIDE_CIRCLES)]
+    return rng.choice([
+        f"INSERT INTO posts VALUES ({post}, {nobody}, {nullable(rng, WIDE_USERS)}, {nowhere}, 0, 'new');",
+        f"INSERT INTO members VALUES ({rng.randint(1, 8)}, {nobody}, {nowhere});",
+        f"INSERT INTO reviews VALUES ({rng.randint(1, 4)}, {nobody}, {nothing});",
         f"INSERT INTO circles VALUES ({circle}, 'more');",
-        f"INSERT INTO notes VALUES ({note}, {nullable(POSTS // 2)}, {nullable(USERS)}, {nullable(POSTS // 2)}), ({note + 1}, {post}, {user}, NULL);",
-        f"INSERT INTO users VALUES ({user}, 'again', {rng.choice(['NULL', chr(39) + 'm1' + chr(39)])});",
+        f"INSERT INTO notes VALUES ({post + 1}, {nothing}, {nobody}, {nullable(rng, WIDE_POSTS)}), ({post}, {post}, {user}, NULL);",
+        f"INSERT INTO users VALUES ({user}, 'again', {rng.choice(MAILS)}, {nullable(rng, FIRMS)});",
+        f"INSERT INTO firms VALUES ({rng.choice(FIRMS)});",
+    ])
+
+
+def wide_change(rng):
+    """An UPDATE or a DELETE; now and then one that is refused as it runs or when it commits."""
+    user, post = rng.choice(WIDE_USERS), rng.choice(WIDE_POSTS)
+    nobody, nowhere = nullable(rng, WIDE_USERS), nullable(rng, WIDE_CIRCLES)
+    return rng.choice([
         f"UPDATE posts SET likes = likes + 1 WHERE id = {post};",
-        f"UPDATE posts SET author = {nullable(USERS)}, circle = {nullable(CIRCLES)} WHERE id = {post};",
-        f"UPDATE posts SET likes = likes - {rng.choice([1, 2 ** 63 - 1])} WHERE author = {user};",
+        f"UPDATE posts SET author = {nobody}, circle = {nowhere} WHERE id = {post};",
+        f"UPDATE posts SET likes = likes + {rng.choice([1, GREATEST])} WHERE author = {user};",
+        f"UPDATE posts SET likes = likes - {rng.choice([1, GREATEST])} WHERE id = {post};",
         f"UPDATE posts SET likes = editor + 1, body = NULL WHERE id = {post};",
-        f"UPDATE users SET mail = {rng.choice(['NULL', chr(39) + 'm2' + chr(39)])} WHERE id = {user};",
-        f"UPDATE members SET who = {nullable(USERS)}, circle = {nullable(CIRCLES)} WHERE id = {member};",
-        f"DELETE FROM {rng.choice(['posts', 'members', 'notes', 'circles'])} WHERE id = {post};",
+        f"UPDATE users SET mail = {rng.choice(MAILS)} WHERE id = {user};",
+        f"UPDATE users SET firm = {nullable(rng, FIRMS)} WHERE id = {user};",
+        f"UPDATE users SET name = mail WHERE id = {user};",
+        f"UPDATE members SET who = {nobody}, circle = {nowhere} WHERE id = {rng.randint(1, 8)};",
+        f"UPDATE reviews SET post = {nullable(rng, WIDE_POSTS)} WHERE who = {user};",
+        f"DELETE FROM {rng.choice(['posts', 'members', 'notes', 'reviews', 'circles'])} WHERE id = {post};",
         f"DELETE FROM users WHERE id = {user} AND name = 'again';",
-    ]
-    return rng.choice(rng.choice([reads, writes, writes]))
+    ])
+
+
+def wide_statement(rng):
+    return rng.choice([wide_read, wide_insert, wide_change])(rng)
 
 
 def wide_alone(rng):
     """A call that stands outside transactions, or one that is refused for its names and kinds."""
-    user = rng.randint(1, USERS)
+    user = rng.choice(WIDE_USERS)
     return rng.choice([
         f"GDPR GET users {user};",
         f"GDPR GET users {user};",
         f"GDPR FORGET users {user};",
-        f"GDPR GET {rng.choice(['posts', 'liked', 'nowhere'])} 1;",
-        "GDPR FORGET users 'one';",
+        f"GDPR {rng.choice(['GET', 'GET', 'FORGET'])} firms {rng.choice(FIRMS)};",
+        rng.choice(["GDPR GET posts 1;", "GDPR GET liked 1;", "GDPR GET nowhere 1;", "GDPR FORGET users 'one';"]),
         rng.choice(["EXPLAIN COMPLIANCE;", "CHECKPOINT;", "ROLLBACK;"]),
-        rng.choice([
-            "SELECT nothing FROM nowhere;", "SELECT nothing FROM liked;", "UPDATE posts SET id = 1;", "UPDATE posts SET likes = NULL;",
-            "INSERT INTO users VALUES (1, NULL, NULL);", "INSERT INTO circles VALUES (1);", "INSERT INTO circles VALUES ('one', 1);",
-            "SELECT * FROM posts WHERE body = 1;", "DELETE FROM liked;", "SELECT SUM(body) FROM posts;",
-            "UPDATE posts SET likes = body + 1;"]),
+        rng.choice(REFUSED),
     ])
 
 

@@ -15,7 +15,7 @@ Column = namedtuple("Column", "name kind not_null unique refers")  # refers: Non
 Table = namedtuple("Table", "name subject key columns")  # key: the position of the primary key
 
 # Statements. Where: the columns and the values that they have to equal. Items: None for all columns, else what each
-# is ("column", "count" or "sum"), of which column, and its name. Sets: a column, and a value or a column and a number.
+# is ("column", "count" or "sum"), of which column, and its name. Sets: a column, and a Value, a Copy or a Sum.
 CreateTable = namedtuple("CreateTable", "table rules")
 CreateView = namedtuple("CreateView", "name select")
 Select = namedtuple("Select", "items source where group order")
@@ -26,6 +26,7 @@ Get = namedtuple("Get", "table key")
 Forget = namedtuple("Forget", "table key")
 Control = namedtuple("Control", "word")
 Value = namedtuple("Value", "value")
+Copy = namedtuple("Copy", "column")
 Sum = namedtuple("Sum", "column number")
 Item = namedtuple("Item", "what column name")
 
@@ -159,14 +160,17 @@ def read_where(reader):
 
 
 def read_set(reader):
+    """A column, and what it is set to: a value, another column's, or that with a number added."""
     column = reader.name()
     reader.wants("=")
-    if reader.left and re.match(r"[A-Za-z_]", reader.left[0]) and reader.left[0].upper() != "NULL":
-        summed = reader.name()
-        if reader.takes("+"):
-            return column, Sum(summed, reader.number())
-        return column, Sum(summed, -reader.number() if reader.takes("-") else 0)
-    return column, Value(reader.literal())
+    if reader.takes("NULL"):
+        return column, Value(None)
+    if not reader.left or not re.match(r"[A-Za-z_]", reader.left[0]):
+        return column, Value(reader.literal())
+    other = reader.name()
+    if reader.takes("+"):
+        return column, Sum(other, reader.number())
+    return column, Sum(other, -reader.number()) if reader.takes("-") else Copy(other)
 
 
 def read_table(reader):
@@ -210,3 +214,22 @@ def read_column(reader, keys):
             refers = (word, reader.name()) if word else reader.wants("REFERENCES")
             reader.bracketed(reader.name)
     return Column(name, kind, not_null, unique, refers)
+
+
+def calls_of(script):
+    """The calls of a script, each with its session."""
+    calls, session, piece = [], 1, ""
+    for found in re.finditer(r"'(?:[^']|'')*'|--[^\n]*|;|[^';-]+|.", script):
+        part, begins = found.group(), found.start() == 0 or script[found.start() - 1] == "\n"
+        if begins and part.startswith("-- session ") and not piece.strip():
+            session = int(part.split()[2])
+        elif part.startswith("--"):
+            piece += " "
+        elif part == ";" and piece.strip():
+            calls.append((session, piece.strip() + ";"))
+            piece = ""
+        elif part != ";":
+            piece += part
+    if piece.strip():
+        raise Unknown("the model knows no call that isn't closed")
+    return calls
