@@ -67,10 +67,6 @@ def position(columns, name):
     return names.index(name) if name in names else None
 
 
-def table_number(db, table):
-    return list(db.tables).index(table)
-
-
 def rows_of(db, table):
     """A table's rows, by key."""
     return [db.rows[table][key] for key in sorted(db.rows[table], key=rank)]
@@ -107,6 +103,7 @@ def is_true(columns, where, row):
 
 
 def is_grouped(select):
+    """Whether a SELECT counts, sums or groups, so that a row stands for many."""
     return select.group is not None or any(item.what != "column" for item in select.items or [])
 
 
@@ -142,6 +139,7 @@ def grouped(columns, select, kept):
 
 
 def group_row(columns, select, value, rows):
+    """The row of a group: its value, how many rows it has, and the sum of their values but NULL; NULL where none is left."""
     def cell(item):
         if item.what == "column":
             return value
@@ -156,10 +154,12 @@ def group_row(columns, select, value, rows):
 # ---- what a statement is refused for before it runs ----
 
 def kind_of(value):
+    """The kind of a value that isn't NULL."""
     return "TEXT" if isinstance(value, str) else "INT"
 
 
 def fits(column, value):
+    """Whether a value is of its column's kind; NULL is of every kind."""
     return value is None or kind_of(value) == column.kind
 
 
@@ -185,10 +185,12 @@ def binding_faults(db, statement):
 
 
 def column_faults(columns, names):
+    """The names that aren't those of columns."""
     return [(3, f"column {name}") for name in names if position(columns, name) is None]
 
 
 def where_faults(columns, where):
+    """The faults of a condition: a column that isn't there, or a value of the other kind."""
     found = []
     for name, value in where:
         found += column_faults(columns, [name])
@@ -199,6 +201,7 @@ def where_faults(columns, where):
 
 
 def select_faults(columns, select):
+    """The faults of a SELECT: of its items, its condition, its group and its order. A grouped one is ordered by its items."""
     items = select.items or []
     faults = []
     for item in items:
@@ -218,6 +221,7 @@ def select_faults(columns, select):
 
 
 def tuple_faults(columns, row):
+    """The faults of a tuple of an INSERT, whose values go to the columns one by one."""
     pairs = list(zip(columns, row))
     faults = [(4, f"kind {column.name}") for column, value in pairs if not fits(column, value)]
     if len(row) != len(columns):
@@ -226,6 +230,7 @@ def tuple_faults(columns, row):
 
 
 def update_faults(table, update):
+    """The faults of what an UPDATE sets; a column is set once."""
     faults, named = [], []
     for name, expression in update.sets:
         faults += set_faults(table, name, expression)
@@ -236,6 +241,7 @@ def update_faults(table, update):
 
 
 def set_faults(table, name, expression):
+    """The faults of one column that is set. A sum is of numbers, and the primary key stays as it is."""
     columns = table.columns
     used = [name] if isinstance(expression, Value) else [name, expression.column]
     if column_faults(columns, used):
@@ -289,11 +295,13 @@ def left_by(db, statements):
 
 
 def run_select(db, select):
+    """The rows, a line each."""
     rows = query(db, select)
     return db, [f"rows {len(rows)}"] + ["  " + "|".join(map(shown, row)) for row in rows]
 
 
 def run_insert(db, insert):
+    """The table with the tuples; none of them may have the key of a row or of a tuple before it."""
     key = db.tables[insert.table].key
     rows = rows_of(db, insert.table)
     for row in map(tuple, insert.tuples):
@@ -304,6 +312,7 @@ def run_insert(db, insert):
 
 
 def run_delete(db, delete):
+    """The table without the rows of which the condition is true."""
     columns = db.tables[delete.table].columns
     rows = rows_of(db, delete.table)
     left = [row for row in rows if not is_true(columns, delete.where, row)]
@@ -315,7 +324,8 @@ def run_update(db, update):
     columns = db.tables[update.table].columns
     rows = rows_of(db, update.table)
     changing = [row for row in rows if is_true(columns, update.where, row)]
-    values = [(columns[position(columns, name)], value_of(columns, expression, row)) for row in changing for name, expression in update.sets]
+    values = [(columns[position(columns, name)], value_of(columns, expression, row))
+              for row in changing for name, expression in update.sets]
     nulls = [column.name for column, value in values if value is None and column.not_null]
     past = [column.name for column, value in values if isinstance(value, int) and not LEAST <= value <= GREATEST]
     if nulls or past:
@@ -325,6 +335,7 @@ def run_update(db, update):
 
 
 def value_of(columns, expression, row):
+    """What a column is set to, over a row as it was. A sum with NULL is NULL."""
     if isinstance(expression, Value):
         return expression.value
     before = row[position(columns, expression.column)]
@@ -332,16 +343,19 @@ def value_of(columns, expression, row):
 
 
 def updated(columns, sets, row):
+    """A row with what its columns are set to."""
     given = {name: value_of(columns, expression, row) for name, expression in sets}
     return tuple(given.get(column.name, value) for column, value in zip(columns, row))
 
 
 def run_get(db, get):
+    """The rows that lead to the subject, each after the name of its table."""
     rows = got(db, (get.table, get.key))
     return db, [f"got {len(rows)}"] + ["  " + "|".join(cells) for cells in rows]
 
 
 def run_forget(db, forget):
+    """What is left without the subject, and how many rows it took with it or changed."""
     left, removed, changed = forgotten(db, (forget.table, forget.key))
     return left, [f"forgot {len(removed)} removed {len(changed)} changed"]
 
@@ -371,6 +385,7 @@ def edge_of(tables, table, column, rules):
 
 
 def run_view(db, create):
+    """The view at the end."""
     if create.name in db.tables or create.name in db.views:
         raise Refused(f"taken {create.name}")
     return db._replace(views={**db.views, create.name: create.select}), ["ok"]
@@ -387,6 +402,7 @@ RUNS = {Select: run_select, Insert: run_insert, Update: run_update, Delete: run_
 
 
 def graph(db):
+    """Of each table what it is to subjects, and under it the edges that its columns hold."""
     lines = []
     for table in db.tables.values():
         kind = "subject" if table.subject else "private" if is_private(db, table.name) else "public"
@@ -397,6 +413,7 @@ def graph(db):
 
 
 def edge_line(db, edge):
+    """An edge, with the columns that it hides and those that it blanks, or that it deletes the row."""
     def names(ruled):
         return "(" + ", ".join(db.tables[edge.lower].columns[at].name for at in sorted(ruled)) + ")"
     other = edge.upper if edge.holder == edge.lower else edge.lower
@@ -440,10 +457,12 @@ def leading(db, among, ends):
 
 
 def owner_steps(db):
+    """The steps on owner edges."""
     return [step for step in steps(db) if step[0].owner]
 
 
 def subjects(db):
+    """The rows of subject tables."""
     return {name for name in names_of(db) if db.tables[name[0]].subject}
 
 
@@ -455,22 +474,28 @@ def first_edges(db, subject, name):
 
 
 def got(db, subject):
-    """The rows that lead to a subject, with what is shown of them.
-
-    A value is hidden where all edges on which the row leads there hide it. Of the subject's own row nothing is hidden.
-    """
+    """The rows that lead to a subject, by table, then key, with what is shown of them."""
     refuse_absent(db, subject)
     reached = leading(db, steps(db), {subject})
-    rows = []
-    for name in [name for name in names_of(db) if name in reached]:
-        edges = first_edges(db, subject, name)
-        hidden = {at for at in range(len(db.tables[name[0]].columns)) if name != subject and all(at in edge.hides for edge in edges)}
-        row = db.rows[name[0]][name[1]]
-        rows.append([name[0]] + ["HIDDEN" if at in hidden else shown(value) for at, value in enumerate(row)])
-    return rows
+    return [got_row(db, subject, name) for name in names_of(db) if name in reached]
+
+
+def got_row(db, subject, name):
+    """The table of a row and what is shown of it: a value is hidden where all edges on which the row leads there hide it.
+
+    Of the subject's own row nothing is hidden.
+    """
+    table, key = name
+    edges = first_edges(db, subject, name)
+
+    def is_hidden(at):
+        return name != subject and all(at in edge.hides for edge in edges)
+
+    return [table] + ["HIDDEN" if is_hidden(at) else shown(value) for at, value in enumerate(db.rows[table][key])]
 
 
 def refuse_absent(db, subject):
+    """Refused, where there is no such row."""
     if subject[1] not in db.rows[subject[0]]:
         raise Refused(f"absent {subject[0]} {shown(subject[1])}")
 
@@ -571,10 +596,12 @@ def footprint(db, statement):
 
 
 def overlap(one, other):
+    """Whether two items may be the same row, which one of them writes."""
     return one.table == other.table and (one.writes or other.writes) and (one.key is None or other.key is None or one.key == other.key)
 
 
 def lies_on(name, held):
+    """Whether a row is one of those that are held."""
     return name[0] == held.table and held.key in (None, name[1])
 
 
@@ -621,7 +648,7 @@ class History:
             raise Refused("inside")
         block = self.standing.pop(session).block
         if statement == Control("COMMIT"):
-            self.prove_serial(session, block)
+            self.check_serial(session, block)
             left = left_by(self.db, [stated.statement for stated in block])
             settle(left)
             self.db = left
@@ -672,6 +699,7 @@ class History:
                     raise Refused(f"conflict {other} {item.table} {'*' if item.key is None else shown(item.key)}")
 
     def refuse_busy(self, session):
+        """Refused, where another session is in a transaction: the lowest such."""
         for other in sorted(self.standing):
             if other != session and isinstance(self.standing[other], Open):
                 raise Refused(f"busy {other}")
@@ -683,7 +711,7 @@ class History:
             if any(lies_on(name, item) for name in removed | changed for item in self.held(session)):
                 self.standing[session] = Doomed(place)
 
-    def prove_serial(self, session, block):
+    def check_serial(self, session, block):
         """A transaction run whole, all at once, gives at its end what its statements were answered on their way."""
         db = self.db
         for stated in block:

@@ -6,7 +6,7 @@ keep to few rows, so that sessions conflict and erasures find transactions to en
 """
 from collections import namedtuple
 
-Sort = namedtuple("Sort", "setup statement alone")  # the calls before, and what gives a statement or a call outside
+Sort = namedtuple("Sort", "setup statement alone")  # the calls before; what gives a statement, and a call that stands outside
 
 USERS, POSTS, ACCOUNTS, CIRCLES = 4, 12, 3, 3
 WIDE_USERS, WIDE_POSTS, WIDE_CIRCLES = [1, 2, 3, 4], [1, 2, 3, 4, 5, 6], [1, 2, 3]
@@ -16,6 +16,8 @@ REFUSED = [
     "SELECT nothing FROM nowhere;", "SELECT nothing FROM liked;", "SELECT * FROM posts WHERE body = 1;", "SELECT SUM(body) FROM posts;",
     "INSERT INTO users VALUES (1, NULL, NULL, NULL);", "INSERT INTO circles VALUES (1);", "INSERT INTO circles VALUES ('one', 1);",
     "UPDATE posts SET id = 1;", "UPDATE posts SET likes = NULL;", "UPDATE posts SET likes = body + 1;", "DELETE FROM liked;",
+    "INSERT INTO circles VALUES (NULL, 1);", "INSERT INTO circles VALUES (NULL), (1, 1);", "UPDATE posts SET likes = NULL, id = 'one';",
+    "UPDATE posts SET likes = 'no', likes = NULL WHERE nothing = 1;", "SELECT id FROM posts WHERE body = 1 ORDER BY nothing;",
 ]
 
 NARROW_SCHEMA = [
@@ -42,6 +44,7 @@ WIDE_SCHEMA = [
 
 
 def narrow_setup():
+    """The calls before: few rows, and no two owners of one."""
     calls = list(NARROW_SCHEMA)
     calls += [f"INSERT INTO users VALUES ({n}, 'user {n}');" for n in range(1, USERS + 1)]
     calls += [f"INSERT INTO posts VALUES ({n}, {n % USERS + 1}, 0);" for n in range(1, POSTS // 2 + 1)]
@@ -78,6 +81,7 @@ def narrow_alone(rng):
 
 
 def wide_setup():
+    """The calls before: rows of every class, with one owner and with two."""
     calls = list(WIDE_SCHEMA) + ["INSERT INTO firms VALUES ('red'), ('blue');"]
     calls += [f"INSERT INTO users VALUES ({n}, 'it''s {n}', 'm{n}', {'NULL' if n == 1 else FIRMS[n % 2]});" for n in range(1, USERS + 1)]
     for n in range(1, CIRCLES):
@@ -110,6 +114,7 @@ def wide_read(rng):
 
 
 def wide_insert(rng):
+    """An INSERT, of a row that may be there, refer to nothing or have no owner."""
     user, post, circle = [rng.choice(values) for values in (WIDE_USERS, WIDE_POSTS, WIDE_CIRCLES)]
     nobody, nothing, nowhere = [nullable(rng, values) for values in (WIDE_USERS, WIDE_POSTS, WIDE_CIRCLES)]
     return rng.choice([
@@ -128,6 +133,7 @@ def wide_change(rng):
     user, post = rng.choice(WIDE_USERS), rng.choice(WIDE_POSTS)
     nobody, nowhere = nullable(rng, WIDE_USERS), nullable(rng, WIDE_CIRCLES)
     return rng.choice([
+        f"UPDATE posts SET editor = likes + {GREATEST}, likes = editor + 1 WHERE author = {user};",
         f"UPDATE posts SET likes = likes + 1 WHERE id = {post};",
         f"UPDATE posts SET author = {nobody}, circle = {nowhere} WHERE id = {post};",
         f"UPDATE posts SET likes = likes + {rng.choice([1, GREATEST])} WHERE author = {user};",
@@ -144,6 +150,7 @@ def wide_change(rng):
 
 
 def wide_statement(rng):
+    """One statement over rows of every class."""
     return rng.choice([wide_read, wide_insert, wide_change])(rng)
 
 

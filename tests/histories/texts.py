@@ -49,21 +49,25 @@ class Reader:
         return True
 
     def wants(self, *words):
+        """These words come next, and are taken; else the text is Unknown."""
         if not self.takes(*words):
             raise Unknown(f"the model can't read {self.text!r}")
 
     def name(self):
+        """The name that comes next, in lower case."""
         if not self.left or not re.fullmatch(r"[A-Za-z_]\w*", self.left[0]):
             raise Unknown(f"the model can't read {self.text!r}")
         return self.left.pop(0).lower()
 
     def number(self):
+        """The number that comes next, with its sign."""
         sign = -1 if self.takes("-") else 1
         if not self.left or not self.left[0].isdigit():
             raise Unknown(f"the model can't read {self.text!r}")
         return sign * int(self.left.pop(0))
 
     def literal(self):
+        """The value that comes next."""
         if self.takes("NULL"):
             return None
         if self.left and self.left[0].startswith("'"):
@@ -78,6 +82,7 @@ class Reader:
         return found
 
     def bracketed(self, read):
+        """A list in brackets."""
         self.wants("(")
         found = self.listed(read)
         self.wants(")")
@@ -95,6 +100,7 @@ def read(text):
 
 
 def read_statement(reader):
+    """A statement, by its first words."""
     for word in CONTROLS:
         if reader.takes(*word.split()):
             return Control(word)
@@ -124,6 +130,7 @@ def read_statement(reader):
 
 
 def read_select(reader):
+    """What stands behind the word SELECT."""
     items = None if reader.takes("*") else reader.listed(lambda: read_item(reader))
     reader.wants("FROM")
     source = reader.name()
@@ -134,6 +141,7 @@ def read_select(reader):
 
 
 def read_item(reader):
+    """An item of a SELECT, with its name."""
     if reader.takes("COUNT", "(", "*", ")"):
         what, column, name = "count", None, "count"
     elif reader.takes("SUM", "("):
@@ -181,10 +189,7 @@ def read_table(reader):
 
     def part():
         if reader.takes("ON"):
-            word = "GET" if reader.takes("GET") else "DEL" if reader.takes("DEL") else reader.wants("GET")
-            column = reader.name()
-            named = None if reader.takes("DELETE_ROW") else reader.wants("ANON") or reader.bracketed(reader.name)
-            rules.append((word, column, named))
+            rules.append(read_rule(reader))
         else:
             columns.append(read_column(reader, keys))
 
@@ -195,10 +200,34 @@ def read_table(reader):
     return CreateTable(Table(name, subject, position, columns), rules)
 
 
+def read_reference(reader):
+    """A reference of a column: its word and its table. The column that is named there is that table's primary key."""
+    for word in REFERENCES:
+        if reader.takes(word):
+            table = reader.name()
+            reader.bracketed(reader.name)
+            return word, table
+    raise Unknown(f"the model can't read {reader.text!r}")
+
+
+def read_rule(reader):
+    """A rule of a CREATE TABLE, behind the word ON."""
+    word = "GET" if reader.takes("GET") else "DEL"
+    if word == "DEL":
+        reader.wants("DEL")
+    column = reader.name()
+    if reader.takes("DELETE_ROW"):
+        return word, column, None
+    reader.wants("ANON")
+    return word, column, reader.bracketed(reader.name)
+
+
 def read_column(reader, keys):
     """A column of a CREATE TABLE; where it is the primary key its name is put to the keys."""
     name = reader.name()
-    kind = "INT" if reader.takes("INT") else reader.wants("TEXT") or "TEXT"
+    kind = "INT" if reader.takes("INT") else "TEXT"
+    if kind == "TEXT":
+        reader.wants("TEXT")
     not_null = unique = False
     refers = None
     while reader.left[0] not in (",", ")"):
@@ -210,9 +239,7 @@ def read_column(reader, keys):
         elif reader.takes("UNIQUE"):
             unique = True
         else:
-            word = next((word for word in REFERENCES if reader.takes(word)), None)
-            refers = (word, reader.name()) if word else reader.wants("REFERENCES")
-            reader.bracketed(reader.name)
+            refers = read_reference(reader)
     return Column(name, kind, not_null, unique, refers)
 
 
