@@ -1,11 +1,26 @@
 """What programs take of the processor, for the benches: their own work, and no waiting and no other program."""
 import functools
+import hashlib
+import os
 import resource
 import shutil
 import signal
 import subprocess
 import tempfile
 import time
+
+
+def measured_on(program):
+    """A line for the top of a bench: the commit of this checkout, the program by its SHA-256, and the machine's processors."""
+    top = os.path.dirname(os.path.dirname(os.path.realpath(__file__)))
+    done = subprocess.run(["git", "-C", top, "rev-parse", "HEAD"], capture_output=True, text=True)
+    commit = done.stdout.strip() if done.returncode == 0 else "unknown"
+    with open(program, "rb") as file:
+        digest = hashlib.file_digest(file, "sha256").hexdigest()
+    with open("/proc/cpuinfo") as file:
+        models = [line.partition(":")[2].strip() for line in file if line.startswith("model name")]
+    model = models[0] if models else "of an unknown model"
+    return f"commit {commit}, program {os.path.basename(program)} {digest[:12]}, {os.cpu_count()} processors {model}"
 
 
 def spent():
