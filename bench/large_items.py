@@ -15,8 +15,7 @@ from running import built, run
 
 SEED, PEOPLE = 7, 5_000
 MOST_CALLS, LONGEST_INPUT, MOST_ROWS, OWNERS = 200_000, 67_108_864, 1_000_000, 1_000
-TOGETHER, PRINTS, LOOKS, SIZES = 500, 3, 150_000, (1_000, 10_000, 100_000, 900_000)
-NOTHING = 1e-9
+TOGETHER, PRINTS, LOOKS, SIZES = 500, 5, 150_000, (1_000, 10_000, 100_000, 900_000)
 
 
 class Job:
@@ -34,10 +33,15 @@ class Job:
             return taken
 
 
+def ratio(one, other):
+    """The first by the second; or no number, where a difference of two runs is less than these vary."""
+    return one / other if one > 0 and other > 0 else math.nan
+
+
 @dataclasses.dataclass
 class Part:
     """A figure of this program and one of a peer, each worked out of the least runs by their names; a bar is of the first by the second.
-    A profile is of the run `job`, behind what the run `off` does; `event` is what perf counts."""
+    A profile is of the run `job`, behind what the run `off` does, and of the run `also`; `event` is what perf counts."""
 
     title: str
     own: object
@@ -47,10 +51,12 @@ class Part:
     unit: str = "s"
     job: str | None = None
     off: str | None = None
+    also: str | None = None
     event: str = "cpu-clock"
 
     def figure(self, best):
-        return self.own(best) / max(self.peer(best), NOTHING)
+        """The first by the second; or no number, which meets no bar."""
+        return ratio(self.own(best), self.peer(best))
 
     def met(self, figure):
         return figure >= self.wanted if self.at_least else figure <= self.wanted
@@ -69,7 +75,7 @@ class Item:
 
 def seconds(name, off=None, count=1):
     """The seconds of the processor of one of so many calls that a run makes more than the run `off`."""
-    return lambda best: max(best[name].processor - (best[off].processor if off else 0), NOTHING) / count
+    return lambda best: (best[name].processor - (best[off].processor if off else 0)) / count
 
 
 def memory(name):
@@ -257,9 +263,10 @@ def made(bench):
         Part("one copy of the images, beside the whole", copied, seconds(whole)),
         Part("memory of the whole, beside SQLite's", memory(whole), memory(peer_whole), 1.5, unit="MiB", job=whole, event="page-faults"),
     ]
-    for title, run_of, bar in (("before the erasures", before, 1.1), ("the whole", whole, 1.1), ("SQLite before the erasures", peer_before, None), ("SQLite, the whole", peer_whole, None)):
-        parts.append(Part(f"{title}: the exponent from {fewer} to {more}", exponent((run_of.replace(more, fewer), run_of), sizes), lambda _: 1.0,
-                          bar, unit="", job=run_of if bar else None))
+    for title, large, bar in (("before the erasures", before, 1.1), ("the whole", whole, 1.1), ("SQLite, before", peer_before, None), ("SQLite, the whole", peer_whole, None)):
+        small = large.replace(more, fewer)
+        parts.append(Part(f"{title}: the exponent from {fewer} on", exponent((small, large), sizes), lambda _: 1.0, bar, unit="",
+                          job=large if bar else None, also=small))
     return Item(f"the large script over `-`, {more}", jobs, parts, [f"{len(lengths):,} images of {sum(lengths):,} bytes together"])
 
 
@@ -288,7 +295,7 @@ def in_folder(bench):
         "C: no commit": Job(lambda: [syncs, places, "2"]),
         "C: two syncs a commit": Job(lambda: [syncs, places, "2", *map(str, lengths)]),
     }
-    rate = lambda name, off: lambda best: len(lengths) / max(best[name].wall - best[off].wall, NOTHING)
+    rate = lambda name, off: lambda best: ratio(len(lengths), best[name].wall - best[off].wall)
     all_of = "subjectdb: the calls before the erasures"
     part = Part("commits a second in a folder, of two syncs'", rate(all_of, "subjectdb: the CREATEs alone"), rate("C: two syncs a commit", "C: no commit"),
                 0.9, at_least=True, unit="a second", job=all_of)
@@ -300,7 +307,8 @@ def inserts(bench):
     people = [*many("users", [f"({person})" for person in range(OWNERS)], OWNERS)]
     kinds = (
         ("a plain table", ["CREATE TABLE items (id INT PRIMARY KEY, n INT, name TEXT);\n"], [], []),
-        ("a table with an owner", ["CREATE DATA_SUBJECT TABLE users (id INT PRIMARY KEY);\n", "CREATE TABLE items (id INT PRIMARY KEY, n INT OWNED_BY users(id), name TEXT);\n"],
+        ("a table with an owner", ["CREATE DATA_SUBJECT TABLE users (id INT PRIMARY KEY);\n",
+                                   "CREATE TABLE items (id INT PRIMARY KEY, n INT OWNED_BY users(id), name TEXT);\n"],
          ["CREATE INDEX by_n ON items (n);\n"], people),
     )
     for title, create, indexes, first in kinds:
