@@ -1,11 +1,30 @@
 """What programs take of the processor, for the benches: their own work, and no waiting and no other program."""
 import functools
+import hashlib
+import os
 import resource
 import shutil
 import signal
 import subprocess
 import tempfile
 import time
+
+
+def measured_on(program):
+    """A line for the top of a bench: the commit of this checkout, the program by its SHA-256, whether a released one is of other sources
+    than those of the checkout, and the machine's processors."""
+    top = os.path.dirname(os.path.dirname(os.path.realpath(__file__)))
+    done = subprocess.run(["git", "-C", top, "rev-parse", "HEAD"], capture_output=True, text=True)
+    commit = done.stdout.strip() if done.returncode == 0 else "unknown"
+    with open(program, "rb") as file:
+        digest = hashlib.file_digest(file, "sha256").hexdigest()
+    listed, other = os.path.join(os.path.dirname(os.path.abspath(program)), "sources.sha256"), ""
+    if os.path.exists(listed) and subprocess.run([os.path.join(top, "tools", "sources-checksum"), "--differences", listed], capture_output=True).stdout:
+        other = " (of other sources than this commit's)"
+    with open("/proc/cpuinfo") as file:
+        models = [line.partition(":")[2].strip() for line in file if line.startswith("model name")]
+    model = models[0] if models else "of an unknown model"
+    return f"commit {commit}, program {os.path.basename(program)} {digest[:12]}{other}, {os.cpu_count()} processors {model}"
 
 
 def spent():
