@@ -22,7 +22,7 @@ module _ (D : RattleType) (g : Ghosts D.Denot) (sent : IsSend D) where
   inside_send : IsSend (Inside.the_field D g).row
   inside_send =
       struct_send (shape (Inside.the_type D g))
-      (search sendable, (state_send, (Vec-send Entry.the_row entry_send, (store.the_field_send D sent, (search (sendable, crosses) depth 5, (search sendable, (search sendable, (search sendable, (search (sendable, place.the_send) depth 20, tt)))))))))
+      (search sendable, (state_send, (search (sendable, snapshot_send) depth 5, (Vec-send Entry.the_row entry_send, (store.the_field_send D sent, (search (sendable, crosses) depth 5, (search sendable, (search sendable, (search sendable, (search (sendable, place.the_send) depth 20, tt))))))))))
 
   pub engine_send : IsSend (Engine.the_row D g)
   engine_send = search (sendable, inside_send) depth 5

@@ -1,4 +1,4 @@
-ghost use Rattle.std.specs.Prelude.{◌≡◌, ◌≢◌, ◌≤◌, ◌<◌, ◌^◌, ℕ, List, [], ◌-◌, ◌+◌, IsTrue, None, length, option_map, true, vec_len, IfErr, IfOk, OnErr};
+ghost use Rattle.std.specs.Prelude.{◌≡◌, ◌≢◌, ◌≤◌, ◌<◌, ◌^◌, ℕ, List, [], ◌-◌, ◌+◌, IsTrue, None, length, option_map, true, vec_len, IfErr, IfOk, IfSome, OnErr};
 ghost use Rattle.std.specs.Vec.{vec_capacity};
 ghost use Rattle.own_base.specs.declared.number.Area.{Area};
 ghost use Rattle.own_base.specs.declared.number.Area.TheVariants.{A, B};
@@ -57,6 +57,8 @@ use txn_core::Txns;
 pub struct Engine<D: Disk> {
     alloc: Global,
     state: State,
+    /// What shows the state, from the last look on until something may change.
+    seen: Option<Snapshot>,
     history: Vec<Entry>,
     store: StoreDisk<D>,
     /// The store's disk as the opening left it, for clauses alone.
@@ -68,7 +70,7 @@ pub struct Engine<D: Disk> {
 }
 
 impl<D: Disk> Model for Engine<D> {
-    ghost use Rattle.std.specs.Prelude.{◌-◌, vec_len};
+    ghost use Rattle.std.specs.Prelude.{◌≡◌, ◌-◌, IfSome, vec_len};
     ghost use Rattle.std.specs.Vec.{vec_capacity};
     ghost use Rattle.engine_core.specs.Seen.{Seen};
     ghost use Rattle.own_model.specs.contracts.condition.Cond as cond;
@@ -83,7 +85,7 @@ impl<D: Disk> Model for Engine<D> {
 
     ghost use Rattle.engine_core.specs.Made.{Stands};
 
-    ghost invariant = { λ engine. Stands D.holds D.leaves D.moment D.might_have_left D.honest D.faults engine.opening.value.journal.disk engine.start (record { epoch = engine.epoch; end = engine.end }) engine.state engine.store engine.down engine.history.items };
+    ghost invariant = { λ engine. Stands D.holds D.leaves D.moment D.might_have_left D.honest D.faults engine.opening.value.journal.disk engine.start (record { epoch = engine.epoch; end = engine.end }) engine.state engine.store engine.down engine.history.items × IfSome engine.seen (λ shown. shown ≡ engine.state.version) };
 }
 
 impl<D: Disk> Engine<D> {
@@ -133,6 +135,7 @@ impl<D: Disk> Engine<D> {
                 Ok(Engine {
                     alloc,
                     state,
+                    seen: None,
                     history,
                     store,
                     opening,
@@ -169,6 +172,7 @@ impl<D: Disk> Engine<D> {
         match make(
             self.alloc,
             &mut self.state,
+            &mut self.seen,
             &mut self.store,
             &mut self.down,
             &mut self.history,
@@ -206,6 +210,7 @@ impl<D: Disk> Engine<D> {
         match make(
             self.alloc,
             &mut self.state,
+            &mut self.seen,
             &mut self.store,
             &mut self.down,
             &mut self.history,
@@ -261,6 +266,7 @@ impl<D: Disk> Engine<D> {
         let Engine {
             alloc: _,
             state,
+            seen,
             history,
             store,
             opening: _,
@@ -275,6 +281,7 @@ impl<D: Disk> Engine<D> {
             weighs: _,
             txns,
         } = state;
+        drop(seen);
         drop(version);
         drop(txns);
         Closed {
@@ -309,6 +316,7 @@ fn under(verdict: Verdict, entry: Entry) -> Entry
 fn make<D: Disk>(
     alloc: Global,
     state: &mut State,
+    seen: &mut Option<Snapshot>,
     store: &mut StoreDisk<D>,
     down: &mut Option<Place>,
     history: &mut Vec<Entry>,
@@ -320,6 +328,7 @@ fn make<D: Disk>(
     requires represents { down.old ≡ None → RepresentsWorld state.old (world state.old.opened history.old.items) }
     requires down { (world state.old.opened history.old.items).down ≡ option_map (λ (place : Place). place.0) down.old }
     requires store { down.old ≡ None → IsUp D.holds D.leaves D.honest store.old state.old.version }
+    requires seen { IfSome seen.old (λ shown. shown ≡ state.old.version) }
     requires is_entry { IsEntry entry }
     requires took { entry.verdict ≡ Took }
     ensures made { IfOk result (λ made. IsMade D.holds D.leaves D.moment D.might_have_left D.honest D.faults state.old.opened history.old.items history.new.items state.new
@@ -329,6 +338,7 @@ fn make<D: Disk>(
     ensures spared { OnErr result (0 < vec_capacity history.old - vec_len history.old
         → MayBeUnmadeFrom (world state.old.opened history.old.items).flat.schema ((world state.old.opened history.old.items).standing entry.session.0) entry.request) }
     ensures opened { state.new.opened ≡ state.old.opened }
+    ensures seen { IfSome seen.new (λ shown. shown ≡ state.new.version) }
     ensures room { vec_capacity history.old - vec_len history.old ≤ vec_capacity history.new - vec_len history.new + 1 }
     ensures room_left { OnErr result (vec_capacity history.old - vec_len history.old ≤ vec_capacity history.new - vec_len history.new) }
 {
@@ -342,7 +352,7 @@ fn make<D: Disk>(
         let why = Refusal::Down(failed);
         return Ok((place, Came::Replied(Verdict::Took, Reply::Refused(why))));
     }
-    match serve(alloc, state, store, history, &entry, at_once) {
+    match serve(alloc, state, seen, store, history, &entry, at_once) {
         Ok(came) => {
             let verdict = verdict_by(&came);
             if is_fault(verdict) {

@@ -1,11 +1,12 @@
-ghost use Rattle.std.specs.Prelude.{◌≡◌, true, IfOk};
+ghost use Rattle.std.specs.Prelude.{◌≡◌, true, IfOk, IfSome};
 ghost use Rattle.own_model.specs.declared.limit.TheConstants.{STATEMENT_BYTES};
 ghost use Rattle.grammar_model.specs.Readable.{IsWritten};
-ghost use Rattle.state_model.specs.Sound.{Sound};
+ghost use Rattle.state_model.specs.Sound.{IsWellFormed, Sound};
 ghost use Rattle.engine_core.specs.Asked as spec;
 ghost use Rattle.engine_core.specs.Came.{IsReadAs, IsReadOf};
 
 use crate::came::{Came, answered, refused};
+use own_base::MakeCopy;
 use own_model::{Statement, Verdict};
 use plan_bind::bind;
 use std::alloc::{AllocError, Global};
@@ -22,34 +23,64 @@ pub(crate) fn reads_alone(statement: &Statement) -> bool
     )
 }
 
+/// What shows the version: the same as the look before has it, or one that is taken now and kept for the next.
+fn shown_of(
+    alloc: Global,
+    version: &Version,
+    seen: &mut Option<Snapshot>,
+) -> Result<Snapshot, AllocError>
+    requires well_formed { IsWellFormed version.now }
+    requires seen { IfSome seen.old (λ shown. shown ≡ version.now) }
+    ensures shown { IfOk result (λ shown. shown ≡ version.now) }
+    ensures seen { IfSome seen.new (λ shown. shown ≡ version.now) }
+{
+    if let Some(shown) = seen {
+        return shown.copy(alloc);
+    }
+    let shown = Snapshot::taken(alloc, version)?;
+    *seen = shown.copy(alloc).ok();
+    Ok(shown)
+}
+
 /// What a statement that reads alone comes to: what shows the database, and what the statement means over its schema; or why
 /// binding refuses it.
-fn look(alloc: Global, version: &Version, statement: &Statement) -> Result<Came, AllocError>
+fn look(
+    alloc: Global,
+    version: &Version,
+    seen: &mut Option<Snapshot>,
+    statement: &Statement,
+) -> Result<Came, AllocError>
     requires sound { Sound version.now }
+    requires seen { IfSome seen.old (λ shown. shown ≡ version.now) }
     requires written { IsWritten STATEMENT_BYTES statement.now }
-    ensures { IfOk result (IsReadOf version.now statement.now) }
+    ensures read { IfOk result (IsReadOf version.now statement.now) }
+    ensures seen { IfSome seen.new (λ shown. shown ≡ version.now) }
 {
     match bind(alloc, version.catalog().schema(), statement) {
         Ok(bound) => {
-            let shown = Snapshot::taken(alloc, version)?;
+            let shown = shown_of(alloc, version, seen)?;
             Ok(Came::Look(shown, bound))
         }
         Err(why) => Ok(Came::Replied(Verdict::Took, refused(why)?)),
     }
 }
 
-/// What a statement that reads alone comes to: a look, or its answer where that is to come at once.
+/// What a statement that reads alone comes to: a look, or its answer where that is to come at once. What shows the version is kept
+/// for the next.
 pub(crate) fn read(
     alloc: Global,
     version: &Version,
+    seen: &mut Option<Snapshot>,
     statement: &Statement,
     at_once: bool,
 ) -> Result<Came, AllocError>
     requires sound { Sound version.now }
     requires written { IsWritten STATEMENT_BYTES statement.now }
     requires reads { spec.reads_alone statement.now ≡ true }
-    ensures { IfOk result (IsReadAs at_once version.now statement.now) }
+    requires seen { IfSome seen.old (λ shown. shown ≡ version.now) }
+    ensures read { IfOk result (IsReadAs at_once version.now statement.now) }
+    ensures seen { IfSome seen.new (λ shown. shown ≡ version.now) }
 {
-    let came = look(alloc, version, statement)?;
+    let came = look(alloc, version, seen, statement)?;
     answered(came, at_once)
 }

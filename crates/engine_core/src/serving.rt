@@ -1,4 +1,4 @@
-ghost use Rattle.std.specs.Prelude.{◌≡◌, None, IfOk};
+ghost use Rattle.std.specs.Prelude.{◌≡◌, None, IfOk, IfSome};
 ghost use Rattle.own_model.specs.declared.history.Verdict.TheVariants.{Took};
 ghost use Rattle.own_model.specs.declared.request.Request.TheVariants.{Run};
 ghost use Rattle.history_model.specs.History.{world};
@@ -15,13 +15,17 @@ use crate::state::State;
 use outer_world::Disk;
 use own_model::{Entry, Refusal, Reply, Request, Statement, Verdict};
 use std::alloc::{AllocError, Global};
+use std::mem::drop;
 use store_disk::StoreDisk;
+use store_snapshot::Snapshot;
 
 /// Serves a statement of a session that isn't doomed. Outside a transaction one that reads alone comes to a look, or is
-/// answered at once.
+/// answered at once. What shows the version is kept from one look to the next, and given up before anything may change, so that
+/// changes are made in place.
 fn serve_statement<D: Disk>(
     alloc: Global,
     state: &mut State,
+    seen: &mut Option<Snapshot>,
     store: &mut StoreDisk<D>,
     history: &[Entry],
     entry: &Entry,
@@ -31,19 +35,23 @@ fn serve_statement<D: Disk>(
     requires event { IsEvent state.old history.now entry.now }
     requires took { entry.now.verdict ≡ Took }
     requires store { IsUp D.holds D.leaves D.honest store.old state.old.version }
+    requires seen { IfSome seen.old (λ shown. shown ≡ state.old.version) }
     requires undoomed { doom_of (state_by state.old.txns.states entry.now.session.0) ≡ None }
     requires asks { entry.now.request ≡ Run statement.now }
     ensures served { Serves state.old.opened state.new history.now entry.now (told_of result) }
     ensures stored { Stores D.holds D.leaves D.moment D.might_have_left D.honest D.faults (world state.old.opened history.now) entry.now store.old (told_of result) store.new }
     ensures comes { IfOk result (ComesAs at_once (world state.old.opened history.now) entry.now) }
     ensures opened { state.new.opened ≡ state.old.opened }
+    ensures seen { IfSome seen.new (λ shown. shown ≡ state.new.version) }
 {
     if state.txns.is_open(entry.session) {
+        drop(seen.take());
         return replied(serve_inside(alloc, state, store, history, entry, statement));
     }
     if reads_alone(statement) {
-        return read(alloc, &state.version, statement, at_once);
+        return read(alloc, &state.version, seen, statement, at_once);
     }
+    drop(seen.take());
     replied(serve_outside(alloc, state, store, history, entry, statement))
 }
 
@@ -51,6 +59,7 @@ fn serve_statement<D: Disk>(
 fn serve_undoomed<D: Disk>(
     alloc: Global,
     state: &mut State,
+    seen: &mut Option<Snapshot>,
     store: &mut StoreDisk<D>,
     history: &[Entry],
     entry: &Entry,
@@ -59,11 +68,13 @@ fn serve_undoomed<D: Disk>(
     requires event { IsEvent state.old history.now entry.now }
     requires took { entry.now.verdict ≡ Took }
     requires store { IsUp D.holds D.leaves D.honest store.old state.old.version }
+    requires seen { IfSome seen.old (λ shown. shown ≡ state.old.version) }
     requires undoomed { doom_of (state_by state.old.txns.states entry.now.session.0) ≡ None }
     ensures served { Serves state.old.opened state.new history.now entry.now (told_of result) }
     ensures stored { Stores D.holds D.leaves D.moment D.might_have_left D.honest D.faults (world state.old.opened history.now) entry.now store.old (told_of result) store.new }
     ensures comes { IfOk result (ComesAs at_once (world state.old.opened history.now) entry.now) }
     ensures opened { state.new.opened ≡ state.old.opened }
+    ensures seen { IfSome seen.new (λ shown. shown ≡ state.new.version) }
 {
     match &entry.request {
         Request::Syntax(byte) => {
@@ -82,6 +93,7 @@ fn serve_undoomed<D: Disk>(
             serve_statement(
                 alloc,
                 state,
+                seen,
                 store,
                 history,
                 entry,
@@ -96,6 +108,7 @@ fn serve_undoomed<D: Disk>(
 pub(crate) fn serve<D: Disk>(
     alloc: Global,
     state: &mut State,
+    seen: &mut Option<Snapshot>,
     store: &mut StoreDisk<D>,
     history: &[Entry],
     entry: &Entry,
@@ -104,16 +117,18 @@ pub(crate) fn serve<D: Disk>(
     requires event { IsEvent state.old history.now entry.now }
     requires took { entry.now.verdict ≡ Took }
     requires store { IsUp D.holds D.leaves D.honest store.old state.old.version }
+    requires seen { IfSome seen.old (λ shown. shown ≡ state.old.version) }
     ensures served { Serves state.old.opened state.new history.now entry.now (told_of result) }
     ensures stored { Stores D.holds D.leaves D.moment D.might_have_left D.honest D.faults (world state.old.opened history.now) entry.now store.old (told_of result) store.new }
     ensures comes { IfOk result (ComesAs at_once (world state.old.opened history.now) entry.now) }
     ensures opened { state.new.opened ≡ state.old.opened }
+    ensures seen { IfSome seen.new (λ shown. shown ≡ state.new.version) }
 {
     match state.txns.tell_doom(entry.session) {
         Some(place) => {
             let why = Refusal::Doomed(place);
             Ok(Came::Replied(Verdict::Took, Reply::Refused(why)))
         }
-        None => serve_undoomed(alloc, state, store, history, entry, at_once),
+        None => serve_undoomed(alloc, state, seen, store, history, entry, at_once),
     }
 }

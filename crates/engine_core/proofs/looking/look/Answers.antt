@@ -8,5 +8,5 @@ bind-requires-clause-views c = rw (c.schema.ensures.same, c.catalog.ensures.sche
 pub bind-requires-clause-statement : goal.bind-requires-clause-statement
 bind-requires-clause-statement c = statement_within c.args.statement.now c.requires.written
 
-pub taken-requires : goal.taken-requires
-taken-requires c = c.requires.sound.well_formed
+pub shown_of-requires-clause-well_formed : goal.shown_of-requires-clause-well_formed
+shown_of-requires-clause-well_formed c = c.requires.sound.well_formed

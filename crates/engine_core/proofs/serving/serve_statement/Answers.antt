@@ -31,18 +31,18 @@ serve_outside-requires-clause-outside g c = kept-outside _ c.requires.undoomed (
 pub returns-then-reads_alone-clause-served : goal.returns-then-reads_alone-clause-served
 returns-then-reads_alone-clause-served g c =
     served-as c.args.history.now c.args.entry.now c.args.state.now c.requires.event (kept-outside _ c.requires.undoomed (sym c.is_open.ensures ∙ c.if-is_open.false)) c.args.statement.now c.requires.asks (sym c.if-reads_alone.ensures)
-    c.args.at_once c.read.result c.read.ensures
+    c.args.at_once c.read.result c.read.ensures.read
 
 pub returns-then-reads_alone-clause-stored : goal.returns-then-reads_alone-clause-stored
 returns-then-reads_alone-clause-stored g c =
     let D = g.D.Disk in
     stored-as c.args.history.now c.args.entry.now c.args.state.now c.requires.event (kept-outside _ c.requires.undoomed (sym c.is_open.ensures ∙ c.if-is_open.false)) c.args.statement.now c.requires.asks (sym c.if-reads_alone.ensures)
-    D.holds D.leaves D.moment D.might_have_left g.met.D.Disk.only_now D.honest D.faults c.args.store.now c.requires.store c.requires.took c.args.at_once c.read.result c.read.ensures
+    D.holds D.leaves D.moment D.might_have_left g.met.D.Disk.only_now D.honest D.faults c.args.store.now c.requires.store c.requires.took c.args.at_once c.read.result c.read.ensures.read
 
 pub returns-then-reads_alone-clause-comes : goal.returns-then-reads_alone-clause-comes
 returns-then-reads_alone-clause-comes g c =
     come-as c.args.history.now c.args.entry.now c.args.state.now c.requires.event (kept-outside _ c.requires.undoomed (sym c.is_open.ensures ∙ c.if-is_open.false)) c.args.statement.now c.requires.asks (sym c.if-reads_alone.ensures)
-    c.args.at_once c.read.result c.read.ensures
+    c.args.at_once c.read.result c.read.ensures.read
 
 pub returns-then-is_open-clause-stored : goal.returns-then-is_open-clause-stored
 returns-then-is_open-clause-stored g c =

@@ -17,24 +17,29 @@ use Rattle.engine_core.proofs.RepresentsLemmas.{leaves-of}
 use Rattle.engine_core.proofs.engine.Engine.answer.Goals as goal
 use Rattle.engine_core.proofs.engine.Engine.answer.Goals.{in-Err, in-Ok}
 
+pub make-requires-clause-seen : goal.make-requires-clause-seen
+make-requires-clause-seen g c = c.self.invariant.1
+
 -- while the disk hasn't failed it keeps the state
 pub make-requires-clause-store : goal.make-requires-clause-store
 make-requires-clause-store g c none = record {
-  sound = c.self.invariant.failed ∙ ap is_some none;
+  sound = c.self.invariant.0.failed ∙ ap is_some none;
   kept = λ honest.
       let D = g.D.Disk in
       let store = c.self.inside.store in
-      subst (λ db. IsKept D.holds D.leaves store.journal db store.commits) (flat-world _ _ ∙ sym (c.self.invariant.represents none).flat) (c.self.invariant.kept none honest);
+      subst (λ db. IsKept D.holds D.leaves store.journal db store.commits) (flat-world _ _ ∙ sym (c.self.invariant.0.represents none).flat) (c.self.invariant.0.kept none honest);
 }
 
 pub invariant_of-self : goal.invariant_of-self
 invariant_of-self g c =
     let D = g.D.Disk in
     let was = c.self.inside in
-    let now = c.make.new in
-    stands-after D.holds D.leaves D.moment D.might_have_left D.honest D.faults g.met.D.Disk.only_now g.met.D.Disk.now_counts was.start (record { epoch = was.epoch; end = was.end }) was.state now.state was.store now.store was.down now.down was.history.items now.history.items
-    c.self.invariant c.make.ensures.opened reply_by (made c.args.session c.args.call c.args.request Took) refl
-    (record { readable = c.requires.readable; first = c.requires.first; last = c.requires.last }) c.make.result c.make.ensures.made c.make.ensures.unmade
+    let now = c.make.new in (
+      stands-after D.holds D.leaves D.moment D.might_have_left D.honest D.faults g.met.D.Disk.only_now g.met.D.Disk.now_counts was.start (record { epoch = was.epoch; end = was.end }) was.state now.state was.store now.store was.down now.down was.history.items now.history.items
+          c.self.invariant.0 c.make.ensures.opened reply_by (made c.args.session c.args.call c.args.request Took) refl
+          (record { readable = c.requires.readable; first = c.requires.first; last = c.requires.last }) c.make.result c.make.ensures.made c.make.ensures.unmade,
+      c.make.ensures.seen,
+    )
 
 pub returns-clause-answers : goal.returns-clause-answers
 returns-clause-answers g c =
@@ -53,9 +58,9 @@ returns-clause-answers g c =
       | in-Ok w ↦ subst answers (sym w.result-is) (subst (λ (reply : Reply). answers (Ok (w.in-Ok.place, reply))) (sym w.into_reply.ensures) (
         w.in-Ok.ensures.made.verdict,
         makes-made D.holds D.leaves D.moment D.might_have_left D.honest D.faults g.met.D.Disk.only_now g.met.D.Disk.now_counts was.start (record { epoch = was.epoch; end = was.end }) was.state now.state was.store now.store was.down now.down was.history.items
-            now.history.items c.self.invariant call refl w.in-Ok.place.0 (reply_by w.in-Ok.came) w.in-Ok.ensures.made first.area spare spare_after c.make.ensures.room,
+            now.history.items c.self.invariant.0 call refl w.in-Ok.place.0 (reply_by w.in-Ok.came) w.in-Ok.ensures.made first.area spare spare_after c.make.ensures.room,
         writes-made D.holds D.leaves D.moment D.might_have_left D.honest D.faults g.met.D.Disk.only_now g.met.D.Disk.now_counts was.start (record { epoch = was.epoch; end = was.end }) was.state now.state was.store now.store was.down now.down was.history.items
-            now.history.items c.self.invariant call refl w.in-Ok.place.0 (reply_by w.in-Ok.came) w.in-Ok.ensures.made first.area spare spare_after,
+            now.history.items c.self.invariant.0 call refl w.in-Ok.place.0 (reply_by w.in-Ok.came) w.in-Ok.ensures.made first.area spare spare_after,
       ))
       | in-Err w ↦ subst answers (sym w.result-is)
           (leaves-of was.state.opened was.start first.area _ first.disk was.history.items now.history.items spare spare_after was.store now.store call w.in-Err.ensures.unmade.0 w.in-Err.ensures.room_left w.in-Err.ensures.unmade.2
@@ -65,10 +70,10 @@ returns-clause-answers g c =
     (subst (λ base. Answers D.holds D.leaves D.moment D.might_have_left D.honest D.faults before (after base) call c.match-make.result) (sym c.make.ensures.opened) told)
 
 pub returns-clause-serial : goal.returns-clause-serial
-returns-clause-serial g c = let stands = invariant_of-self g c in serial-history c.make.new.state.opened c.make.new.history.items stands.begun stands.entries
+returns-clause-serial g c = let stands = (invariant_of-self g c).0 in serial-history c.make.new.state.opened c.make.new.history.items stands.begun stands.entries
 
 pub returns-clause-count : goal.returns-clause-count
-returns-clause-count g c = (invariant_of-self g c).count
+returns-clause-count g c = (invariant_of-self g c).0.count
 
 pub returns-clause-left : goal.returns-clause-left
-returns-clause-left g c = (invariant_of-self g c).left
+returns-clause-left g c = (invariant_of-self g c).0.left

@@ -11,11 +11,13 @@ pub invariant_of-result : goal.invariant_of-result
 invariant_of-result g c =
     let D = g.D.Disk in
     let store = c.in_ok-store.store in
-    rw (c.in-Ok.ensures.history, c.of-opening.ensures)
-    (stands-begun D.holds D.leaves D.moment D.might_have_left D.honest D.faults g.met.D.Disk.only_now g.met.D.Disk.now_counts c.in-Ok.state store c.commits-start.result
-    (record { epoch = c.epoch-epoch.result; end = c.end-end.result }) (sym c.epoch-epoch.ensures, sym c.end-end.ensures) c.commits-start.ensures
-    c.in-Ok.ensures.sound c.in-Ok.ensures.stands c.in_ok-store.ensures.sound
-    (λ honest. subst (λ db. IsKept D.holds D.leaves store.journal db store.commits) (sym c.in-Ok.ensures.base) (c.in_ok-store.ensures.kept (subst IsTrue c.in_ok-store.ensures.honesty honest))))
+    rw (c.in-Ok.ensures.history, c.of-opening.ensures) (
+      stands-begun D.holds D.leaves D.moment D.might_have_left D.honest D.faults g.met.D.Disk.only_now g.met.D.Disk.now_counts c.in-Ok.state store c.commits-start.result
+          (record { epoch = c.epoch-epoch.result; end = c.end-end.result }) (sym c.epoch-epoch.ensures, sym c.end-end.ensures) c.commits-start.ensures
+          c.in-Ok.ensures.sound c.in-Ok.ensures.stands c.in_ok-store.ensures.sound
+          (λ honest. subst (λ db. IsKept D.holds D.leaves store.journal db store.commits) (sym c.in-Ok.ensures.base) (c.in_ok-store.ensures.kept (subst IsTrue c.in_ok-store.ensures.honesty honest))),
+      tt,
+    )
 
 pub returns-in-Ok-clause-left : goal.returns-in-Ok-clause-left
 returns-in-Ok-clause-left g c honest a b in_a in_b =

@@ -13,4 +13,4 @@ none_told (Some place) is = let never : Some place.0 ≡ None = is in cc
 pub returns : goal.returns
 returns g c = rw (← c.self.view_is) (λ up.
     let inside = c.self.inside in
-    (c.self.invariant.represents (none_told inside.down (sym c.self.invariant.down_is ∙ up))).flat ∙ sym (flat-world inside.state.opened inside.history.items))
+    (c.self.invariant.0.represents (none_told inside.down (sym c.self.invariant.0.down_is ∙ up))).flat ∙ sym (flat-world inside.state.opened inside.history.items))
