@@ -1,5 +1,15 @@
+use Rattle.std.proofs.Common.{subst}
+use Rattle.std.specs.Prelude.{ℕ, List, IsTrue}
+use Rattle.own_base.specs.declared.number.Area.TheVariants.{A, B}
+use Rattle.crash_model.specs.LeftBy.{IsLeftBy}
+use Rattle.history_model.specs.History.{History}
 use Rattle.shell_session.proofs.opening.disk_left.Goals as goal
 
 -- as it was when the store was closed
 pub returns-clause-left : goal.returns-clause-left
-returns-clause-left g c = c.close-opened.ensures.left
+returns-clause-left g c =
+    let D = g.D.Disk in
+    let engine = c.args.engine in
+    subst (λ disk. IsTrue (D.honest disk) → (a b : List ℕ) → D.leaves disk A a → D.leaves disk B b → IsLeftBy engine.base engine.start engine.history a b) c.close-opened.ensures.disk
+    (subst (λ (history : History). IsTrue (D.honest c.close-opened.result.disk) → (a b : List ℕ) → D.leaves c.close-opened.result.disk A a → D.leaves c.close-opened.result.disk B b → IsLeftBy engine.base engine.start history a b)
+    c.close-opened.ensures.history c.close-opened.ensures.left)
