@@ -10,6 +10,5 @@ pub returns-clause-left : goal.returns-clause-left
 returns-clause-left g c =
     let D = g.D.Disk in
     let engine = c.args.engine in
-    subst (λ disk. IsTrue (D.honest disk) → (a b : List ℕ) → D.leaves disk A a → D.leaves disk B b → IsLeftBy engine.base engine.start engine.history a b) c.close-opened.ensures.disk
-    (subst (λ (history : History). IsTrue (D.honest c.close-opened.result.disk) → (a b : List ℕ) → D.leaves c.close-opened.result.disk A a → D.leaves c.close-opened.result.disk B b → IsLeftBy engine.base engine.start history a b)
-    c.close-opened.ensures.history c.close-opened.ensures.left)
+    let disk = c.close-opened.result.disk in
+    subst (λ (history : History). IsTrue (D.honest disk) → (a b : List ℕ) → D.leaves disk A a → D.leaves disk B b → IsLeftBy engine.base engine.start history a b) c.close-opened.ensures.history c.close-opened.ensures.left
