@@ -12,7 +12,7 @@ ghost use Rattle.state_model.specs.Sound.{IsWellFormed, Sound};
 ghost use Rattle.run_model.specs.Run.{run_bound};
 ghost use Rattle.write_eval.specs.Write.{IsWrite};
 ghost use Rattle.txn_core.specs.Runs.{IsRowStatement};
-ghost use Rattle.engine_core.specs.Asked.{IsBound, IsMeant};
+ghost use Rattle.state_tests.specs.Asked.{IsBound, IsMeant};
 
 use crate::texts::read;
 use own_base::{Change, List, SessionNo, Subject};

@@ -1,6 +1,6 @@
 //! Owner sets carried along by changes: whose each row becomes, and which subjects come to stand otherwise to it.
 ghost use Rattle.state_model.specs.Sound.{Sound};
-ghost use Rattle.engine_core.specs.Asked.{IsMeant};
+ghost use Rattle.state_tests.specs.Asked.{IsMeant};
 
 use crate::kept::{bound, written};
 use crate::store::{Store, store_of};

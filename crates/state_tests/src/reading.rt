@@ -1,7 +1,7 @@
 //! Selects over a store, and one transaction by itself.
 ghost use Rattle.state_model.specs.Sound.{Sound};
 ghost use Rattle.txn_core.specs.Runs.{IsRowStatement};
-ghost use Rattle.engine_core.specs.Asked.{IsMeant};
+ghost use Rattle.state_tests.specs.Asked.{IsMeant};
 
 use crate::changes::check_names;
 use crate::kept::{bound, row_bound};

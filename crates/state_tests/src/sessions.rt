@@ -8,7 +8,7 @@ ghost use Rattle.state_model.specs.Sound.{IsWellFormed, Sound};
 ghost use Rattle.txn_core.specs.SessionStates.{is_open, state_by};
 ghost use Rattle.txn_core.specs.Runs.{IsRowStatement};
 ghost use Rattle.view_select.specs.ShowsViews.{ShowsViews};
-ghost use Rattle.engine_core.specs.Asked.{IsMeant};
+ghost use Rattle.state_tests.specs.Asked.{IsMeant};
 ghost use Rattle.state_tests.specs.Ready.{AreReady};
 
 use crate::changes::check_names;

@@ -5,7 +5,7 @@ ghost use Rattle.own_model.specs.Db.{IsOrdered};
 ghost use Rattle.state_model.specs.Sound.{IsWellFormed, Sound};
 ghost use Rattle.run_model.specs.Run.{run_bound};
 ghost use Rattle.write_eval.specs.Write.{IsWrite};
-ghost use Rattle.engine_core.specs.Asked.{IsMeant};
+ghost use Rattle.state_tests.specs.Asked.{IsMeant};
 
 use crate::kept::{bound, written};
 use crate::looks::Counted;

@@ -8,7 +8,7 @@ ghost use Rattle.state_model.specs.Put.{put};
 ghost use Rattle.state_model.specs.Sound.{IsWellFormed, Sound};
 ghost use Rattle.state_model.specs.Weight.{weight};
 ghost use Rattle.write_eval.specs.Write.{IsWrite};
-ghost use Rattle.engine_core.specs.Asked.{IsMeant};
+ghost use Rattle.state_tests.specs.Asked.{IsMeant};
 
 use crate::changes::{check_names, rows_left};
 use crate::kept::{bound, written};

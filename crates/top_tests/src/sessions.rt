@@ -147,7 +147,8 @@ fn two_meet(rt: HostRuntime) -> Result<(), Fail> {
     for (number, line) in output.as_str().lines().enumerate() {
         let (place, reply) = place_and_reply(line).expect(&rt, "a place");
         assert_eq!(rt; REPLIES.get(number).copied(), Some(reply));
-        places |= 1u64.checked_shl(place as u32).unwrap_or(0);
+        let bit = u32::try_from(place).unwrap_or(64);
+        places |= 1u64.checked_shl(bit).unwrap_or(0);
     }
     assert_eq!(rt; places, 63);
     Ok(())

@@ -4,7 +4,7 @@ use Rattle.query_model.specs.BoundStatement.{bound_statement}
 use Rattle.readable_model.proofs.Within.{statement_within}
 use Rattle.state_model.proofs.CreatedSchema.{views_within-created}
 use Rattle.run_model.proofs.KeptRuns.{kept-run_bound}
-use Rattle.engine_core.proofs.BoundStatements.{meant-bound}
+use Rattle.state_tests.proofs.BoundStatements.{meant-bound}
 use Rattle.state_tests.proofs.kept.bound.Goals as goal
 
 pub bind-requires-clause-views : goal.bind-requires-clause-views

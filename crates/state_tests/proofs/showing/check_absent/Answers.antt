@@ -1,4 +1,4 @@
-use Rattle.engine_core.proofs.Forgotten.{subject-within}
+use Rattle.store_snapshot.proofs.Subjects.{subject-within}
 use Rattle.state_tests.proofs.showing.check_absent.Goals as goal
 
 pub no_subject-requires : goal.no_subject-requires
