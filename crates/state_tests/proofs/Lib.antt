@@ -1,3 +1,4 @@
+pub mod BoundStatements
 mod KeptStores
 mod KeptNext
 mod Readiness
