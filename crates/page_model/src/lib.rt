@@ -2,4 +2,4 @@
 #![tactic(auto)]
 
 /// The most items of a page.
-pub const PAGE_ITEMS: usize = 64;
+pub const PAGE_ITEMS: usize = 32;
