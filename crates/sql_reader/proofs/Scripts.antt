@@ -1,3 +1,4 @@
+pub mod Askings
 pub mod Counting
 pub mod Dealing
 pub mod Ends

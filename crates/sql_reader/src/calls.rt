@@ -21,8 +21,8 @@ pub struct Calls {
     ghost counted: { AreCounted counts list.items },
 }
 
-/// What a text asks for, by whether it is closed.
-fn request_of(alloc: Global, text: &str, closed: bool) -> Result<Request, AllocError>
+/// What a text asks for, by whether it is closed. Takes memory for its tokens and its statement.
+pub fn request_of(alloc: Global, text: &str, closed: bool) -> Result<Request, AllocError>
     requires { length text.now < 2 ^ 32 }
     ensures { IfOk result (λ request. IsAskedWhere closed (nat_lt STATEMENT_BYTES (length text.now)) text.now request) }
 {
@@ -104,6 +104,18 @@ impl Calls {
     {
         self.list.reserve(1)?;
         let request = request_of(alloc, text, closed)?;
+        put(&mut self.list, &mut self.counts, session, request);
+        Ok(())
+    }
+
+    /// Puts what a session asks for last.
+    pub fn add_request(&mut self, session: u8, request: Request) -> Result<(), AllocError>
+        requires some { 1 ≤ session }
+        requires within { session ≤ SESSIONS }
+        requires few { length self.old.list.items < 2 ^ 31 }
+        ensures added { OnOk result (self.new.list.items ≡ self.old.list.items ++ call_after self.old.list.items (asking session request) ∷ []) }
+    {
+        self.list.reserve(1)?;
         put(&mut self.list, &mut self.counts, session, request);
         Ok(())
     }

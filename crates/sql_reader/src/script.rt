@@ -1,17 +1,20 @@
 //! The script of an input: the calls of its sessions.
 
-ghost use Rattle.std.specs.Prelude.{◌≡◌, ◌<◌, ◌≤◌, ◌^◌, ◌++◌, Ok, Err, length, All, IfOk, IfErr, OnOk};
+ghost use Rattle.std.specs.Prelude.{◌≡◌, ◌<◌, ◌≤◌, ◌^◌, ◌++◌, Ok, Err, length, map, All, IfOk, IfErr, OnOk};
+ghost use Rattle.std.specs.List.{AllByRecursion};
 ghost use Rattle.own_model.specs.declared.limit.TheConstants.{INPUT_BYTES, INPUT_CALLS, SESSIONS};
-ghost use Rattle.script_model.specs.Numbered.{numbered_after};
+ghost use Rattle.script_model.specs.Numbered.{calls_of, numbered_after};
 ghost use Rattle.script_model.specs.Script.{IsScript};
 ghost use Rattle.script_model.specs.Split.{IsOfASession};
 ghost use Rattle.sql_reader.specs.InputFaults.{IsFaultOf};
+ghost use Rattle.sql_reader.specs.scripts.Counts.{asking_of, IsOfOne};
 ghost use Rattle.sql_reader.specs.scripts.Stretches.{call_of_text};
 ghost use Rattle.sql_reader.specs.scripts.TextCalls.{Takes, IsFaultIn, HasTextCalls, IsTextFault, ends_after};
 
 use crate::calls::Calls;
 use crate::stretch::{Ending, Stretch, next_stretch};
-use own_model::{INPUT_BYTES, INPUT_CALLS, InputFault, SESSIONS, Script};
+use own_base::SessionNo;
+use own_model::{INPUT_BYTES, INPUT_CALLS, InputFault, Request, SESSIONS, Script};
 use std::alloc::{AllocError, Global};
 use std::mem::drop;
 
@@ -83,6 +86,23 @@ fn add_ends(calls: &mut Calls) -> Result<(), AllocError>
         }
     }
     Ok(())
+}
+
+/// What sessions ask for, one after another, as calls: each numbered in its session, and after them an End for each session that
+/// has one, by session number. Takes memory for the calls.
+pub fn number_calls(alloc: Global, asked: Vec<(SessionNo, Request)>) -> Result<Script, AllocError>
+    requires sessions { AllByRecursion IsOfOne asked.items }
+    requires few { length asked.items ≤ INPUT_CALLS }
+    ensures { IfOk result (λ script. script.calls ≡ calls_of (map asking_of asked.items)) }
+{
+    let mut calls = Calls::new(alloc);
+    for (session, request) in asked {
+        calls.add_request(session.0, request)?;
+    }
+    add_ends(&mut calls)?;
+    Ok(Script {
+        calls: calls.into_list(),
+    })
 }
 
 /// The calls of an input in its order, each numbered in its session, and after them an End for each session that has a

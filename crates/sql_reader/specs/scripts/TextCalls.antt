@@ -29,12 +29,16 @@ IsFaultIn count parts (BadSession byte) = first_of (faults_after count parts) �
 IsFaultIn count parts (TooManyCalls byte) = first_of (faults_after count parts) ≡ Some (TooManyCalls byte)
 IsFaultIn count parts Memory = Unit {0}
 
--- the calls of a text, without the Ends
-pub record HasTextCalls (bytes : List ℕ) (calls : List ScriptCall) : Type 0 where
+-- what is taken of a text, part by part: few items, which are those of the text's parts
+pub record TakesText {X : Type 0} (Taken : List X → List Part → List X → Type 0) (bytes : List ℕ) (items : List X) : Type 0 where
   pub pieces : List Piece
   pub are : AreAllPieces pieces bytes
-  pub takes : Takes [] (parts_of pieces) calls
-  pub few : length calls ≤ INPUT_CALLS
+  pub takes : Taken [] (parts_of pieces) items
+  pub few : length items ≤ INPUT_CALLS
+
+-- the calls of a text, without the Ends
+abbrev pub HasTextCalls : List ℕ → List ScriptCall → Type 0
+HasTextCalls bytes calls = TakesText Takes bytes calls
 
 -- why a text has no calls
 pub record IsTextFault (bytes : List ℕ) (fault : InputFault) : Type 0 where

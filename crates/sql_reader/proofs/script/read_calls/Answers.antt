@@ -1,30 +1,32 @@
 use Rattle.std.proofs.Common.{sym, subst, arith}
+use Rattle.sql_reader.specs.scripts.TextCalls.{Takes}
+use Rattle.sql_reader.proofs.Scripts.Numbering.{Takes-none, Takes-append, later_fault}
 use Rattle.sql_reader.proofs.Scripts.Reading.{ReadTo, ReadTo-start, call_fault, line_wrong, line_within, after_semicolon, after_session, after_all}
 use Rattle.sql_reader.proofs.script.read_calls.Goals as goal
 
 pub loop-fault-init : goal.loop-fault-init
-loop-fault-init c = subst (ReadTo c.args.text.now 0 1) (sym c.new-calls.ensures) (ReadTo-start c.args.text.now c.utf8.text)
+loop-fault-init c = subst (ReadTo Takes c.args.text.now 0 1) (sym c.new-calls.ensures) (ReadTo-start Takes Takes-none Takes-append later_fault c.args.text.now c.utf8.text)
 
 pub returns-in-Err-clause-err : goal.returns-in-Err-clause-err
 returns-in-Err-clause-err c =
-    call_fault c.args.text.now c.loop-fault.at c.loop-fault.session c.loop-fault.calls.list.items c.loop-fault.invariant c.next_stretch-stretch.result c.next_stretch-stretch.ensures c.in-Err.fault c.in-Err.ensures.err
+    call_fault Takes Takes-none Takes-append later_fault c.args.text.now c.loop-fault.at c.loop-fault.session c.loop-fault.calls.list.items c.loop-fault.invariant c.next_stretch-stretch.result c.next_stretch-stretch.ensures c.in-Err.fault c.in-Err.ensures.err
 
 pub overflow_cast-result : goal.overflow_cast-result
 overflow_cast-result c =
-    omega (arith, line_within c.args.text.now c.loop-fault.at c.loop-fault.session c.loop-fault.calls.list.items c.loop-fault.invariant c.next_stretch-stretch.result c.next_stretch-stretch.ensures c.in-BadLine.line c.in-BadLine.is)
+    omega (arith, line_within Takes Takes-none Takes-append later_fault c.args.text.now c.loop-fault.at c.loop-fault.session c.loop-fault.calls.list.items c.loop-fault.invariant c.next_stretch-stretch.result c.next_stretch-stretch.ensures c.in-BadLine.line c.in-BadLine.is)
 
 pub returns-in-BadLine-clause-err : goal.returns-in-BadLine-clause-err
 returns-in-BadLine-clause-err c =
-    line_wrong c.args.text.now c.loop-fault.at c.loop-fault.session c.loop-fault.calls.list.items c.loop-fault.invariant c.next_stretch-stretch.result c.next_stretch-stretch.ensures c.in-BadLine.line c.add_call.new.calls.list.items c.in-BadLine.is c.in_default.ensures.taken
+    line_wrong Takes Takes-none Takes-append later_fault c.args.text.now c.loop-fault.at c.loop-fault.session c.loop-fault.calls.list.items c.loop-fault.invariant c.next_stretch-stretch.result c.next_stretch-stretch.ensures c.in-BadLine.line c.add_call.new.calls.list.items c.in-BadLine.is c.in_default.ensures.taken
 
 pub returns-in-End-clause-ok : goal.returns-in-End-clause-ok
 returns-in-End-clause-ok c =
-    after_all c.args.text.now c.loop-fault.at c.loop-fault.session c.loop-fault.calls.list.items c.loop-fault.invariant c.next_stretch-stretch.result c.next_stretch-stretch.ensures c.add_call.new.calls.list.items c.in-End.is c.in_default.ensures.taken c.in_default.ensures.few
+    after_all Takes Takes-none Takes-append later_fault c.args.text.now c.loop-fault.at c.loop-fault.session c.loop-fault.calls.list.items c.loop-fault.invariant c.next_stretch-stretch.result c.next_stretch-stretch.ensures c.add_call.new.calls.list.items c.in-End.is c.in_default.ensures.taken c.in_default.ensures.few
 
 pub loop-fault-preserved-in-Semicolon : goal.loop-fault-preserved-in-Semicolon
 loop-fault-preserved-in-Semicolon c =
-    after_semicolon c.args.text.now c.loop-fault.at c.loop-fault.session c.loop-fault.calls.list.items c.loop-fault.invariant c.next_stretch-stretch.result c.next_stretch-stretch.ensures c.add_call.new.calls.list.items c.in-Semicolon.is c.in_default.ensures.taken c.in_default.ensures.few
+    after_semicolon Takes Takes-none Takes-append later_fault c.args.text.now c.loop-fault.at c.loop-fault.session c.loop-fault.calls.list.items c.loop-fault.invariant c.next_stretch-stretch.result c.next_stretch-stretch.ensures c.add_call.new.calls.list.items c.in-Semicolon.is c.in_default.ensures.taken c.in_default.ensures.few
 
 pub loop-fault-preserved : goal.loop-fault-preserved
 loop-fault-preserved c =
-    after_session c.args.text.now c.loop-fault.at c.loop-fault.session c.loop-fault.calls.list.items c.loop-fault.invariant c.next_stretch-stretch.result c.next_stretch-stretch.ensures c.in-Session.named c.add_call.new.calls.list.items c.in-Session.is c.in_default.ensures.taken c.in_default.ensures.few
+    after_session Takes Takes-none Takes-append later_fault c.args.text.now c.loop-fault.at c.loop-fault.session c.loop-fault.calls.list.items c.loop-fault.invariant c.next_stretch-stretch.result c.next_stretch-stretch.ensures c.in-Session.named c.add_call.new.calls.list.items c.in-Session.is c.in_default.ensures.taken c.in_default.ensures.few
