@@ -9,6 +9,7 @@ mod pass;
 mod steps;
 mod turn;
 mod view;
+mod waiting;
 
 pub use held::Held;
 pub use pass::Pass;

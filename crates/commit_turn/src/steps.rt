@@ -9,6 +9,7 @@ use crate::view::View;
 use atomic_table::{Seat, Shared};
 use own_base::SessionNo;
 use std::snapshot::Snapshot;
+use std::sync::Wait;
 use turn_model::Keeps;
 
 /// The words and the slot of a turn, and a seat at them.
@@ -83,6 +84,20 @@ pub(crate) fn release<T: Keeps>(desk: &Desk<T>, seat: &mut Sitting<T>)
     ensures released { seat.new.me ≡ (released seat.old.me.0, []) }
 {
     desk.store::<Release>(seat, TURN, 0);
+}
+
+/// Sleeps where somebody has the turn, until it is woken; or for no time, without a cause.
+pub(crate) fn sleep<T: Keeps, R: Wait>(rt: &R, desk: &Desk<T>)
+    requires shape { (desk.now.table_id.words ≡ 2) × (desk.now.table_id.slots ≡ 1) }
+{
+    desk.park(rt, TURN, 1);
+}
+
+/// Wakes a thread that sleeps until the turn is given back.
+pub(crate) fn wake<T: Keeps>(desk: &Desk<T>)
+    requires shape { (desk.now.table_id.words ≡ 2) × (desk.now.table_id.slots ≡ 1) }
+{
+    desk.wake_one(TURN);
 }
 
 /// Splits a seat for a session off the lead's.

@@ -9,8 +9,11 @@ ghost use Rattle.turn_model.specs.Places.{places_beyond};
 use crate::held::Held;
 use crate::law::Law;
 use crate::pass::{NUMBERS, Pass};
-use crate::steps::{Desk, Sitting, count, hear, part, release, unite, value_in, value_out, won};
+use crate::steps::{
+    Desk, Sitting, count, hear, part, release, sleep, unite, value_in, value_out, wake, won,
+};
 use crate::view::View;
+use crate::waiting::Waiting;
 use atomic_table::{Badge, Refused, Table};
 use crossbeam_utils::Backoff;
 use own_base::SessionNo;
@@ -24,6 +27,7 @@ use turn_model::Keeps;
 /// The turn of threads, behind which a value lies that keeps a history. Contracts see which turn it is.
 pub struct Turn<T: Keeps> {
     table: Table<Option<T>, View, Snapshot<T>, Law, Global>,
+    waiting: Waiting,
 }
 
 impl<T: Keeps> Model for Turn<T> {
@@ -51,8 +55,8 @@ fn given_back<T>(mut slots: Vec<Option<T>>) -> T
     value
 }
 
-/// Takes the turn, as soon as nobody has it.
-fn win<T: Keeps, R: Wait>(rt: &R, desk: &Desk<T>, seat: &mut Sitting<T>)
+/// Looks again and again until the turn is free, and takes it. After some looks the thread sleeps until it is woken.
+fn wait_for<T: Keeps, R: Wait>(rt: &R, desk: &Desk<T>, waiting: &Waiting, seat: &mut Sitting<T>)
     requires shape { (desk.now.table_id.words ≡ 2) × (desk.now.table_id.slots ≡ 1) }
     requires seat { (seat.old.table_id ≡ desk.now.table_id) × (seat.old.me.1 ≡ []) }
     requires view { (seat.old.me.0.live ≡ true) × (seat.old.me.0.holds ≡ false) }
@@ -60,13 +64,35 @@ fn win<T: Keeps, R: Wait>(rt: &R, desk: &Desk<T>, seat: &mut Sitting<T>)
     ensures taken { HasTaken T.history T.start seat.old.me seat.new.me }
 {
     let backoff = Backoff::new();
+    waiting.looks();
     for _ in rt.forever() {
         if won(desk, seat) {
+            waiting.found();
             return;
         }
-        backoff.snooze();
+        if backoff.is_completed() {
+            waiting.sleeps();
+            sleep(rt, desk);
+            waiting.wakes();
+            backoff.reset();
+        } else {
+            backoff.snooze();
+        }
     }
     unreachable!()
+}
+
+/// Takes the turn, as soon as nobody has it.
+fn win<T: Keeps, R: Wait>(rt: &R, desk: &Desk<T>, waiting: &Waiting, seat: &mut Sitting<T>)
+    requires shape { (desk.now.table_id.words ≡ 2) × (desk.now.table_id.slots ≡ 1) }
+    requires seat { (seat.old.table_id ≡ desk.now.table_id) × (seat.old.me.1 ≡ []) }
+    requires view { (seat.old.me.0.live ≡ true) × (seat.old.me.0.holds ≡ false) }
+    ensures same { (seat.new.table_id ≡ seat.old.table_id) × (seat.new.id ≡ seat.old.id) }
+    ensures taken { HasTaken T.history T.start seat.old.me seat.new.me }
+{
+    if !won(desk, seat) {
+        wait_for(rt, desk, waiting, seat);
+    }
 }
 
 impl<T: Keeps> Turn<T> {
@@ -92,7 +118,13 @@ impl<T: Keeps> Turn<T> {
                     session: SessionNo(0),
                     out: [false; NUMBERS],
                 };
-                Ok((Turn { table }, lead))
+                Ok((
+                    Turn {
+                        table,
+                        waiting: Waiting::new(),
+                    },
+                    lead,
+                ))
             }
             Err(Refused { slots }) => Err((AllocError, given_back(slots))),
         }
@@ -129,12 +161,13 @@ impl<T: Keeps> Turn<T> {
         ensures start { T.start result.value ≡ start_of pass.old }
     {
         let mut seat: Sitting<T> = replace(&mut pass.badge, Badge::blank()).into_seat();
-        win(rt, &self.table.shared, &mut seat);
+        win(rt, &self.table.shared, &self.waiting, &mut seat);
         let value = value_out(&self.table.shared, &mut seat);
         Held { seat, value }
     }
 
-    /// Gives the turn back. The entries are those that were found with it, or one more, of the pass's session. Takes no memory.
+    /// Gives the turn back, and wakes a thread that sleeps until then where none looks for itself. The entries are those that were
+    /// found with it, or one more, of the pass's session. Takes no memory.
     pub fn give(&self, held: Held<T>, pass: &mut Pass)
         requires held { IsHeldOf self.now held pass.old }
         requires entries { MayCount held.seat.me.0 (T.history held.value) }
@@ -147,6 +180,9 @@ impl<T: Keeps> Turn<T> {
         value_in(&self.table.shared, &mut seat, value);
         count(&self.table.shared, &mut seat, entries);
         release(&self.table.shared, &mut seat);
+        if self.waiting.is_left_asleep() {
+            wake(&self.table.shared);
+        }
         pass.badge = seat.into_badge();
     }
 
@@ -180,7 +216,7 @@ impl<T: Keeps> Turn<T> {
         ensures start { T.start result ≡ start_of lead }
         ensures places { (session : ℕ) → places_beyond (base lead) session (T.history result) ≡ kept lead session }
     {
-        let Turn { table } = self;
+        let Turn { table, waiting: _ } = self;
         let Pass { badge, .. } = lead;
         let mut closed = table.close_with(badge.into_seat());
         let slot = closed.take(0);
