@@ -1,4 +1,5 @@
 pub mod FirstLemmas
+pub mod GatheredLemmas
 pub mod JobLemmas
 pub mod LookedLemmas
 pub mod OutLemmas

@@ -1,3 +1,4 @@
+pub mod Gathered
 pub mod Jobs
 pub mod Serving
 pub mod Sessions

@@ -10,6 +10,8 @@ mod erasures;
 #[cfg(test)]
 mod failing;
 #[cfg(test)]
+mod pieces;
+#[cfg(test)]
 mod runs;
 #[cfg(test)]
 mod sessions;

@@ -134,10 +134,10 @@ const CASES: [Case; 14] = [
         words: "serve",
         input: FIRST,
         source_fails: &[],
-        sink_fails: &[1],
+        sink_fails: &[0],
         status: 4,
         entries: 4,
-        output: "0 1.1 ok\n",
+        output: "",
     },
     Case {
         words: "stop",
@@ -210,11 +210,12 @@ fn runs(rt: HostRuntime) -> Result<(), Fail> {
     Ok(())
 }
 
-/// All of its calls are made before the first is written, so the entries of a run whose sink fails are others.
+/// All of its calls are made before what they are told is written, and that in pieces, so a run whose sink fails has other entries and
+/// another output.
 #[test]
 fn one_session_is_served_as_it_steps(rt: HostRuntime) -> Result<(), Fail> {
     for case in &CASES {
-        if case.words == "step" && case.input != SESSIONS {
+        if case.words == "step" && case.input != SESSIONS && case.sink_fails.is_empty() {
             let (status, _, output) = told(&rt, rt.alloc(), "serve", case)?;
             assert_eq!(rt; (status, output.as_str()), (case.status, case.output));
         }
