@@ -2,11 +2,13 @@
 //! represents 64 times `a`.
 
 use crate::check::spelled_out;
-use own_model::{Request, Script, ScriptCall, SessionCalls};
+use own_model::{InputFault, Request, Script, ScriptCall, SessionCalls};
+use parallel_reader::read_in_parallel;
 use sql_reader::{Split, read_script};
 use std::fmt::Write;
 use std::mem::drop;
 use std::process::Abort;
+use std::thread::Threads;
 
 /// What a request is.
 fn put_request(rt: &impl Abort, told: &mut String, request: &Request) {
@@ -35,16 +37,24 @@ fn told_calls(rt: &(impl Abort + AllocGlobal), calls: &[ScriptCall]) -> String {
     told
 }
 
-/// The script of an input, or why it has none.
-fn told_script(rt: &(impl Abort + AllocGlobal), bytes: &[u8]) -> String {
-    match read_script(rt.alloc(), bytes) {
+/// A script, or why there is none.
+fn told_read(rt: &(impl Abort + AllocGlobal), read: Result<Script, InputFault>) -> String {
+    match read {
         Ok(script) => told_calls(rt, script.calls.items()),
         Err(fault) => format!(in rt.alloc(); "{fault:?}").expect(rt, "memory"),
     }
 }
 
+/// The script of an input, or why it has none: by one thread and by several, which agree.
+fn told_script(rt: &(impl Abort + AllocGlobal + Threads + Sync), bytes: &[u8]) -> String {
+    let told = told_read(rt, read_script(rt.alloc(), bytes));
+    let beside = told_read(rt, read_in_parallel(rt, rt.alloc(), bytes));
+    assert_eq!(rt; beside.as_str(), told.as_str());
+    told
+}
+
 /// Each row is an input, and its script.
-fn check_scripts(rt: &(impl Abort + AllocGlobal), rows: &[(&str, &str)]) {
+fn check_scripts(rt: &(impl Abort + AllocGlobal + Threads + Sync), rows: &[(&str, &str)]) {
     for (row, wanted) in rows {
         let input = spelled_out(rt, row);
         let told = told_script(rt, input.as_bytes());

@@ -11,7 +11,7 @@ ghost use Rattle.store_top.specs.RanTogether.{RanTogether};
 ghost use Rattle.store_top.specs.Status.{status_of};
 ghost use Rattle.store_top.specs.Top.{IsUnserved, IsUsageOrMemory, ReadsInput, ReadsScript};
 
-use crate::input::read_calls;
+use crate::input::{read_calls, read_calls_in_parallel};
 use crate::served::{Served, TopFault, status};
 use crate::serving::{Ended, Telling, serve_script, without_calls};
 use crate::together::serve_together;
@@ -40,7 +40,7 @@ fn step_input<R: Source, W: Sink, D: Disk>(
     }
 }
 
-/// Reads an input, and serves its sessions side by side.
+/// Reads an input, its calls by a thread for each session, and serves the sessions side by side.
 fn serve_input<Rt: Threads + Wait + Sync, R: Source, W: Sink, D: Disk + Send, G: Gate + Sync>(
     rt: &Rt,
     alloc: Global,
@@ -54,7 +54,7 @@ fn serve_input<Rt: Threads + Wait + Sync, R: Source, W: Sink, D: Disk + Send, G:
     ensures order { (result.disk ≡ disk) ⊎ ReadsScript (R.remaining source.old) (R.remaining source.new) }
     ensures on_disk { OnDiskTogether D.holds D.leaves D.moment D.might_have_left D.honest D.faults disk result.disk result.opened result.history result.fault }
 {
-    match read_calls(alloc, source) {
+    match read_calls_in_parallel(rt, alloc, source) {
         Ok(calls) => serve_together(rt, alloc, calls, sink, disk, gate),
         Err(fault) => without_calls(alloc, fault, disk),
     }
@@ -112,7 +112,7 @@ pub fn step<R: Source, W: Sink, D: Disk>(
     served(step_input(alloc, source, sink, disk))
 }
 
-/// What mode `serve` does: it reads an input of calls from the source, opens the store of the disk, and serves the sessions of the
+/// What mode `serve` does: it reads an input of calls from the source, by a thread for each session, opens the store of the disk, and serves the sessions of the
 /// input side by side over it, by a worker for each: a worker makes the calls of its session in their order, each under a turn that
 /// the workers take, and answers what reads alone beside the others. When all are done each call's reply is written to the sink, session by session.
 /// Before each call the gate is asked, and it is told after.
