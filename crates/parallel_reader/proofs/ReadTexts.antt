@@ -84,8 +84,7 @@ asked_by (text ∷ texts) (old ∷ unread) (new ∷ read) (next ∷ asked) (here
     subst (λ found. IfSome found (λ request. IsAskedWhere old.closed (nat_lt STATEMENT_BYTES (length old.text.now)) old.text.now request)) this.1 there.asks in
     let closed : IsAskedWhere text.closed (nat_lt STATEMENT_BYTES (length old.text.now)) old.text.now next.1 =
     subst (λ b. IsAskedWhere b (nat_lt STATEMENT_BYTES (length old.text.now)) old.text.now next.1) (sym here.closed) asks in
-    let own : text.session ≡ next.0.0 = here.session ∙ ap (λ session. session.0) (sym there.session ∙ sym this.0) in
-    (
+    let own : text.session ≡ next.0.0 = here.session ∙ ap (λ session. session.0) (sym there.session ∙ sym this.0) in (
       (subst (λ bytes. IsAskedWhere text.closed (nat_lt STATEMENT_BYTES (length bytes)) bytes next.1) (sym here.bytes) closed, more.0),
       (λ i. asking (own i) next.1 ∷ more.1 i),
     )

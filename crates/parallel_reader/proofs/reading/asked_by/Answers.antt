@@ -8,9 +8,8 @@ push_reserved-requires c =
     omega (arith, room, c.loop-one.invariant.1, c.loop-one.asked.ok)
 
 pub loop-one-preserved : goal.loop-one-preserved
-loop-one-preserved c =
-    (
-      AskedTo-more c.args.unread.items c.loop-one.yielded _ _ c.loop-one.asked.items c.push_reserved.new.self.items c.in-Some.one (c.in-Some.one.session, c.in-Some-request.request) c.loop-one.invariant.0 c.in-Some.ensures.steps.0
-          (refl, c.in-Some-request.is) c.push_reserved.ensures.items,
-      omega (arith, c.loop-one.invariant.1, c.push_reserved.ensures.capacity),
-    )
+loop-one-preserved c = (
+  AskedTo-more c.args.unread.items c.loop-one.yielded _ _ c.loop-one.asked.items c.push_reserved.new.self.items c.in-Some.one (c.in-Some.one.session, c.in-Some-request.request) c.loop-one.invariant.0 c.in-Some.ensures.steps.0
+      (refl, c.in-Some-request.is) c.push_reserved.ensures.items,
+  omega (arith, c.loop-one.invariant.1, c.push_reserved.ensures.capacity),
+)
