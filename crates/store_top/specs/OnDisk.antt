@@ -51,8 +51,9 @@ pub record IsServedOn {D : Type 0} (holds : D → Area → List ℕ) (leaves : D
   pub over : IsServedOver holds leaves old new base history
   pub moments : LeavesOnly moment might_have_left (λ a b. IsLeft holds leaves old a b ⊎ IsLeftOf base over.start history a b) old new
 
--- The same, where sessions made them side by side. A crash at any moment since the store was opened leaves what the history says up to
--- some place.
+-- The same, where sessions made them side by side. There is a moment, no earlier than the run's beginning, such that a crash at any
+-- moment from it on leaves what the history says up to some place. Which moment that is isn't told, so this says little of the run itself
+-- and much of the disk that it leaves.
 pub record IsServedSince {D : Type 0} (holds : D → Area → List ℕ) (leaves : D → Area → List ℕ → Type 0) (moment : D → ℕ) (might_have_left : D → ℕ → List ℕ → List ℕ → Type 0)
     (old new : D) (base : Db) (history : History) : Type 0 where
   pub over : IsServedOver holds leaves old new base history

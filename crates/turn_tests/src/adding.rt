@@ -5,6 +5,7 @@ use crate::log::Adds;
 use commit_turn::{Pass, Turn};
 use crossbeam_utils::Backoff;
 use own_base::SessionNo;
+use std::hint::spin_loop;
 use std::sync::Wait;
 use std::sync::atomic::{AtomicU64, Ordering};
 
@@ -16,6 +17,19 @@ const LOOKING: u64 = 1;
 
 /// What a thread that commits says once its entries are added.
 const COMMITTED: u64 = 2;
+
+/// For how many pauses of the processor a turn is kept that is kept for long: some hundred microseconds.
+const LINGER: u32 = 2_500;
+
+/// Keeps the turn for long at every tenth call: for longer than a thread looks whether it is free, so the other sleeps then, and has
+/// to be woken.
+fn linger(call: u32) {
+    if call % 10 == 9 {
+        for _ in 0..LINGER {
+            spin_loop();
+        }
+    }
+}
 
 /// Adds an entry under the turn, and says how many it found.
 fn add_one<T: Adds, R: Wait>(
@@ -33,6 +47,7 @@ fn add_one<T: Adds, R: Wait>(
     let mut held = turn.take(rt, pass);
     let value = held.value();
     let found = value.entries().len();
+    linger(call);
     value.add(session, call);
     turn.give(held, pass);
     found
