@@ -86,13 +86,6 @@ pub(crate) fn release<T: Keeps>(desk: &Desk<T>, seat: &mut Sitting<T>)
     desk.store::<Release>(seat, TURN, 0);
 }
 
-/// Whether nobody seems to have the turn: that may have changed since. Whoever looks so disturbs nobody.
-pub(crate) fn seems_free<T: Keeps>(desk: &Desk<T>) -> bool
-    requires shape { (desk.now.table_id.words ≡ 2) × (desk.now.table_id.slots ≡ 1) }
-{
-    desk.peek(TURN) == 0
-}
-
 /// Sleeps where somebody has the turn, until it is woken; or for no time, without a cause.
 pub(crate) fn sleep<T: Keeps, R: Wait>(rt: &R, desk: &Desk<T>)
     requires shape { (desk.now.table_id.words ≡ 2) × (desk.now.table_id.slots ≡ 1) }

@@ -10,15 +10,14 @@ use crate::held::Held;
 use crate::law::Law;
 use crate::pass::{NUMBERS, Pass};
 use crate::steps::{
-    Desk, Sitting, count, hear, part, release, seems_free, sleep, unite, value_in, value_out, wake,
-    won,
+    Desk, Sitting, count, hear, part, release, sleep, unite, value_in, value_out, wake, won,
 };
 use crate::view::View;
 use crate::waiting::Waiting;
 use atomic_table::{Badge, Refused, Table};
+use crossbeam_utils::Backoff;
 use own_base::SessionNo;
 use std::alloc::{AllocError, Global};
-use std::hint::spin_loop;
 use std::marker::{Brand, Model};
 use std::mem::replace;
 use std::snapshot::Snapshot;
@@ -56,20 +55,6 @@ fn given_back<T>(mut slots: Vec<Option<T>>) -> T
     value
 }
 
-/// How often a thread looks whether the turn is free before it sleeps.
-const LOOKS: u32 = 64;
-
-/// For how many of the processor's pauses a thread waits between two looks: those before it sleeps take some fifteen microseconds,
-/// which is longer than a read has the turn, and far shorter than the disk does.
-const PAUSES: u32 = 4;
-
-/// Waits for a moment.
-fn pause() {
-    for _ in 0..PAUSES {
-        spin_loop();
-    }
-}
-
 /// Looks again and again until the turn is free, and takes it. After some looks the thread sleeps until it is woken.
 fn wait_for<T: Keeps, R: Wait>(rt: &R, desk: &Desk<T>, waiting: &Waiting, seat: &mut Sitting<T>)
     requires shape { (desk.now.table_id.words ≡ 2) × (desk.now.table_id.slots ≡ 1) }
@@ -78,21 +63,20 @@ fn wait_for<T: Keeps, R: Wait>(rt: &R, desk: &Desk<T>, waiting: &Waiting, seat: 
     ensures same { (seat.new.table_id ≡ seat.old.table_id) × (seat.new.id ≡ seat.old.id) }
     ensures taken { HasTaken T.history T.start seat.old.me seat.new.me }
 {
-    let mut looks = 0;
+    let backoff = Backoff::new();
     waiting.looks();
     for _ in rt.forever() {
-        if seems_free(desk) && won(desk, seat) {
+        if won(desk, seat) {
             waiting.found();
             return;
         }
-        if looks < LOOKS {
-            looks += 1;
-            pause();
-        } else {
+        if backoff.is_completed() {
             waiting.sleeps();
             sleep(rt, desk);
             waiting.wakes();
-            looks = 0;
+            backoff.reset();
+        } else {
+            backoff.snooze();
         }
     }
     unreachable!()
