@@ -37,7 +37,7 @@ returns-in-Ok-clause-ran g c =
     let new = sink.written c.serve_together.new.sink in
     let rose = LastFault sink.faults sink.fails c.args.sink.now c.serve_together.new.sink in
     let silent = (c.serve_together.new.sink ≡ c.args.sink.now) × (end.history ≡ []) in
-    ran-served source.remaining source.faults source.fails sink.faults sink.fails c.args.source.now c.read_calls.new.source c.args.sink.now c.serve_together.new.sink end.history
+    ran-served source.remaining source.faults source.fails sink.faults sink.fails c.args.source.now c.read_calls_in_parallel.new.source c.args.sink.now c.serve_together.new.sink end.history
     (λ base calls. MakesTogether base (split calls) end.history (Appends old new)) (λ base calls. MakesTogether base (split calls) end.history (AppendsPart old new))
     (λ base calls. silent ⊎ MakesTogether base (split calls) end.history (AppendsFront old new))
     read.0 c.in-Ok.ensures.steady end.opened end.fault
@@ -66,7 +66,7 @@ returns-in-Err-clause-ran g c =
     let ended = c.without_calls.ensures in
     let old = sink.written c.args.sink.now in
     let end = c.without_calls.result in
-    rw ended.fault (ran-unread source.remaining source.faults source.fails sink.faults sink.fails c.args.source.now c.read_calls.new.source c.args.sink.now c.args.sink.now end.history
+    rw ended.fault (ran-unread source.remaining source.faults source.fails sink.faults sink.fails c.args.source.now c.read_calls_in_parallel.new.source c.args.sink.now c.args.sink.now end.history
     (λ base calls. MakesTogether base (split calls) end.history (Appends old old)) (λ base calls. MakesTogether base (split calls) end.history (AppendsPart old old))
     (λ base calls. ((c.args.sink.now ≡ c.args.sink.now) × (end.history ≡ [])) ⊎ MakesTogether base (split calls) end.history (AppendsFront old old))
     end.opened (record { unopened = ended.opened; unwritten = refl; uncalled = ended.history }) c.in-Err.fault c.in-Err.ensures.unread)
@@ -74,4 +74,4 @@ returns-in-Err-clause-ran g c =
 pub returns-in-Err-clause-lawful : goal.returns-in-Err-clause-lawful
 returns-in-Err-clause-lawful g c =
     let source = g.R.Source in
-    rw c.without_calls.ensures.fault (unread-lawful source.remaining source.faults _ c.args.source.now c.read_calls.new.source c.in-Err.fault c.in-Err.ensures.unread)
+    rw c.without_calls.ensures.fault (unread-lawful source.remaining source.faults _ c.args.source.now c.read_calls_in_parallel.new.source c.in-Err.fault c.in-Err.ensures.unread)
