@@ -42,33 +42,33 @@ fn last_page(part: &TablePart) -> &[Row] {
 
 #[test]
 fn a_row_too_many_for_a_page_makes_a_second(rt: HostRuntime) {
-    let part = part_with(&rt, &up_to(&rt, 64, true));
-    let made = changed(&rt, &part, &[change_of(&rt, Key::Int(65), Some(650))]);
-    assert_eq!(rt; made.at(64).and_then(key_of), Some(65));
+    let part = part_with(&rt, &up_to(&rt, 32, true));
+    let made = changed(&rt, &part, &[change_of(&rt, Key::Int(33), Some(330))]);
+    assert_eq!(rt; made.at(32).and_then(key_of), Some(33));
     assert!(rt; made.page(1).is_some());
-    assert!(rt; has_up_to(&made, 65));
-    assert!(rt; part.at(64).is_none());
-    assert_eq!(rt; part.page(0).map(|page| page.len()), Some(64));
+    assert!(rt; has_up_to(&made, 33));
+    assert!(rt; part.at(32).is_none());
+    assert_eq!(rt; part.page(0).map(|page| page.len()), Some(32));
     assert!(rt; part.page(1).is_none());
-    assert!(rt; has_up_to(&part, 64));
+    assert!(rt; has_up_to(&part, 32));
 }
 
 #[test]
 fn no_row_leaves_no_page(rt: HostRuntime) {
-    let part = part_with(&rt, &up_to(&rt, 65, true));
-    let made = changed(&rt, &part, &up_to(&rt, 65, false));
+    let part = part_with(&rt, &up_to(&rt, 33, true));
+    let made = changed(&rt, &part, &up_to(&rt, 33, false));
     assert_eq!(rt; made.len(), 0);
     assert!(rt; made.rows().next().is_none());
     assert!(rt; made.page(0).is_none());
     assert!(rt; made.rows_from(0).is_empty());
-    assert!(rt; has_up_to(&part, 65));
+    assert!(rt; has_up_to(&part, 33));
 }
 
 #[test]
 fn a_page_without_a_changed_key_stays(rt: HostRuntime) {
-    let part = part_with(&rt, &up_to(&rt, 65, true));
+    let part = part_with(&rt, &up_to(&rt, 33, true));
     let made = changed(&rt, &part, &[change_of(&rt, Key::Int(1), None)]);
-    assert_eq!(rt; made.len(), 64);
+    assert_eq!(rt; made.len(), 32);
     let (before, after) = (last_page(&part), last_page(&made));
     assert!(rt; !before.is_empty());
     assert!(rt;
@@ -77,23 +77,23 @@ fn a_page_without_a_changed_key_stays(rt: HostRuntime) {
             .map(numbers_of)
             .eq(before.iter().map(numbers_of))
     );
-    assert!(rt; has_up_to(&part, 65));
+    assert!(rt; has_up_to(&part, 33));
 }
 
 /// Keys, and the key of the row that each names.
-const KEYS: [(i64, Option<i64>); 4] = [(0, None), (1, Some(1)), (65, Some(65)), (66, None)];
+const KEYS: [(i64, Option<i64>); 4] = [(0, None), (1, Some(1)), (33, Some(33)), (34, None)];
 
 /// Places, and the key of the row at each.
 const PLACES: [(u64, Option<i64>); 4] = [
     (0, Some(1)),
-    (64, Some(65)),
-    (65, None),
+    (32, Some(33)),
+    (33, None),
     (u64::MAX, None),
 ];
 
 #[test]
 fn the_ends_of_a_part(rt: HostRuntime) {
-    let part = part_with(&rt, &up_to(&rt, 65, true));
+    let part = part_with(&rt, &up_to(&rt, 33, true));
     for (key, there) in &KEYS {
         assert_eq!(rt; part.get(&Key::Int(*key)).and_then(key_of), *there, "{key}");
     }
@@ -105,7 +105,7 @@ fn the_ends_of_a_part(rt: HostRuntime) {
             "{place}"
         );
     }
-    assert_eq!(rt; part.rows_from(64).len(), 1);
+    assert_eq!(rt; part.rows_from(32).len(), 1);
     assert_eq!(rt;
         part.page(0).and_then(|page| page.first()).and_then(key_of),
         Some(1)
@@ -127,19 +127,19 @@ fn a_copy_is_a_part_of_its_own(rt: HostRuntime) {
 #[test]
 fn a_row_too_many_makes_a_second_page_where_rows_come_one_by_one(rt: HostRuntime) {
     let mut part = part_with(&rt, &[]);
-    change_each(&rt, &mut part, &up_to(&rt, 64, true));
+    change_each(&rt, &mut part, &up_to(&rt, 32, true));
     let before = part.copy(rt.alloc()).expect(&rt, "memory");
-    change_each(&rt, &mut part, &[change_of(&rt, Key::Int(65), Some(650))]);
-    assert_eq!(rt; part.at(64).and_then(key_of), Some(65));
+    change_each(&rt, &mut part, &[change_of(&rt, Key::Int(33), Some(330))]);
+    assert_eq!(rt; part.at(32).and_then(key_of), Some(33));
     assert!(rt; part.page(1).is_some());
-    assert!(rt; has_up_to(&part, 65));
-    assert!(rt; before.at(64).is_none());
+    assert!(rt; has_up_to(&part, 33));
+    assert!(rt; before.at(32).is_none());
     assert!(rt; before.page(1).is_none());
-    assert!(rt; has_up_to(&before, 64));
-    change_each(&rt, &mut part, &up_to(&rt, 65, false));
+    assert!(rt; has_up_to(&before, 32));
+    change_each(&rt, &mut part, &up_to(&rt, 33, false));
     assert_eq!(rt; part.len(), 0);
     assert!(rt; part.page(0).is_none());
-    assert!(rt; has_up_to(&before, 64));
+    assert!(rt; has_up_to(&before, 32));
 }
 
 #[test]
