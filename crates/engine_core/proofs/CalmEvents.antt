@@ -4,13 +4,12 @@ use Rattle.std.proofs.lemmas.Bool.{eqb-false, eqb-true}
 use Rattle.own_model.specs.declared.history.Entry.{Entry}
 use Rattle.own_model.specs.declared.refusal.Refusal.{Refusal}
 use Rattle.own_model.specs.declared.reply.Reply.{Reply}
-use Rattle.std.specs.Prelude.{if◌then◌else◌}
-use Rattle.own_model.specs.declared.reply.Reply.TheVariants.{Counted, Done, Ended, Forgot, Got, Graph, Refused, Rows}
+use Rattle.own_model.specs.declared.reply.Reply.TheVariants.{Refused}
 use Rattle.own_model.specs.Db.{Db}
 use Rattle.state_model.specs.Sound.{Sound}
 use Rattle.state_model.specs.Weight.{weight}
 use Rattle.history_model.specs.Held.{held, items_held}
-use Rattle.history_model.specs.History.{History, dooms, flat_after, happens, is_failure, other_after, own_after, world}
+use Rattle.history_model.specs.History.{History, dooms, flat_after, happens, own_after, world}
 use Rattle.history_model.specs.Reply.{answer, is_refusal}
 use Rattle.history_model.specs.World.{SessionStanding, World}
 use Rattle.history_model.proofs.DoomLemmas.{refused-dooms}

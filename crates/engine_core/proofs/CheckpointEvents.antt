@@ -1,5 +1,5 @@
 -- A CHECKPOINT outside a transaction.
-use Rattle.std.proofs.Common.{◌≡◌, ◌∙◌, ℕ, List, Bool, true, false, not, ap, inr, refl, subst, sym}
+use Rattle.std.proofs.Common.{◌≡◌, ◌∙◌, ℕ, List, Bool, true, false, ap, inr, refl, subst, sym}
 use Rattle.std.specs.Prelude.{Err, IfOk, Ok, OnErr, Result}
 use Rattle.own_base.specs.declared.number.Area.{Area}
 use Rattle.own_model.specs.declared.history.Entry.{Entry}

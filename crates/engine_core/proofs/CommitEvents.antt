@@ -1,5 +1,5 @@
 -- The COMMIT of an open transaction.
-use Rattle.std.proofs.Common.{◌≡◌, ◌≢◌, ◌∙◌, ◌+◌, ℕ, List, [], length, Bool, true, false, not, None, ap, refl, subst, sym}
+use Rattle.std.proofs.Common.{◌≡◌, ◌≢◌, ◌∙◌, ◌+◌, ℕ, List, [], length, Bool, true, false, None, ap, refl, subst, sym}
 use Rattle.std.specs.Prelude.{Ok, is_some, if◌then◌else◌}
 use Rattle.own_base.specs.declared.number.Area.{Area}
 use Rattle.own_base.specs.declared.change.Change.{Change}

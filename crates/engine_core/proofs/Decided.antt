@@ -17,7 +17,7 @@ use Rattle.state_model.specs.Net.{change_at, keys_in, net, net_from, net_in}
 use Rattle.state_model.proofs.SameLemmas.{state_same}
 use Rattle.history_model.specs.AsksDisk.{asks_disk, under}
 use Rattle.history_model.specs.Commits.{is_commit, is_create}
-use Rattle.history_model.specs.History.{History, flat_after, happens, is_disk, is_failure, left_by, world}
+use Rattle.history_model.specs.History.{History, flat_after, happens, is_disk, left_by, world}
 use Rattle.history_model.specs.Reply.{answer, by_verdict, changes, is_refusal}
 use Rattle.history_model.specs.World.{World}
 use Rattle.history_model.proofs.Working.{answer-works}

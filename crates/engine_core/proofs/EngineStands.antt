@@ -1,6 +1,6 @@
 -- What an engine keeps, before any call and with one call more.
 use Rattle.std.proofs.Common.{◌≡◌, ◌∙◌, ℕ, ◌+◌, ◌<◌, ◌≤◌, List, [], ◌∷◌, ◌++◌, Bool, true, false, length, inl, inr, refl, ap, sym, subst, arith}
-use Rattle.std.specs.Prelude.{◌≢◌, ◌⊎◌, ◌&&◌, nat_lt, not, Option, None, Some, Result, Ok, Err, IfOk, OnErr, IsTrue, is_some, option_map, if◌then◌else◌}
+use Rattle.std.specs.Prelude.{◌≢◌, ◌⊎◌, ◌&&◌, nat_lt, Option, None, Some, Result, Ok, Err, IfOk, OnErr, IsTrue, is_some, option_map, if◌then◌else◌}
 use Rattle.std.specs.Option.{option_map_or}
 use Rattle.std.proofs.lemmas.Bool.{ltb-false, ltb-true}
 use Rattle.std.proofs.lemmas.List.{length-append}

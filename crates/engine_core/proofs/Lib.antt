@@ -10,6 +10,7 @@ mod Decided
 pub mod FewColumns
 pub mod Forgotten
 pub mod Judged
+mod KeptSchemas
 mod JudgedCreates
 mod LookEvents
 mod LookSteps

@@ -1,11 +1,14 @@
 -- Requests as the engine runs them.
-use Rattle.std.specs.Prelude.{Bool, true, false, IsTrue}
+use Rattle.std.specs.Prelude.{◌≡◌, Bool, true, false, Ok, IsTrue}
 use Rattle.own_model.specs.declared.bound.Bound.{Bound}
 use Rattle.own_model.specs.declared.bound.Bound.TheVariants as bound
+use Rattle.own_model.specs.declared.request.Request.{Request}
+use Rattle.own_model.specs.declared.request.Request.TheVariants.{Run}
 use Rattle.own_model.specs.declared.schema.Schema.{Schema}
 use Rattle.own_model.specs.declared.statement.Statement.{Statement}
 use Rattle.own_model.specs.declared.statement.Statement.TheVariants.{Begin, Checkpoint, Commit, CreateTable, CreateView, Delete, Explain, GdprForget, GdprGet, Insert, Rollback, Select, Update}
 use Rattle.schema_model.specs.Tables.{is_subject}
+use Rattle.query_model.specs.BoundStatement.{bound_statement}
 use Rattle.write_eval.specs.Write.{IsWrite}
 
 -- whether a statement reads alone
@@ -54,3 +57,9 @@ IsMeant schema (bound.Update table sets cond) = IsWrite schema (bound.Update tab
 IsMeant schema (bound.Delete table cond) = IsWrite schema (bound.Delete table cond)
 IsMeant schema (bound.Forget subject) = IsTrue (is_subject schema subject.0.table.0)
 IsMeant schema _ = ⊥
+
+-- a request's statement is bound to this over a schema
+pub record IsMeantBy (schema : Schema) (request : Request) (bound : Bound) : Type 0 where
+  pub asked : Statement
+  pub asks : request ≡ Run asked
+  pub means : bound_statement schema asked ≡ Ok bound

@@ -25,6 +25,7 @@ ghost use Rattle.crash_model.specs.StoreIn.{IsStoreIn};
 ghost use Rattle.crash_recover.specs.Opening.{IsLeft};
 ghost use Rattle.crash_recover.specs.declared.open.OpenFault.TheVariants.{Damaged, DiskFault};
 ghost use Rattle.store_disk.specs.OpensAt.{OpensAt};
+ghost use Rattle.serve_model.specs.Ahead.{IsBoundAhead};
 ghost use Rattle.engine_core.specs.Came.{ComesAs, reply_by};
 ghost use Rattle.engine_core.specs.Made.{IsEndOf, IsMade};
 ghost use Rattle.engine_core.specs.RepresentsWorld.{RepresentsWorld};
@@ -33,7 +34,7 @@ ghost use Rattle.engine_core.specs.Stored.{IsUp};
 
 use crate::came::{Came, into_reply, step_of, verdict_by};
 use crate::closed::Closed;
-use crate::serving::serve;
+use crate::ready::serve_ahead;
 use crate::state::State;
 use crate::verdict::is_fault;
 use commit_replay::Replayed;
@@ -41,7 +42,7 @@ use crash_recover::OpenFault;
 use outer_world::Disk;
 use own_base::{List, Place, SessionNo};
 use own_model::{Entry, Refusal, Reply, Request, Verdict};
-use serve_model::Step;
+use serve_model::{Ahead, Step};
 use std::alloc::{AllocError, Global};
 use std::marker::Model;
 use std::mem::drop;
@@ -163,6 +164,28 @@ impl<D: Disk> Engine<D> {
         ensures left { IsTrue (D.honest (disk_of self.new)) → (a b : List ℕ) → D.leaves (disk_of self.new) A a → D.leaves (disk_of self.new) B b
             → IsLeftBy self.new.base self.new.start self.new.history a b }
     {
+        self.step_ahead(session, call, request, None)
+    }
+
+    /// Makes a call of a session as `step` does. Where the store has no more creates than what its statement was bound over ahead, a look
+    /// takes that, and else the statement is bound here.
+    pub fn step_ahead(
+        &mut self,
+        session: SessionNo,
+        call: u32,
+        request: Request,
+        ahead: Option<Ahead>,
+    ) -> Step<Snapshot>
+        requires first { 1 ≤ session.0 }
+        requires last { session.0 ≤ SESSIONS }
+        requires readable { IsReadable request }
+        requires ahead { IfSome ahead (IsBoundAhead self.old.base self.old.history request) }
+        ensures steps { Steps D.holds D.leaves D.moment D.might_have_left D.honest D.faults self.old self.new (entry session call request Took) result }
+        ensures serial { Serial self.new.base self.new.history }
+        ensures count { self.new.store.commits ≡ self.new.start + length (commits self.new.base self.new.history) }
+        ensures left { IsTrue (D.honest (disk_of self.new)) → (a b : List ℕ) → D.leaves (disk_of self.new) A a → D.leaves (disk_of self.new) B b
+            → IsLeftBy self.new.base self.new.start self.new.history a b }
+    {
         let entry = Entry {
             session,
             call,
@@ -177,6 +200,7 @@ impl<D: Disk> Engine<D> {
             &mut self.down,
             &mut self.history,
             entry,
+            ahead,
             false,
         ) {
             Ok((place, came)) => step_of(place, came),
@@ -215,6 +239,7 @@ impl<D: Disk> Engine<D> {
             &mut self.down,
             &mut self.history,
             entry,
+            None,
             true,
         ) {
             Ok((place, came)) => Ok((place, into_reply(came))),
@@ -321,6 +346,7 @@ fn make<D: Disk>(
     down: &mut Option<Place>,
     history: &mut Vec<Entry>,
     entry: Entry,
+    ahead: Option<Ahead>,
     at_once: bool,
 ) -> Result<(Place, Came), AllocError>
     requires entries { IsHistory history.old.items }
@@ -331,6 +357,7 @@ fn make<D: Disk>(
     requires seen { IfSome seen.old (λ shown. shown ≡ state.old.version) }
     requires is_entry { IsEntry entry }
     requires took { entry.verdict ≡ Took }
+    requires ahead { IfSome ahead (IsBoundAhead state.old.opened history.old.items entry.request) }
     ensures made { IfOk result (λ made. IsMade D.holds D.leaves D.moment D.might_have_left D.honest D.faults state.old.opened history.old.items history.new.items state.new
         store.old store.new down.old down.new entry made.0.0 (reply_by made.1)) }
     ensures comes { IfOk result (λ made. ComesAs at_once (world state.old.opened history.old.items) entry made.1) }
@@ -344,15 +371,17 @@ fn make<D: Disk>(
 {
     if history.reserve(1).is_err() {
         drop(entry);
+        drop(ahead);
         return Err(AllocError);
     }
     let place = Place(history.len() as u64);
     if let Some(failed) = *down {
+        drop(ahead);
         history.push_reserved(entry);
         let why = Refusal::Down(failed);
         return Ok((place, Came::Replied(Verdict::Took, Reply::Refused(why))));
     }
-    match serve(alloc, state, seen, store, history, &entry, at_once) {
+    match serve_ahead(alloc, state, seen, store, history, &entry, ahead, at_once) {
         Ok(came) => {
             let verdict = verdict_by(&came);
             if is_fault(verdict) {

@@ -15,6 +15,7 @@ mod keeps;
 mod looking;
 mod outside;
 mod prepared;
+mod ready;
 mod serves;
 mod serving;
 mod state;

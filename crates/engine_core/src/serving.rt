@@ -1,8 +1,10 @@
-ghost use Rattle.std.specs.Prelude.{◌≡◌, None, IfOk, IfSome};
+ghost use Rattle.std.specs.Prelude.{◌≡◌, None, Ok, IfOk, IfSome};
 ghost use Rattle.own_model.specs.declared.history.Verdict.TheVariants.{Took};
 ghost use Rattle.own_model.specs.declared.request.Request.TheVariants.{Run};
+ghost use Rattle.query_model.specs.BoundStatement.{bound_statement};
 ghost use Rattle.history_model.specs.History.{world};
 ghost use Rattle.txn_core.specs.SessionStates.{doom_of, state_by};
+ghost use Rattle.engine_core.specs.Asked.{IsMeantBy};
 ghost use Rattle.engine_core.specs.Came.{ComesAs, told_of};
 ghost use Rattle.engine_core.specs.RepresentsWorld.{IsEvent, Serves};
 ghost use Rattle.engine_core.specs.Stored.{IsUp, Stores};
@@ -13,7 +15,7 @@ use crate::looking::{read, reads_alone};
 use crate::outside::serve_outside;
 use crate::state::State;
 use outer_world::Disk;
-use own_model::{Entry, Refusal, Reply, Request, Statement, Verdict};
+use own_model::{Bound, Entry, Refusal, Reply, Request, Statement, Verdict};
 use std::alloc::{AllocError, Global};
 use std::mem::drop;
 use store_disk::StoreDisk;
@@ -26,6 +28,7 @@ fn serve_statement<D: Disk>(
     alloc: Global,
     state: &mut State,
     seen: &mut Option<Snapshot>,
+    ready: &mut Option<Bound>,
     store: &mut StoreDisk<D>,
     history: &[Entry],
     entry: &Entry,
@@ -36,6 +39,7 @@ fn serve_statement<D: Disk>(
     requires took { entry.now.verdict ≡ Took }
     requires store { IsUp D.holds D.leaves D.honest store.old state.old.version }
     requires seen { IfSome seen.old (λ shown. shown ≡ state.old.version) }
+    requires ready { IfSome ready.old (λ bound. bound_statement state.old.version.schema statement.now ≡ Ok bound) }
     requires undoomed { doom_of (state_by state.old.txns.states entry.now.session.0) ≡ None }
     requires asks { entry.now.request ≡ Run statement.now }
     ensures served { Serves state.old.opened state.new history.now entry.now (told_of result) }
@@ -49,7 +53,7 @@ fn serve_statement<D: Disk>(
         return replied(serve_inside(alloc, state, store, history, entry, statement));
     }
     if reads_alone(statement) {
-        return read(alloc, &state.version, seen, statement, at_once);
+        return read(alloc, &state.version, seen, ready, statement, at_once);
     }
     drop(seen.take());
     replied(serve_outside(alloc, state, store, history, entry, statement))
@@ -60,6 +64,7 @@ fn serve_undoomed<D: Disk>(
     alloc: Global,
     state: &mut State,
     seen: &mut Option<Snapshot>,
+    ready: &mut Option<Bound>,
     store: &mut StoreDisk<D>,
     history: &[Entry],
     entry: &Entry,
@@ -69,6 +74,7 @@ fn serve_undoomed<D: Disk>(
     requires took { entry.now.verdict ≡ Took }
     requires store { IsUp D.holds D.leaves D.honest store.old state.old.version }
     requires seen { IfSome seen.old (λ shown. shown ≡ state.old.version) }
+    requires ready { IfSome ready.old (IsMeantBy state.old.version.schema entry.now.request) }
     requires undoomed { doom_of (state_by state.old.txns.states entry.now.session.0) ≡ None }
     ensures served { Serves state.old.opened state.new history.now entry.now (told_of result) }
     ensures stored { Stores D.holds D.leaves D.moment D.might_have_left D.honest D.faults (world state.old.opened history.now) entry.now store.old (told_of result) store.new }
@@ -94,6 +100,7 @@ fn serve_undoomed<D: Disk>(
                 alloc,
                 state,
                 seen,
+                ready,
                 store,
                 history,
                 entry,
@@ -109,6 +116,7 @@ pub(crate) fn serve<D: Disk>(
     alloc: Global,
     state: &mut State,
     seen: &mut Option<Snapshot>,
+    ready: &mut Option<Bound>,
     store: &mut StoreDisk<D>,
     history: &[Entry],
     entry: &Entry,
@@ -118,6 +126,7 @@ pub(crate) fn serve<D: Disk>(
     requires took { entry.now.verdict ≡ Took }
     requires store { IsUp D.holds D.leaves D.honest store.old state.old.version }
     requires seen { IfSome seen.old (λ shown. shown ≡ state.old.version) }
+    requires ready { IfSome ready.old (IsMeantBy state.old.version.schema entry.now.request) }
     ensures served { Serves state.old.opened state.new history.now entry.now (told_of result) }
     ensures stored { Stores D.holds D.leaves D.moment D.might_have_left D.honest D.faults (world state.old.opened history.now) entry.now store.old (told_of result) store.new }
     ensures comes { IfOk result (ComesAs at_once (world state.old.opened history.now) entry.now) }
@@ -129,6 +138,6 @@ pub(crate) fn serve<D: Disk>(
             let why = Refusal::Doomed(place);
             Ok(Came::Replied(Verdict::Took, Reply::Refused(why)))
         }
-        None => serve_undoomed(alloc, state, seen, store, history, entry, at_once),
+        None => serve_undoomed(alloc, state, seen, ready, store, history, entry, at_once),
     }
 }

@@ -1,6 +1,7 @@
 pub mod FirstLemmas
 pub mod GatheredLemmas
 pub mod JobLemmas
+pub mod LearntLemmas
 pub mod LookedLemmas
 pub mod OutLemmas
 pub mod PassLemmas

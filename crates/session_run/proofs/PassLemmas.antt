@@ -36,7 +36,7 @@ may-count shows base found left call (Look place shown bound) view lead own is s
 may-count shows base found left call NoMemory view lead own is step = inl (step ∙ sym is)
 
 -- what a call left has the history before it as its beginning
-left_begins : {S : Type 0} (shows : S → Db) (base : Db) (found left : History) (call : Entry) (step : Step S) → Steps shows base found left call step → IsPrefix found left
+pub left_begins : {S : Type 0} (shows : S → Db) (base : Db) (found left : History) (call : Entry) (step : Step S) → Steps shows base found left call step → IsPrefix found left
 left_begins shows base found left call (Answered place told) step = (_, sym step.made.history)
 left_begins shows base found left call (Look place shown bound) step = (_, sym step.made.history)
 left_begins shows base found left call NoMemory step = ([], append-nil found ∙ sym step)

@@ -1,5 +1,6 @@
 pub mod Gathered
 pub mod Jobs
+pub mod Learning
 pub mod Serving
 pub mod Sessions
 pub mod Telling

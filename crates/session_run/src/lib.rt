@@ -3,6 +3,7 @@
 #![tactic(auto)]
 
 mod calling;
+mod learning;
 mod printing;
 mod replies;
 mod running;

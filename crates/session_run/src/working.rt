@@ -12,6 +12,7 @@ use own_base::SessionNo;
 use own_model::Request;
 use serve_model::Serves;
 use std::alloc::Global;
+use std::mem::drop;
 use std::sync::Wait;
 
 /// Makes the calls of a session in their order, and tells each. The room for what is told is there.
@@ -37,8 +38,10 @@ where
     ensures pass { IsPassOf turn.now pass.new }
     ensures served { ServesCalls pass.old pass.new session calls.items tolds.new.items }
 {
+    let mut learnt = None;
     for asked in calls {
-        let told = serve_one(rt, alloc, turn, pass, session, asked, gate);
+        let told = serve_one(rt, alloc, turn, pass, session, asked, &mut learnt, gate);
         tolds.push_reserved(told);
     }
+    drop(learnt);
 }

@@ -145,6 +145,14 @@ impl MakeCopy for Snapshot {
 impl Looks for Snapshot {
     ghost db = { λ snapshot. snapshot };
 
+    fn schema(&self) -> &Schema {
+        self.version().schema()
+    }
+
+    fn creates(&self) -> usize {
+        self.version().catalog().creates().len()
+    }
+
     #[tactic(auto, unfolding(run_model::specs::Run::run_bound))]
     fn look(&self, bound: &Bound) -> Result<Reply, AllocError> {
         match bound {

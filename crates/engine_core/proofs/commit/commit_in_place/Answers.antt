@@ -7,7 +7,6 @@ use Rattle.state_model.specs.Fault.{fault}
 use Rattle.state_model.specs.Put.{put}
 use Rattle.ref_index.specs.Tells.{Tell}
 use Rattle.commit_check.specs.Judged.{IsJudged}
-use Rattle.commit_check.specs.declared.judged.Judged.TheVariants.{Fault, Weighs}
 use Rattle.commit_record.specs.Recorded.{IsNetOf, RecordsChanges}
 use Rattle.engine_core.proofs.Commits.{tells-faulty, tells-placed}
 use Rattle.engine_core.proofs.Nets.{tells-net}

@@ -43,13 +43,13 @@ returns-after-is_fault-clause-made g c =
       | then-is_fault w ↦ ap (option_map (λ (place : Place). place.0)) w.down-is ∙ ap (λ b. if b then Some c.len.result else None) w.if-is_fault.ensures
       | else-is_fault w ↦ ap (option_map (λ (place : Place). place.0)) (w.down-is ∙ up) ∙ ap (λ b. if b then Some c.len.result else None) w.if-is_fault.ensures
     ] in
-    made-up D.holds D.leaves D.moment D.might_have_left D.honest D.faults c.args.state.now.opened c.args.history.now.items c.push_reserved-in-Ok.new.self.items c.serve.new.state c.args.store.now c.serve.new.store
+    made-up D.holds D.leaves D.moment D.might_have_left D.honest D.faults c.args.state.now.opened c.args.history.now.items c.push_reserved-in-Ok.new.self.items c.serve_ahead.new.state c.args.store.now c.serve_ahead.new.store
     c.args.down.now c.if-is_fault.down call c.len.result (search rules) c.requires.down verdict reply up
     (c.push_reserved-in-Ok.ensures.items ∙ ((λ i. c.reserve.new.self.items ++ c.under.ensures i ∷ []) ∙ ap (λ (items : History). items ++ under verdict call ∷ []) c.reserve.ensures.items))
-    (subst (λ (history : History). Serves {E = ℕ} c.args.state.now.opened c.serve.new.state history call (Ok (verdict, reply))) same
-    (subst (λ verdict. Serves {E = ℕ} c.args.state.now.opened c.serve.new.state c.deref.result.now call (Ok (verdict, reply))) (sym c.verdict_by-verdict.ensures) c.in-Ok.ensures.served))
-    (subst (λ (history : History). Stores {E = ℕ} D.holds D.leaves D.moment D.might_have_left D.honest D.faults (world c.args.state.now.opened history) call c.args.store.now (Ok (verdict, reply)) c.serve.new.store) same
-    (subst (λ verdict. Stores {E = ℕ} D.holds D.leaves D.moment D.might_have_left D.honest D.faults (world c.args.state.now.opened c.deref.result.now) call c.args.store.now (Ok (verdict, reply)) c.serve.new.store)
+    (subst (λ (history : History). Serves {E = ℕ} c.args.state.now.opened c.serve_ahead.new.state history call (Ok (verdict, reply))) same
+    (subst (λ verdict. Serves {E = ℕ} c.args.state.now.opened c.serve_ahead.new.state c.deref.result.now call (Ok (verdict, reply))) (sym c.verdict_by-verdict.ensures) c.in-Ok.ensures.served))
+    (subst (λ (history : History). Stores {E = ℕ} D.holds D.leaves D.moment D.might_have_left D.honest D.faults (world c.args.state.now.opened history) call c.args.store.now (Ok (verdict, reply)) c.serve_ahead.new.store) same
+    (subst (λ verdict. Stores {E = ℕ} D.holds D.leaves D.moment D.might_have_left D.honest D.faults (world c.args.state.now.opened c.deref.result.now) call c.args.store.now (Ok (verdict, reply)) c.serve_ahead.new.store)
     (sym c.verdict_by-verdict.ensures) c.in-Ok.ensures.stored))
     fails
 

@@ -1,4 +1,4 @@
-use Rattle.std.proofs.Common.{subst, ℕ}
+use Rattle.std.proofs.Common.{subst}
 use Rattle.std.proofs.lemmas.Result.{IfOk-weaker}
 use Rattle.check_image.specs.Gated.{IsGatedImage}
 use Rattle.engine_core.proofs.Images.{gated-next}

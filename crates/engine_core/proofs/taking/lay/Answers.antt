@@ -1,4 +1,4 @@
-use Rattle.std.proofs.Common.{◌≡◌, ◌≤◌, ◌+◌, ◌∙◌, Bool, true, false, arith, lit≤, refl, rules, subst, sym}
+use Rattle.std.proofs.Common.{◌≤◌, ◌+◌, ◌∙◌, Bool, true, false, arith, lit≤, refl, rules, subst, sym}
 use Rattle.std.specs.Prelude.{if◌then◌else◌, length}
 use Rattle.outer_world.specs.OtherArea.{other_of}
 use Rattle.store_disk.specs.Kept.{IsEither, IsKept, IsSomeGated}

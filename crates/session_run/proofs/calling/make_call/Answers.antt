@@ -1,12 +1,26 @@
 use Rattle.std.proofs.Common.{◌≡◌, ap, ◌∙◌, sym, subst}
+use Rattle.std.specs.Prelude.{IfSome}
 use mathlib.Core.List.{IsPrefix}
+use Rattle.serve_model.specs.Ahead.{IsBoundAhead}
 use Rattle.serve_model.specs.Steps.{Steps, entry}
 use Rattle.history_model.specs.Serial.{Serial}
 use Rattle.turn_model.specs.Start.{Start}
 use Rattle.commit_turn.specs.Passes.{seen, start_of, view_of}
 use Rattle.commit_turn.specs.Steps.{counted, holding, released}
+use Rattle.session_run.proofs.LearntLemmas.{ahead-grows}
 use Rattle.session_run.proofs.PassLemmas.{may-count}
 use Rattle.session_run.proofs.calling.make_call.Goals as goal
+
+-- what was bound ahead is bound ahead of what was found, too
+pub serve-step-requires-clause-ahead : goal.serve-step-requires-clause-ahead
+serve-step-requires-clause-ahead g c =
+    let held = c.take-held.ensures in
+    let found = g.S.Keeps.history c.value.result.now in
+    let start : g.S.Keeps.start c.value.result.now ≡ start_of c.args.pass.now = ap g.S.Keeps.start c.value.ensures.value ∙ held.start in
+    subst (λ (start : Start). IfSome c.args.ahead (IsBoundAhead start.base found c.args.request)) (sym start)
+    (ahead-grows (start_of c.args.pass.now).base (seen c.args.pass.now) found
+    (subst (λ value. IsPrefix (seen c.args.pass.now) (g.S.Keeps.history value)) (sym c.value.ensures.value) held.begins)
+    c.args.request c.args.ahead c.requires.ahead)
 
 pub give-requires-clause-entries : goal.give-requires-clause-entries
 give-requires-clause-entries g c =

@@ -12,6 +12,7 @@ loop-asked-init g c =
       whole = gives;
       readable = rw gives c.requires.readable;
       served = subst (λ tolds. ServesCalls c.args.pass.now c.args.pass.now c.args.session [] tolds) (sym c.requires.none) (serves-none c.args.pass.now c.args.session);
+      learnt = tt;
       room = rw gives (omega (arith, c.requires.room, ap length c.requires.none));
     }
 
@@ -31,5 +32,6 @@ loop-asked-preserved g c =
       readable = (rw items at so_far.readable).1;
       served = subst (λ tolds. ServesCalls c.args.pass.now c.serve_one-told.new.pass c.args.session (c.loop-asked.yielded ++ c.in-Some.asked ∷ []) tolds) (sym c.push_reserved.ensures.items)
           (serves-more c.args.pass.now c.loop-asked.pass c.serve_one-told.new.pass c.args.session c.loop-asked.yielded (c.in-Some.asked ∷ []) c.loop-asked.tolds.items (c.serve_one-told.result ∷ []) so_far.served own.served);
+      learnt = own.learnt;
       room = omega (arith, c.push_reserved.ensures.len, c.push_reserved.ensures.capacity);
     }

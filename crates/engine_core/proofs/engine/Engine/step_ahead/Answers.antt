@@ -1,5 +1,5 @@
 use Rattle.std.proofs.Common.{◌∙◌, ◌-◌, ap, refl, subst, sym}
-use Rattle.std.specs.Prelude.{is_some, vec_len}
+use Rattle.std.specs.Prelude.{IfSome, is_some, vec_len}
 use Rattle.std.specs.Vec.{vec_capacity}
 use Rattle.own_model.specs.declared.history.Entry.{Entry}
 use Rattle.own_model.specs.declared.history.Verdict.TheVariants.{Took}
@@ -7,17 +7,22 @@ use Rattle.own_model.specs.Db.{Db}
 use Rattle.history_model.proofs.EveryHistory.{serial-history}
 use Rattle.history_model.proofs.HistoryLemmas.{flat-world}
 use Rattle.store_disk.specs.Kept.{IsKept}
+use Rattle.serve_model.specs.Ahead.{IsBoundAhead}
 use Rattle.serve_model.specs.declared.step.Step.{Step}
 use Rattle.engine_core.specs.Came.{reply_by}
 use Rattle.engine_core.specs.Seen.{Seen, Steps, entry as made}
 use Rattle.engine_core.proofs.EngineStands.{makes-made, stands-after, writes-made}
 use Rattle.engine_core.proofs.LookSteps.{steps-came}
 use Rattle.engine_core.proofs.RepresentsLemmas.{leaves-of}
-use Rattle.engine_core.proofs.engine.Engine.step.Goals as goal
-use Rattle.engine_core.proofs.engine.Engine.step.Goals.{in-Err, in-Ok}
+use Rattle.engine_core.proofs.engine.Engine.step_ahead.Goals as goal
+use Rattle.engine_core.proofs.engine.Engine.step_ahead.Goals.{in-Err, in-Ok}
 
 pub make-requires-clause-seen : goal.make-requires-clause-seen
 make-requires-clause-seen g c = c.self.invariant.1
+
+pub make-requires-clause-ahead : goal.make-requires-clause-ahead
+make-requires-clause-ahead g c =
+    subst (λ (seen : Seen g.row.D.Denot). IfSome c.args.ahead (IsBoundAhead seen.base seen.history c.args.request)) (sym c.self.view_is) c.requires.ahead
 
 -- while the disk hasn't failed it keeps the state
 pub make-requires-clause-store : goal.make-requires-clause-store
