@@ -69,7 +69,8 @@ module _ (base : Db) (history : History) (db : Db) (session : ℕ) where
       record { schema = schema-block (length history) db block stands.stated; creates = creates-block (length history) db block stands.stated }
   same_inside begun block stands _ = same_itself db
 
-  same_left : (standing : SessionStanding) → IsStanding base history db session standing → (request : Request) → is_create request ≡ false
+  -- nor does what a session leaves by a request that is no create alter the schema or the creates
+  pub same_left : (standing : SessionStanding) → IsStanding base history db session standing → (request : Request) → is_create request ≡ false
       → IsSameSchema db (left_by db standing request)
   same_left Outside stands (Run asked) none = same_schema-run db asked (adds_nothing asked none)
   same_left (Open begun block) stands (Run asked) none = same_inside begun block stands asked

@@ -7,7 +7,7 @@ use Rattle.own_model.specs.declared.create.CreateView.{CreateView as ViewCreate}
 use Rattle.own_model.specs.declared.history.Entry.{Entry}
 use Rattle.own_model.specs.declared.refusal.Refusal.{Refusal}
 use Rattle.own_model.specs.declared.request.Request.{Request}
-use Rattle.own_model.specs.declared.request.Request.TheVariants.{Run, Syntax, Limit, End}
+use Rattle.own_model.specs.declared.request.Request.TheVariants.{Run}
 use Rattle.own_model.specs.declared.schema.CreateText.{CreateText}
 use Rattle.own_model.specs.declared.statement.Statement.{Statement}
 use Rattle.own_model.specs.declared.statement.Statement.TheVariants as statement
@@ -16,18 +16,15 @@ use Rattle.query_model.specs.BoundStatement.{bound_statement}
 use Rattle.state_model.specs.Create.{create, create_view}
 use Rattle.state_model.specs.Sound.{Sound}
 use Rattle.run_model.specs.Run.{add_view, create_table, create_unless, run, view_unless}
-use Rattle.run_model.proofs.Outcomes.{AddsNothing}
-use Rattle.run_model.proofs.SameSchema.{IsSameSchema, same_schema-run}
+use Rattle.run_model.proofs.SameSchema.{IsSameSchema}
 use Rattle.history_model.specs.Commits.{is_create}
 use Rattle.history_model.specs.History.{History, flat, left_by, world as world_of}
 use Rattle.history_model.specs.Reply.{answer, is_refusal}
 use Rattle.history_model.specs.Serial.{IsHistory}
-use Rattle.history_model.specs.World.{Block, SessionStanding, Outside, Open, Doomed}
-use Rattle.history_model.proofs.BlockLemmas.{creates-block, schema-block}
+use Rattle.history_model.specs.World.{SessionStanding, Outside, Open, Doomed}
 use Rattle.history_model.proofs.EveryHistory.{serial-world}
 use Rattle.history_model.proofs.HistoryLemmas.{flat-append, flat-world}
-use Rattle.history_model.proofs.Worlds.{IsStanding}
-use Rattle.crash_model.proofs.FlatLemmas.{history-front}
+use Rattle.crash_model.proofs.FlatLemmas.{history-front, same_left}
 use Rattle.serve_model.specs.declared.ahead.Ahead.{Ahead}
 use Rattle.serve_model.specs.Ahead.{IsBoundAhead}
 use Rattle.engine_core.specs.Asked.{IsMeantBy}
@@ -67,35 +64,8 @@ unfolding create_view
 keeps-view db view None = keeps-longer db _ _ refl
 keeps-view db view (Some why) = keeps-itself db
 
--- a statement that is no create adds nothing
-adds : (asked : Statement) → is_create (Run asked) ≡ false → AddsNothing asked
-adds (statement.CreateTable table) none = absurd (cc)
-adds (statement.CreateView view) none = absurd (cc)
-adds _ none = tt
-
-module _ (base : Db) (history : History) (db : Db) (session : ℕ) where
-  -- nor does what a session leaves by a request that is none
-  staying_inside : (begun : ℕ) (block : Block) → IsStanding base history db session (Open begun block) → (asked : Statement)
-      → Keeps db (left_by db (Open begun block) (Run asked))
-  staying_inside begun block stands statement.Commit =
-      keeps-same db _ (record { schema = schema-block (length history) db block stands.stated; creates = creates-block (length history) db block stands.stated })
-  staying_inside begun block stands _ = keeps-itself db
-
-  staying : (standing : SessionStanding) → IsStanding base history db session standing → (request : Request) → is_create request ≡ false
-      → Keeps db (left_by db standing request)
-  staying Outside stands (Run asked) none = keeps-same db _ (same_schema-run db asked (adds asked none))
-  staying (Open begun block) stands (Run asked) none = staying_inside begun block stands asked
-  staying (Doomed by) stands (Run asked) none = keeps-itself db
-  staying Outside stands (Syntax byte) none = keeps-itself db
-  staying Outside stands (Limit passed) none = keeps-itself db
-  staying Outside stands End none = keeps-itself db
-  staying (Open begun block) stands (Syntax byte) none = keeps-itself db
-  staying (Open begun block) stands (Limit passed) none = keeps-itself db
-  staying (Open begun block) stands End none = keeps-itself db
-  staying (Doomed by) stands (Syntax byte) none = keeps-itself db
-  staying (Doomed by) stands (Limit passed) none = keeps-itself db
-  staying (Doomed by) stands End none = keeps-itself db
-
+-- what a session leaves by a create
+module _ (db : Db) where
   creating : (standing : SessionStanding) (request : Request) → is_create request ≡ true → Keeps db (left_by db standing request)
   unfolding run create_table add_view
   creating Outside (Run (statement.CreateTable table)) creates = keeps-table db table _
@@ -113,9 +83,9 @@ unless-refused false db left keeps = keeps
 module _ (base : Db) (sound : Sound base) where
   left-keeps : (history : History) (entry : Entry) (creates : Bool) → is_create entry.request ≡ creates → IsHistory history
       → Keeps (world_of base history).flat (left_by (world_of base history).flat ((world_of base history).standing entry.session.0) entry.request)
-  left-keeps history entry true is entered = creating base history _ entry.session.0 _ entry.request is
+  left-keeps history entry true is entered = creating _ _ entry.request is
   left-keeps history entry false is entered =
-      staying base history _ entry.session.0 _ ((serial-world base history sound entered).stands entry.session.0) entry.request is
+      keeps-same _ _ (same_left base history _ entry.session.0 _ ((serial-world base history sound entered).stands entry.session.0) entry.request is)
 
   entry-keeps : (history : History) (entry : Entry) → IsHistory (history ++ entry ∷ []) → Keeps (flat base history) (flat base (history ++ entry ∷ []))
   entry-keeps history entry entered =

@@ -4,12 +4,14 @@ ghost use Rattle.grammar_model.specs.Readable.{IsReadable};
 use crate::texts::read;
 use engine_core::{Closed, Engine};
 use outer_world::MemDisk;
-use own_base::{Boxed, Place, SessionNo, Text};
-use own_model::{Entry, Reply, Request, SESSIONS};
+use own_base::{Boxed, Place, SessionNo, TableNo, Text};
+use own_model::{Entry, Reply, Request, SESSIONS, StoreView};
+use serve_model::Step;
 use sql_print::{print_reply, print_statement};
 use std::alloc::AllocError;
 use std::mem::drop;
 use std::process::Abort;
+use store_snapshot::Snapshot;
 
 /// A session, and its statement with a space between tokens, or End.
 type Call = (u8, &'static str);
@@ -126,13 +128,66 @@ fn expect_history(rt: &(impl Abort + AllocGlobal), entries: &[Entry]) {
     }
 }
 
-#[test]
-fn calls_are_answered_and_kept(rt: HostRuntime) {
-    let disk = MemDisk::new(rt.alloc(), &[]).expect(&rt, "memory");
-    let mut engine = match Engine::open_with_room(rt.alloc(), disk, CALLS.len() as u32) {
+/// An engine over an empty disk, with room for all calls.
+fn opened(rt: &(impl Abort + AllocGlobal)) -> Engine<MemDisk> {
+    let disk = MemDisk::new(rt.alloc(), &[]).expect(rt, "memory");
+    match Engine::open_with_room(rt.alloc(), disk, CALLS.len() as u32) {
         Ok(engine) => engine,
         Err((fault, _)) => panic!(rt; "{fault:?}"),
-    };
+    }
+}
+
+/// A step of session 1 that is left to who asked: its place, and what shows the database that it reads.
+fn left_to_look(
+    rt: &(impl Abort + AllocGlobal),
+    engine: &mut Engine<MemDisk>,
+    number: u32,
+    text: &str,
+) -> (Place, Snapshot) {
+    match engine.step(SessionNo(1), number, request_of(rt, text)) {
+        Step::Look(place, shown, _) => (place, shown),
+        _ => panic!(rt; "{text} is no look"),
+    }
+}
+
+/// Whether a step of session 1 is answered, and not left to who asked.
+fn is_answered(
+    rt: &(impl Abort + AllocGlobal),
+    engine: &mut Engine<MemDisk>,
+    number: u32,
+    text: &str,
+) -> bool {
+    match engine.step(SessionNo(1), number, request_of(rt, text)) {
+        Step::Answered(..) => true,
+        _ => false,
+    }
+}
+
+#[test]
+fn a_step_leaves_a_look_to_who_asked(rt: HostRuntime) {
+    let mut engine = opened(&rt);
+    for (number, call) in (1..).zip([CALLS[0], (1, "INSERT INTO users VALUES ( 5 ) , ( 7 )")]) {
+        let _lines = make(&rt, &mut engine, number, call);
+    }
+    let (place, shown) = left_to_look(&rt, &mut engine, 3, "SELECT * FROM users");
+    assert_eq!(rt; place.0, 2);
+    assert!(rt; is_answered(&rt, &mut engine, 4, "DELETE FROM users WHERE id = 5"));
+    let (_, later) = left_to_look(&rt, &mut engine, 5, "GDPR GET users 7");
+    assert_eq!(rt;
+        (
+            shown.shown().count(TableNo(0)),
+            later.shown().count(TableNo(0))
+        ),
+        (2, 1)
+    );
+    assert!(rt; is_answered(&rt, &mut engine, 6, "BEGIN"));
+    assert!(rt; is_answered(&rt, &mut engine, 7, "SELECT * FROM users"));
+    assert_eq!(rt; engine.history().len(), 7);
+}
+
+#[test]
+fn calls_are_answered_and_kept(rt: HostRuntime) {
+    let mut engine = opened(&rt);
     let lines = make_all(&rt, &mut engine);
     expect_history(&rt, engine.history());
     let Closed {

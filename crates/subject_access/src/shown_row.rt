@@ -12,25 +12,24 @@ ghost use Rattle.subject_model.specs.Owners.{reach};
 
 use crate::access::Access;
 use crate::cells::shown_cells;
-use own_base::{EdgeNo, List, MakeCopy, Row, TableNo};
+use own_base::{EdgeNo, List, MakeCopy, Name, Row, TableNo};
 use own_model::{Edge, GotRow, StoreView, TableDef};
 use owner_sets::is_named;
 use std::alloc::{AllocError, Global};
 
-/// A row of a table as a subject is shown it that reaches it by these edges.
+/// A row of the table of a name as a subject is shown it that reaches it by these edges.
 pub fn got_row(
     alloc: Global,
     edges: &[Edge],
     own: bool,
     by: &[EdgeNo],
-    definition: &TableDef,
+    table: Name,
     row: &Row,
 ) -> Result<GotRow, AllocError>
     requires { length row.now ≤ TABLE_COLUMNS }
-    ensures table { IfOk result (λ got. got.table ≡ definition.now.name) }
+    ensures table { IfOk result (λ got. got.table ≡ table) }
     ensures cells { IfOk result (λ got. got.cells ≡ map (shown_cell edges.now own by.now) (enumerate_from 0 row.now)) }
 {
-    let table = definition.name.copy(alloc)?;
     let cells = shown_cells(alloc, edges, own, by, row)?;
     Ok(GotRow { table, cells })
 }
@@ -57,7 +56,8 @@ pub(crate) fn add_row<V: StoreView>(
         let own = is_named(access.view, table, at, &access.subject.0);
         let edges = access.view.schema().edges.items();
         let by = access.by.at(table, at);
-        let got = got_row(alloc, edges, own, by, definition, row)?;
+        let name = definition.name.copy(alloc)?;
+        let got = got_row(alloc, edges, own, by, name, row)?;
         shown.add(got)?;
     }
     Ok(())
