@@ -182,7 +182,15 @@ fn a_step_leaves_a_look_to_who_asked(rt: HostRuntime) {
     );
     assert!(rt; is_answered(&rt, &mut engine, 6, "BEGIN"));
     assert!(rt; is_answered(&rt, &mut engine, 7, "SELECT * FROM users"));
-    assert_eq!(rt; engine.history().len(), 7);
+    let Closed {
+        opened,
+        history,
+        disk,
+    } = engine.close();
+    assert_eq!(rt; history.items().len(), 7);
+    drop(history);
+    drop(opened);
+    drop(disk);
 }
 
 #[test]
