@@ -4,7 +4,7 @@
 mod call;
 mod fault;
 pub mod laws;
-mod request;
+mod lines;
 mod scan;
 mod session_line;
 mod stream;

@@ -17,12 +17,13 @@ ghost use Rattle.call_stream.specs.Taken.{HasEnd, IsEndsFault, IsLastFault, IsLa
 
 use crate::call::{StreamCall, StreamEnd};
 use crate::fault::StreamFault;
-use crate::request::{line_feeds, request_of};
+use crate::lines::line_feeds;
 use crate::scan::{Closing, Scan};
 use crate::session_line::session_of;
 use crate::stretch::Read;
 use own_base::{List, SessionNo, Text};
 use own_model::{Request, SESSIONS, ScriptCall};
+use sql_reader::request_of;
 use std::alloc::{AllocError, Global};
 
 /// The most bytes that a stream takes.

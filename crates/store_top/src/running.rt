@@ -112,10 +112,10 @@ pub fn step<R: Source, W: Sink, D: Disk>(
     served(step_input(alloc, source, sink, disk))
 }
 
-/// What mode `serve` does: it reads an input of calls from the source, by a thread for each session, opens the store of the disk, and serves the sessions of the
-/// input side by side over it, by a worker for each: a worker makes the calls of its session in their order, each under a turn that
-/// the workers take, and answers what reads alone beside the others. When all are done each call's reply is written to the sink, session by session.
-/// Before each call the gate is asked, and it is told after.
+/// What mode `serve` does: it reads an input of calls from the source, by a thread for each session, opens the store of the disk,
+/// and serves the sessions of the input side by side over it, by a worker for each: a worker makes the calls of its session in
+/// their order, each under a turn that the workers take, and answers what reads alone beside the others. When all are done each
+/// call's reply is written to the sink, session by session. Before each call the gate is asked, and it is told after.
 ///
 /// That the run comes to its end isn't claimed: a worker waits until it has the turn. Where no thread can be made the sessions are
 /// served one after another. A source that tells nothing of its bytes, or a sink, has no clause on them; nor has a disk that isn't
