@@ -1,10 +1,10 @@
 -- What a subject is shown of rows, one after another and table after table.
-use Rattle.std.proofs.Common.{◌≡◌, ℕ, suc, ◌+◌, ◌≤◌, List, [], ◌∷◌, ◌++◌, Bool, true, false, drop, length, get_or, take, map, inl, inr, refl, ap, sym, ◌∙◌, append_assoc, add-one, drop-cons, arith}
+use Rattle.std.proofs.Common.{◌≡◌, ℕ, ◌+◌, ◌≤◌, List, [], ◌∷◌, ◌++◌, Bool, true, false, drop, length, get_or, take, map, inl, inr, refl, ap, sym, ◌∙◌, append_assoc}
 use Rattle.std.specs.Prelude.{Some, None, Option, filter, slice_get}
 use Rattle.std.specs.List.{enumerate_from}
-use Rattle.std.proofs.lemmas.List.{append-nil, drop_all, get_or_past, map-append, take_more}
+use Rattle.std.proofs.lemmas.List.{append-nil, drop_all, map-append, take_more}
 use Rattle.std.proofs.lemmas.List.Elements.{filter-append}
-use Rattle.std.proofs.lemmas.Option.{get_or_from_slice_get, slice_get_cases, slice_get_within}
+use Rattle.std.proofs.lemmas.Option.{get_or_from_slice_get, slice_get_cases}
 use Rattle.own_base.specs.declared.number.EdgeNo.{EdgeNo}
 use Rattle.own_base.specs.declared.row_name.RowName.{RowName}
 use Rattle.own_base.specs.declared.row_name.Subject.{Subject}

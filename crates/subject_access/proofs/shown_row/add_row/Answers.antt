@@ -22,7 +22,7 @@ returns-in_ok-add g c =
     ∙ (sym c.reaches.ensures ∙ c.if-reaches.true) in
     let made : c.in_ok-got.got ≡ got_row db subject.0 named =
     got-made db table c.args.at definition row c.requires.there c.requires.here subject.0 c.args.access.now.by.now c.in_ok-got.got c.items-edges.result.now c.is_named-own.result c.at-by.result.now
-    c.requires.edges (c.items-edges.ensures ∙ ap (λ (s : Schema). s.edges) c.schema.ensures) c.is_named-own.ensures c.at-by.ensures c.in_ok-got.ensures.table c.in_ok-got.ensures.cells in
+    c.requires.edges (c.items-edges.ensures ∙ ap (λ (s : Schema). s.edges) c.schema.ensures) c.is_named-own.ensures c.at-by.ensures (c.in_ok-got.ensures.table ∙ c.in_ok-name.ensures) c.in_ok-got.ensures.cells in
     c.in_ok-add.ensures.added
     ∙ ap (λ rows. c.args.shown.now ++ rows) (ap (λ (got : GotRow). got ∷ []) made ∙ sym (shown-reached db subject.0 named reached))
 
