@@ -15,6 +15,8 @@ use subject_access::got_row;
 fn own_name(alloc: Global, table: &Name, shown: &[GotRow]) -> Result<Name, AllocError>
     ensures { IfOk result (λ name. name ≡ table.now) }
 {
+    // By the clauses of `bytes` it is a name.
+    let _bytes = table.bytes();
     match shown.last() {
         Some(before) if before.table == *table => before.table.copy(alloc),
         _ => Name::from_str(alloc, table.as_str()),
