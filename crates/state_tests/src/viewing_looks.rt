@@ -13,12 +13,13 @@ use crate::moving_looks::{insert_owned, insert_users};
 use crate::store::{Store, store_of};
 use crate::texts::read;
 use own_base::{Change, Value, ViewNo};
-use own_model::Bound;
+use own_model::{Bound, Source1};
 use std::cell::Cell;
 use std::mem::drop;
 use std::process::Abort;
 use store_version::{Shown, Version, prepare};
 use view_deltas::Views;
+use view_select::view_reply;
 
 /// A subject table, a private one below it, and two views of the private one: grouped by the owner, and joined with it.
 const TABLES: &str = "\
@@ -116,6 +117,51 @@ fn check_looks(rt: &(impl Abort + AllocGlobal), store: &Store) {
     drop(statement);
     check_bound(rt, version, &bound);
     drop(bound);
+}
+
+/// How often rows of tables are looked at for a SELECT from a view.
+fn looked_selecting(rt: &(impl Abort + AllocGlobal), version: &Version, bound: &Bound) -> u64
+    requires well_formed { IsWellFormed version.now }
+    requires meant { IsMeant version.now.schema bound.now }
+{
+    let Bound::Select(query) = bound else {
+        panic!(rt; "no SELECT");
+    };
+    let Source1::View(number) = &query.source else {
+        panic!(rt; "no SELECT from a view");
+    };
+    let counted = Counted {
+        shown: Shown { version },
+        looks: Cell::new(0),
+    };
+    let views = version.views();
+    let reply = view_reply(rt.alloc(), &counted, views, *number, query).expect(rt, "memory");
+    drop(reply);
+    counted.looks.get()
+}
+
+/// A SELECT from a view, whose rows are read where they are kept.
+fn check_select(rt: &(impl Abort + AllocGlobal), store: &Store, text: &str) {
+    let version = store.version();
+    let statement = read(rt, text);
+    let bound = bound(rt, version, &statement);
+    drop(statement);
+    assert_eq!(rt; looked_selecting(rt, version, &bound), 0, "{text}");
+    drop(bound);
+}
+
+#[test]
+fn selects_from_views_look_at_no_row_of_a_table(rt: HostRuntime) {
+    let mut store = store_of(&rt, TABLES);
+    store.run(&rt, insert_users(&rt).as_str());
+    store.run(&rt, insert_owned(&rt).as_str());
+    check_select(&rt, &store, "SELECT * FROM shares WHERE count > 1");
+    check_select(
+        &rt,
+        &store,
+        "SELECT id FROM owned WHERE owner = 7 ORDER BY id DESC",
+    );
+    drop(store);
 }
 
 #[test]
