@@ -1,6 +1,6 @@
 -- What an engine keeps, before any call and with one call more.
 use Rattle.std.proofs.Common.{◌≡◌, ◌∙◌, ℕ, ◌+◌, ◌<◌, ◌≤◌, List, [], ◌∷◌, ◌++◌, Bool, true, false, length, inl, inr, refl, ap, sym, subst, arith}
-use Rattle.std.specs.Prelude.{◌≢◌, ◌⊎◌, ◌&&◌, nat_lt, Option, None, Some, Result, Ok, Err, IfOk, OnErr, IsTrue, is_some, option_map, if◌then◌else◌}
+use Rattle.std.specs.Prelude.{◌≢◌, ◌⊎◌, Contains, ◌&&◌, nat_lt, Option, None, Some, Result, Ok, Err, IfOk, OnErr, IsTrue, is_some, option_map, if◌then◌else◌}
 use Rattle.std.specs.Option.{option_map_or}
 use Rattle.std.proofs.lemmas.Bool.{ltb-false, ltb-true}
 use Rattle.std.proofs.lemmas.List.{length-append}
@@ -12,6 +12,7 @@ use Rattle.own_model.specs.declared.history.Verdict.{Verdict}
 use Rattle.own_model.specs.declared.history.Verdict.TheVariants.{Took, DiskFault, NoRoom}
 use Rattle.own_model.specs.declared.reply.Reply.{Reply}
 use Rattle.own_model.specs.Db.{Db}
+use Rattle.outer_world.specs.FaultCount.{CountRose}
 use Rattle.outer_world.specs.LeavesOnly.{LeavesOnly}
 use Rattle.outer_world.proofs.Moments.{weaker}
 use Rattle.schema_model.proofs.Places.{all-append}
@@ -34,7 +35,7 @@ use Rattle.crash_model.specs.MovesDisk.{IsLeftByEither, MovesDisk, MovesDiskOnce
 use Rattle.crash_model.specs.Room.{IsNoRoomExact, JournalEnd, bytes_written, is_taken, journal_behind, journal_with, lays_anew, room}
 use Rattle.crash_model.specs.StoreIn.{IsStoreIn}
 use Rattle.crash_model.proofs.LeftLemmas.{commits-down, commits-more, down-whole, late-last, whole-none, whole-refused}
-use Rattle.crash_model.proofs.Moves.{moves-more, moves-none}
+use Rattle.crash_model.proofs.Moves.{among-more, moves-more, moves-none}
 use Rattle.crash_model.proofs.RoomLemmas.{asks-under, bytes-under, exact-more, exact-none, journal-append, journal-none}
 use Rattle.own_model.specs.declared.limit.TheConstants.{JOURNAL_ROOM}
 use Rattle.store_disk.specs.Kept.{HasRoomFor, IsKept}
@@ -517,6 +518,14 @@ module _ {D : Type 0} (holds : D → Area → List ℕ) (leaves : D → Area →
         ap (λ found. option_map_or is_disk found false) (ap (λ h. reply base h (length history_old)) made.history ∙ (reply-last base history_old entry ∙ ap (λ r. Some r) made.answered))
         ∙ made.fault
 
+    -- and the entry tells a fault only where the disk's count rose
+    told_once : (said : Entry) → Contains history said → said.verdict ≡ DiskFault → Contains history_old said ⊎ CountRose (faults store_old.journal.disk) (faults store.journal.disk)
+    told_once said among failed =
+        elim (among-more history_old (under made.verdict call) said (subst (λ h. Contains h said) made.history among)) [
+          | inl before ↦ inl before
+          | inr same ↦ inr ((writes-made A 0 0).rose (ap (λ (e : Entry). e.verdict) same ∙ failed))
+        ]
+
     moved_once : MovesDiskOnce moment might honest faults base start history_old history store_old.journal.disk store.journal.disk
     moved_once =
         let writes = writes-made A 0 0 in
@@ -526,6 +535,7 @@ module _ {D : Type 0} (holds : D → Area → List ℕ) (leaves : D → Area →
           risen = writes.risen;
           rose = λ is. writes.rose (is_failed made.verdict (sym fails_now ∙ is));
           steady = λ none. writes.steady (λ fault. let never : true ≡ false = ap is_fault (sym fault) ∙ (sym fails_now ∙ none) in cc);
+          told = told_once;
           moments = λ can. inr (writes.left can);
         }
 

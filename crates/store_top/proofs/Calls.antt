@@ -1,6 +1,6 @@
 -- What a call came to is what is told of it, and what it did to the disk.
-use Rattle.std.proofs.Common.{◌≡◌, ℕ, List, ◌∷◌, [], ◌++◌, Bool, true, false, length, refl, ap, append-nil, inl, inr, sym, ◌∙◌, arith}
-use Rattle.std.specs.Prelude.{◌<◌, ◌≢◌, Option, None, Some, Result, IfOk}
+use Rattle.std.proofs.Common.{◌≡◌, ℕ, List, ◌∷◌, [], ◌++◌, Bool, true, false, length, refl, ap, append-nil, inl, inr, sym, subst, ◌∙◌, arith}
+use Rattle.std.specs.Prelude.{◌<◌, ◌≢◌, ◌⊎◌, Contains, Option, None, Some, Result, IfOk}
 use Rattle.std.specs.Option.{option_to_list}
 use Rattle.std.proofs.lemmas.Result.{IfOk-weaker}
 use Rattle.own_base.specs.declared.number.Area.{Area}
@@ -13,6 +13,8 @@ use Rattle.own_model.specs.declared.reply.Reply.TheVariants.{Refused}
 use Rattle.own_model.specs.declared.script.ScriptCall.{ScriptCall}
 use Rattle.text_model.specs.Lines.{reply_lines}
 use Rattle.own_model.specs.Db.{Db}
+use Rattle.outer_world.specs.FaultCount.{CountRose}
+use Rattle.history_model.specs.AsksDisk.{under}
 use Rattle.history_model.specs.History.{History, is_disk, reply}
 use Rattle.history_model.specs.Made.{Want, Spared, Unmade, Unshown, entry_of, place_by}
 use Rattle.history_model.proofs.UnmadeLemmas.{from-unmade}
@@ -22,6 +24,7 @@ use Rattle.engine_core.specs.Seen.{LeavesUnmade, Makes, Seen, Writes, disk_of}
 use Rattle.engine_core.specs.Stored.{is_fault}
 use Rattle.history_model.specs.Fails.{fails_at}
 use Rattle.crash_model.specs.MovesDisk.{MovesDiskOnce}
+use Rattle.crash_model.proofs.Moves.{among-more}
 use Rattle.store_top.specs.Steps.{AnswersCall, MakesCall}
 use Rattle.history_model.proofs.Failures.{fails-past}
 
@@ -106,19 +109,27 @@ no_fault NoRoom none = λ is. cc
 
 module _ {D : Type 0} (holds : D → Area → List ℕ) (leaves : D → Area → List ℕ → Type 0) (moment : D → ℕ) (might : D → ℕ → List ℕ → List ℕ → Type 0) (honest : D → Bool) (faults : D → ℕ) where
   -- what a call that was made did to the disk,
-  pub moves-made : (before after : Seen D) (call made : Entry) (verdict : Verdict) (place : ℕ) (told : Reply) → Makes before after made place told
+  pub moves-made : (before after : Seen D) (call : Entry) (verdict : Verdict) (place : ℕ) (told : Reply) → Makes before after (under verdict call) place told
       → Writes holds leaves moment might honest faults before after call verdict told
       → MovesDiskOnce moment might honest faults before.base before.start before.history after.history (disk_of before) (disk_of after)
-  moves-made before after call made verdict place told makes writes =
-      let fails : fails_at before.base after.history (length before.history) ≡ is_fault verdict = sym (fails-made before after made place told makes) ∙ writes.fault in
+  moves-made before after call verdict place told makes writes =
+      let fails : fails_at before.base after.history (length before.history) ≡ is_fault verdict = sym (fails-made before after (under verdict call) place told makes) ∙ writes.fault in
       record {
         honesty = writes.honesty;
         time = writes.time;
         risen = writes.risen;
         rose = λ is. writes.rose (fault_is verdict (sym fails ∙ is));
         steady = λ none. writes.steady (no_fault verdict (sym fails ∙ none));
+        told = said;
         moments = λ can. inr (writes.left can);
       }
+    where
+      said : (entry : Entry) → Contains after.history entry → entry.verdict ≡ DiskFault → Contains before.history entry ⊎ CountRose (faults (disk_of before)) (faults (disk_of after))
+      said entry among failed =
+          elim (among-more before.history (under verdict call) entry (subst (λ h. Contains h entry) makes.history among)) [
+            | inl was ↦ inl was
+            | inr same ↦ inr (writes.rose (ap (λ (e : Entry). e.verdict) same ∙ failed))
+          ]
 
   -- and one that wasn't left it
   pub moves-unmade : (before after : Seen D) (unmade : Entry) → LeavesUnmade before after unmade
@@ -132,5 +143,6 @@ module _ {D : Type 0} (holds : D → Area → List ℕ) (leaves : D → Area →
         risen = rw same (omega arith);
         rose = λ is. let never : ⊥ = cc in absurd never;
         steady = λ none. ap faults same;
+        told = λ entry among failed. inl (subst (λ h. Contains h entry) unmade_is.history among);
         moments = λ can. inl same;
       }

@@ -61,6 +61,7 @@ module _ {D : Type 0} (holds : D → Area → List ℕ) (leaves : D → Area →
   on_disk-before only_now fault same none other sound = record {
     rose = λ is. absurd (other is);
     failed = λ base over failed. let never : ⊥ = cc in absurd never;
+    told = λ base over entry among failed. let never : ⊥ = cc in absurd never;
     steady = λ other failed. ap faults same;
     whole = λ is. ap faults same;
     risen = rw same (omega arith);
@@ -83,6 +84,7 @@ module _ {D : Type 0} (holds : D → Area → List ℕ) (leaves : D → Area →
   on_disk-unopened fault none damaged kept_a kept_b rose steady risen honesty time moments = record {
     rose = λ is. rose (disk_fault fault is);
     failed = λ base over failed. let never : ⊥ = cc in absurd never;
+    told = λ base over entry among failed. let never : ⊥ = cc in absurd never;
     steady = λ other failed. steady (λ is. other (rw is refl));
     whole = λ is. let never : ⊥ = cc in absurd never;
     risen = risen;
@@ -144,6 +146,7 @@ module _ {D : Type 0} (holds : D → Area → List ℕ) (leaves : D → Area →
         record {
           rose = λ is. rose_since (calls-failed base history rose whole part before fault serves is);
           failed = λ of is failed. let same : of ≡ base = cc in rose_since (subst (λ db. HasFailed db history) same failed);
+          told = λ of is entry among failed. rw (← steady) (moves.told entry among failed);
           steady = λ other none. moves.steady (none base over) ∙ steady;
           whole = λ is. moves.steady (calls-whole base history rose whole part before fault serves is) ∙ steady;
           risen = omega arith;

@@ -1,10 +1,12 @@
 -- What a run did to its disk.
-use Rattle.std.specs.Prelude.{◌≡◌, ◌≢◌, ◌⊎◌, ◌≤◌, ℕ, List, Bool, true, IsTrue, Option, None, Some}
+use Rattle.std.specs.Prelude.{◌≡◌, ◌≢◌, ◌⊎◌, ◌≤◌, ℕ, List, Bool, true, Contains, IsTrue, Option, None, Some}
 use Rattle.outer_world.specs.FaultCount.{CountRose}
 use Rattle.outer_world.specs.LeavesOnly.{LeavesOnly}
 use Rattle.outer_world.specs.Stays.{Stays}
 use Rattle.own_base.specs.declared.number.Area.{Area}
 use Rattle.own_base.specs.declared.number.Area.TheVariants.{A, B}
+use Rattle.own_model.specs.declared.history.Entry.{Entry}
+use Rattle.own_model.specs.declared.history.Verdict.TheVariants.{DiskFault}
 use Rattle.own_model.specs.Db.{Db}
 use Rattle.history_model.specs.History.{History}
 use Rattle.disk_model.specs.Judged.{IsJudged}
@@ -65,9 +67,11 @@ pub record IsServedSince {D : Type 0} (holds : D → Area → List ℕ) (leaves 
 -- that was opened on an honest disk `Served` is so.
 pub record OnDiskBy {D : Type 0} (holds : D → Area → List ℕ) (leaves : D → Area → List ℕ → Type 0) (moment : D → ℕ) (might_have_left : D → ℕ → List ℕ → List ℕ → Type 0)
     (honest : D → Bool) (faults : D → ℕ) (old new : D) (opened : Option Db) (history : History) (Served : Db → Type 0) (fault : Option TopFault) : Type 0 where
-  -- A fault of the disk is told, and a call answered so, only where its count of faults rose; else that stands still.
+  -- A fault of the disk is told, a call answered so, and an entry said to be one that the disk failed, only where its count of faults
+  -- rose; else that stands still.
   pub rose : fault ≡ Some Disk → CountRose (faults old) (faults new)
   pub failed : (base : Db) → opened ≡ Some base → HasFailed base history → CountRose (faults old) (faults new)
+  pub told : (base : Db) → opened ≡ Some base → (entry : Entry) → Contains history entry → entry.verdict ≡ DiskFault → CountRose (faults old) (faults new)
   pub steady : fault ≢ Some Disk → ((base : Db) → opened ≡ Some base → HasFailed base history → ⊥) → faults new ≡ faults old
   pub whole : fault ≡ None → faults new ≡ faults old
   pub risen : faults old ≤ faults new

@@ -104,7 +104,8 @@ pub fn step<R: Source, W: Sink, D: Disk>(
     ensures on_disk { OnDisk D.holds D.leaves D.moment D.might_have_left D.honest D.faults disk result.disk result.opened result.history result.fault }
 
     // A run that no fault of the source, the sink or the disk disturbs, of a lawful input, over an honest disk on which nothing
-    // is damaged, comes to its end, unless memory is refused. Then no call was answered with a fault of the disk, by `on_disk`.
+    // is damaged, comes to its end, unless memory is refused. Then, by `on_disk`, no call was answered with a fault of the disk, and
+    // each entry says that the disk took it, or that there was no room where there was none.
     ensures complete { (CountRose (R.faults source.old) (R.faults source.new) → ⊥) → (CountRose (W.faults sink.old) (W.faults sink.new) → ⊥)
         → (CountRose (D.faults disk) (D.faults result.disk) → ⊥) → IsLawfulInput (R.remaining source.old) (R.remaining source.new) → IsWholeDisk D.holds D.honest disk
         → IsServedOrRefused result.fault }
@@ -139,7 +140,8 @@ pub fn serve<Rt: Threads + Wait + Sync, R: Source, W: Sink, D: Disk + Send, G: G
     ensures on_disk { OnDiskTogether D.holds D.leaves D.moment D.might_have_left D.honest D.faults disk result.disk result.opened result.history result.fault }
 
     // A run that no fault of the source, the sink or the disk disturbs, of a lawful input, over an honest disk on which nothing
-    // is damaged, comes to its end, unless memory is refused. Then no call was answered with a fault of the disk, by `on_disk`.
+    // is damaged, comes to its end, unless memory is refused. Then, by `on_disk`, no call was answered with a fault of the disk, and
+    // each entry says that the disk took it, or that there was no room where there was none.
     ensures complete { (CountRose (R.faults source.old) (R.faults source.new) → ⊥) → (CountRose (W.faults sink.old) (W.faults sink.new) → ⊥)
         → (CountRose (D.faults disk) (D.faults result.disk) → ⊥) → IsLawfulInput (R.remaining source.old) (R.remaining source.new) → IsWholeDisk D.holds D.honest disk
         → IsServedOrRefused result.fault }
@@ -189,7 +191,8 @@ pub fn make<W: Sink, D: Disk>(
     ensures on_disk { OnDisk D.holds D.leaves D.moment D.might_have_left D.honest D.faults disk result.disk result.opened result.history result.fault }
 
     // A run that no fault of the sink or the disk disturbs, over an honest disk on which nothing is damaged, comes to its end,
-    // unless memory is refused. Then no call was answered with a fault of the disk, by `on_disk`.
+    // unless memory is refused. Then, by `on_disk`, no call was answered with a fault of the disk, and each entry says that the disk took
+    // it, or that there was no room where there was none.
     ensures complete { (CountRose (W.faults sink.old) (W.faults sink.new) → ⊥) → (CountRose (D.faults disk) (D.faults result.disk) → ⊥) → IsWholeDisk D.holds D.honest disk
         → IsServedOrRefused result.fault }
 {
@@ -226,8 +229,8 @@ pub fn run<Rt: Threads + Wait + Sync, R: Source, W: Sink, D: Disk + Send, G: Gat
         (ServedAs D.holds D.leaves D.moment D.might_have_left disk result.disk result.history (mode_of (map string_bytes words.now))) result.fault }
 
     // A run that no fault of the source, the sink or the disk disturbs, of a lawful input where its mode reads one, over an honest disk
-    // on which nothing is damaged, comes to its end, unless memory is refused. Then no call was answered with a fault of the disk, by
-    // `on_disk`.
+    // on which nothing is damaged, comes to its end, unless memory is refused. Then, by `on_disk`, no call was answered with a fault of
+    // the disk, and each entry says that the disk took it, or that there was no room where there was none.
     ensures complete { mode_of (map string_bytes words.now) ≢ None → (CountRose (R.faults source.old) (R.faults source.new) → ⊥) → (CountRose (W.faults sink.old) (W.faults sink.new) → ⊥)
         → (CountRose (D.faults disk) (D.faults result.disk) → ⊥) → (ReadsInput (mode_of (map string_bytes words.now)) → IsLawfulInput (R.remaining source.old) (R.remaining source.new))
         → IsWholeDisk D.holds D.honest disk → IsServedOrRefused result.fault }
