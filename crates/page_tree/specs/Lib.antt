@@ -1,7 +1,9 @@
 pub mod Body
 pub mod Branch
 pub mod Falls
+pub mod Held
 pub mod InPlace
 pub mod ItemsLeft
 pub mod NodeBelow
 pub mod NodeOf
+pub mod StandsBehind

@@ -1,4 +1,4 @@
-ghost use Rattle.std.specs.Prelude.{◌≡◌, ◌<◌, ◌≤◌, false, drop, length, take};
+ghost use Rattle.std.specs.Prelude.{◌≡◌, ◌<◌, ◌≤◌, List, false, drop, length, take, IfSome, MatchBool, ⊤};
 ghost use Rattle.std.specs.List.{AllByRecursion};
 ghost use Rattle.std.specs.Option.{option_copied};
 ghost use Rattle.std.specs.declared.cmp.Ordering.TheVariants.{Less};
@@ -7,13 +7,16 @@ ghost use Rattle.page_model.specs.Page.{joined};
 ghost use Rattle.page_model.specs.Place.{IsPlaceOf};
 ghost use Rattle.page_model.specs.Rising.{IsRising};
 ghost use Rattle.page_tree.specs.Body.{pages_of};
+ghost use Rattle.page_tree.specs.Held.{HoldsRun};
+ghost use Rattle.page_tree.specs.StandsBehind.{StandsBehind};
 ghost use Rattle.page_tree.specs.NodeOf.{Begin, IsNodeOf};
 
 use crate::hints::{count_below, count_upto};
 use crate::key::KeyOf;
-use crate::likely::likely_in;
+use crate::likely::{Likely, likely_in};
 use crate::node::{Body, Node};
 use std::alloc::Global;
+use std::cmp::Ordering;
 use std::sync::Arc;
 
 /// A place with only items below a key before it: the one that hints tell, if the item there or the one before it shows
@@ -106,15 +109,53 @@ pub(crate) fn node_of<T, By: KeyOf<T>>(
     nodes.len() - 1
 }
 
-/// The item of a key among the items of a node: the one to which hints lead, if it has the key, else the one that is found
-/// where each step is checked. Takes no memory.
+/// Whether the item before a place is below a key. Takes no memory.
+fn is_behind<T, By: KeyOf<T>>(by: By, run: &[T], place: usize, key: &By::Key) -> bool
+    ensures { MatchBool result (StandsBehind (By.key_of by) By.key_cmp key.now run.now place) ⊤ }
+{
+    0 < place && place <= run.len() && by.compare(&run[place - 1], key).is_lt()
+}
+
+/// What a page tells of a key by the place at which it is likely to stand in it: its item, where that is the one there, and that
+/// there is none, where the key stands between that one and the one before, or behind all. Otherwise it tells nothing. Takes no
+/// memory.
+fn told_by<'a, T, By: KeyOf<T>>(by: By, page: Likely<'a, T>, key: &By::Key) -> Option<Option<&'a T>>
+    ensures { IfSome result (λ item. (items : List T) → HoldsRun items page.entry.run.now page.entry.last → IsRising (By.key_of by) By.key_cmp items
+        → option_copied item ≡ found (By.key_of by) By.key_cmp key.now items) }
+{
+    let Likely { run, place, last } = page;
+    if place >= run.len() {
+        return if last && is_behind(by, run, run.len(), key) {
+            Some(None)
+        } else {
+            None
+        };
+    }
+    let item = &run[place];
+    match by.compare(item, key) {
+        Ordering::Equal => Some(Some(item)),
+        Ordering::Greater if is_behind(by, run, place, key) => Some(None),
+        _ => None,
+    }
+}
+
+/// What hints tell of a key among the items of a node, if they tell it. Takes no memory.
+fn told_in<'a, T, By: KeyOf<T>>(by: By, node: &'a Node<T>, key: &By::Key) -> Option<Option<&'a T>>
+    requires { IsRising (By.key_of by) By.key_cmp (joined node.now.pages) }
+    ensures { IfSome result (λ item. option_copied item ≡ found (By.key_of by) By.key_cmp key.now (joined node.now.pages)) }
+{
+    told_by(by, likely_in(node, by.key_hint(key))?, key)
+}
+
+/// The item of a key among the items of a node: as hints tell it, and else as it is found where each step is checked. Takes no
+/// memory.
 pub(crate) fn get_in<'a, T, By: KeyOf<T>>(by: By, node: &'a Node<T>, key: &By::Key) -> Option<&'a T>
     requires { IsRising (By.key_of by) By.key_cmp (joined node.now.pages) }
     ensures { option_copied result ≡ found (By.key_of by) By.key_cmp key.now (joined node.now.pages) }
 {
-    match likely_in(node, by.key_hint(key)) {
-        Some(item) if by.compare(item, key).is_eq() => Some(item),
-        _ => item_in(by, node, key),
+    match told_in(by, node, key) {
+        Some(item) => item,
+        None => item_in(by, node, key),
     }
 }
 

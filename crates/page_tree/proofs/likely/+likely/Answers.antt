@@ -1,15 +1,18 @@
-use Rattle.std.proofs.Common.{subst}
-use Rattle.std.specs.List.{Contains}
-use Rattle.std.proofs.lemmas.Option.{IfSome_then}
+use Rattle.std.proofs.Common.{length, subst, arith}
+use Rattle.std.specs.Prelude.{◌==◌, ◌-◌}
+use Rattle.std.proofs.lemmas.Bool.{eqb-true}
 use Rattle.page_model.specs.Page.{joined}
 use Rattle.page_tree.specs.Branch.{Branch}
-use Rattle.page_tree.proofs.LikelyLemmas.{among_nodes}
+use Rattle.page_tree.specs.Held.{HoldsRun}
+use Rattle.page_tree.proofs.LikelyLemmas.{held_among}
 use Rattle.page_tree.proofs.likely.+likely.Goals as goal
 
--- An item of the node is one of all nodes.
-pub likely_among-returns-then-number-nodes : goal.likely_among-returns-then-number-nodes
-likely_among-returns-then-number-nodes g t c =
-    IfSome_then c.likely_in.result
-    c.likely_in.ensures
-    (λ item there. among_nodes c.args.nodes.now c.saturating_sub-number.result c.index-nodes-number.result item.now c.if-number-nodes.true c.index-nodes-number.is
-    (subst (λ (branch : Branch g.row.T.Denot). Contains (joined branch.pages) item.now) c.deref.ensures there))
+-- A run of the node is one of all nodes.
+pub likely_among-returns : goal.likely_among-returns
+likely_among-returns g t c =
+    let nodes = c.args.nodes.now in
+    let number = c.saturating_sub-number.result in
+    let within = c.if-number-nodes.false in
+    held_among nodes number c.index-nodes-number.result c.in_ok-run.field-0.run.now c.in_ok-run.field-0.last (number == length nodes - 1) (omega (arith, within)) c.index-nodes-number.is
+    (λ same. let end = eqb-true number (length nodes - 1) same in omega (arith, end))
+    (subst (λ (branch : Branch g.row.T.Denot). HoldsRun (joined branch.pages) c.in_ok-run.field-0.run.now c.in_ok-run.field-0.last) c.deref.ensures c.in_ok-run.ensures)
