@@ -35,7 +35,7 @@ pub one_first : {T : Type 0} (x y : T) (pages : List (List T)) → IsFirst x pag
 one_first x y pages first second = let same = sym first.is ∙ second.is in cc
 
 module _ {T K C : Type 0} (key_of : T → K) {cmp : K → K → Ordering} (order : IsTotalOrder cmp) (changed : C → K) where
-  not_below : (x y : K) (o : Ordering) → cmp x y ≡ o → is_gt o ≡ false → is_lt (cmp y x) ≡ false
+  pub not_below : (x y : K) (o : Ordering) → cmp x y ≡ o → is_gt o ≡ false → is_lt (cmp y x) ≡ false
   not_below x y Less is upto = ap is_lt (above_from_below order x y is)
   not_below x y Equal is upto = ap is_lt (tied_back order x y is)
   not_below x y Greater is upto = cc

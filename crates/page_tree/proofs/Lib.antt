@@ -7,3 +7,4 @@ mod NodeLemmas
 mod NodeOfLemmas
 mod SearchLemmas
 mod WalkLemmas
+mod WithinLemmas

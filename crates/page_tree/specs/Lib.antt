@@ -6,4 +6,5 @@ pub mod InPlace
 pub mod ItemsLeft
 pub mod NodeBelow
 pub mod NodeOf
+pub mod PutWithin
 pub mod StandsBehind

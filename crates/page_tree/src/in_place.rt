@@ -2,15 +2,18 @@ ghost use Rattle.std.specs.Prelude.{◌≡◌, ◌<◌, ◌≤◌, ◌∷◌, []
 ghost use Rattle.std.specs.List.{insert};
 ghost use Rattle.page_model.specs.Changed.{AreKeyed};
 ghost use Rattle.page_model.specs.Page.{joined, ArePages, IsPage};
+ghost use Rattle.page_model.specs.Place.{IsPlaceOf};
 ghost use Rattle.page_model.specs.Rising.{IsRising};
 ghost use Rattle.page_tree.specs.Body.{pages_of};
 ghost use Rattle.page_tree.specs.InPlace.{InPlace};
+ghost use Rattle.page_tree.specs.PutWithin.{PutWithin};
 
 use crate::hints::remove_hint;
 use crate::key::{ChangeOf, KeyOf};
 use crate::merge::above_from;
 use crate::node::{Body, Node};
-use crate::search::{node_of, place_of};
+use crate::search::place_of;
+use crate::way::{Way, way_among};
 use own_base::MakeCopy;
 use page_model::PAGE_ITEMS;
 use std::alloc::Global;
@@ -38,24 +41,23 @@ fn insert_at<T: Drop>(
     true
 }
 
-/// Puts a change into a page, beside which hints stand, unless it falls to the first item, or the page is full, or memory
-/// is refused. Answers whether it did.
-fn change_page<T: MakeCopy + Drop, By: KeyOf<T>, C: ChangeOf<T, By::Key>>(
+/// Puts a change into a page, beside which hints stand, at the place of its key behind the first item, unless the page is full, or
+/// memory is refused. Answers whether it did.
+fn put_at<T: MakeCopy + Drop, By: KeyOf<T>, C: ChangeOf<T, By::Key>>(
     alloc: Global,
     by: By,
     page: &mut Vec<T>,
     hints: &mut Vec<u64>,
     change: &C,
+    place: usize,
 ) -> bool
     requires page { IsPage page.old.items }
     requires rising { IsRising (By.key_of by) By.key_cmp page.old.items }
+    requires place { IsPlaceOf (By.key_of by) By.key_cmp (C.changed change.now) page.old.items place }
+    requires behind { 0 < place }
     ensures { MatchBool result (InPlace (By.key_of by) By.key_cmp C.changed C.put (page.old.items ∷ []) change.now (page.new.items ∷ [])) (page.new.items ≡ page.old.items) }
 {
-    let place = place_of(by, page.as_slice(), hints.as_slice(), change.key());
     let behind = above_from(by, page.as_slice(), change.key(), place);
-    if place == 0 {
-        return false;
-    }
     let Some(item) = change.item() else {
         if place < behind {
             drop(page.remove(place));
@@ -74,23 +76,48 @@ fn change_page<T: MakeCopy + Drop, By: KeyOf<T>, C: ChangeOf<T, By::Key>>(
     page.len() < PAGE_ITEMS && insert_at(page, hints, place, item, hint)
 }
 
-/// Puts a change into a page of a node, where nobody shares the node nor what is below it on the way to the page, and
-/// the page takes it. Answers whether it did.
+/// Puts a change into a page, beside which hints stand, unless it falls to the first item, or behind all where it isn't known that
+/// what comes after the page is above it, or the page is full, or memory is refused. Answers whether it did.
+fn change_page<T: MakeCopy + Drop, By: KeyOf<T>, C: ChangeOf<T, By::Key>>(
+    alloc: Global,
+    by: By,
+    page: &mut Vec<T>,
+    hints: &mut Vec<u64>,
+    change: &C,
+    ends: bool,
+) -> bool
+    requires page { IsPage page.old.items }
+    requires rising { IsRising (By.key_of by) By.key_cmp page.old.items }
+    ensures { MatchBool result (PutWithin (By.key_of by) By.key_cmp C.changed C.put (page.old.items ∷ []) change.now (page.new.items ∷ []) ends) (page.new.items ≡ page.old.items) }
+{
+    let place = place_of(by, page.as_slice(), hints.as_slice(), change.key());
+    if place == 0 {
+        return false;
+    }
+    if !ends && place == page.len() {
+        return false;
+    }
+    put_at(alloc, by, page, hints, change, place)
+}
+
+/// Puts a change into the page of a node to which a way leads, where nobody shares the node nor what is below it on the way,
+/// and the page takes it. Answers whether it did.
 #[cycle(place)]
-pub(crate) fn change_alone<T: MakeCopy + Drop, By: KeyOf<T>, C: ChangeOf<T, By::Key>>(
+fn change_alone<T: MakeCopy + Drop, By: KeyOf<T>, C: ChangeOf<T, By::Key>>(
     alloc: Global,
     by: By,
     node: &mut Arc<Node<T>, Global>,
     change: &C,
+    way: Way,
 ) -> bool
     requires pages { ArePages node.old.value.pages }
     requires rising { IsRising (By.key_of by) By.key_cmp (joined node.old.value.pages) }
     requires keyed { AreKeyed (By.key_of by) C.changed C.put (change.now ∷ []) }
-    ensures { MatchBool result (InPlace (By.key_of by) By.key_cmp C.changed C.put node.old.value.pages change.now node.new.value.pages) (node.new.value.pages ≡ node.old.value.pages) }
+    ensures { MatchBool result (PutWithin (By.key_of by) By.key_cmp C.changed C.put node.old.value.pages change.now node.new.value.pages way.ends) (node.new.value.pages ≡ node.old.value.pages) }
 {
     match Arc::get_mut(node) {
         None => false,
-        Some(node) => change_within(alloc, by, node, change),
+        Some(node) => change_within(alloc, by, node, change, way),
     }
 }
 
@@ -101,16 +128,17 @@ fn change_within<T: MakeCopy + Drop, By: KeyOf<T>, C: ChangeOf<T, By::Key>>(
     by: By,
     node: &mut Node<T>,
     change: &C,
+    way: Way,
 ) -> bool
     requires pages { ArePages node.old.pages }
     requires rising { IsRising (By.key_of by) By.key_cmp (joined node.old.pages) }
     requires keyed { AreKeyed (By.key_of by) C.changed C.put (change.now ∷ []) }
-    ensures { MatchBool result (InPlace (By.key_of by) By.key_cmp C.changed C.put node.old.pages change.now node.new.pages) (node.new.pages ≡ node.old.pages) }
+    ensures { MatchBool result (PutWithin (By.key_of by) By.key_cmp C.changed C.put node.old.pages change.now node.new.pages way.ends) (node.new.pages ≡ node.old.pages) }
 {
     let items = node.items;
     match &mut node.body {
         Body::Leaf(page) => {
-            if !change_page(alloc, by, page, &mut node.item_hints, change) {
+            if !change_page(alloc, by, page, &mut node.item_hints, change, way.ends) {
                 return false;
             }
             node.items = page.len();
@@ -123,6 +151,7 @@ fn change_within<T: MakeCopy + Drop, By: KeyOf<T>, C: ChangeOf<T, By::Key>>(
             node.node_hints.as_slice(),
             items,
             change,
+            way,
         ) {
             None => false,
             Some(items) => {
@@ -133,8 +162,8 @@ fn change_within<T: MakeCopy + Drop, By: KeyOf<T>, C: ChangeOf<T, By::Key>>(
     }
 }
 
-/// Puts a change into a page of some nodes, beside which hints stand and which have so many items, where nobody shares the
-/// way to it. Answers how many items they have then.
+/// Puts a change into the page of some nodes to which a way leads, beside which hints stand and which have so many items, where
+/// nobody shares the way to it. Answers how many items they have then.
 #[cycle(place)]
 fn change_among<T: MakeCopy + Drop, By: KeyOf<T>, C: ChangeOf<T, By::Key>>(
     alloc: Global,
@@ -143,6 +172,7 @@ fn change_among<T: MakeCopy + Drop, By: KeyOf<T>, C: ChangeOf<T, By::Key>>(
     hints: &[u64],
     items: usize,
     change: &C,
+    way: Way,
 ) -> Option<usize>
     requires some { 0 < length nodes.old.items }
     requires items { items ≡ length (joined (pages_of nodes.old.items)) }
@@ -150,16 +180,43 @@ fn change_among<T: MakeCopy + Drop, By: KeyOf<T>, C: ChangeOf<T, By::Key>>(
     requires rising { IsRising (By.key_of by) By.key_cmp (joined (pages_of nodes.old.items)) }
     requires keyed { AreKeyed (By.key_of by) C.changed C.put (change.now ∷ []) }
     ensures items { IfSome result (λ items. items ≡ length (joined (pages_of nodes.new.items))) }
-    ensures changed { IfSome result (λ _. InPlace (By.key_of by) By.key_cmp C.changed C.put (pages_of nodes.old.items) change.now (pages_of nodes.new.items)) }
+    ensures changed { IfSome result (λ _. PutWithin (By.key_of by) By.key_cmp C.changed C.put (pages_of nodes.old.items) change.now (pages_of nodes.new.items) way.ends) }
     ensures unchanged { IfNone result (pages_of nodes.new.items ≡ pages_of nodes.old.items) }
 {
     if items == usize::MAX {
         return None;
     }
-    let number = node_of(by, nodes.as_slice(), hints, change.key());
+    let (number, way) = way_among(by, nodes.as_slice(), hints, change.key(), way);
     let before = nodes[number].items();
-    if !change_alone(alloc, by, &mut nodes[number], change) {
+    if !change_alone(alloc, by, &mut nodes[number], change, way) {
         return None;
     }
     Some(items - before + nodes[number].items())
+}
+
+/// Puts a change into the page of a node into which it falls, where nobody shares the way to it, and the page takes it. Hints tell
+/// the way; where the page that they lead to doesn't show that it is the right one, each step is checked. Answers whether it did.
+pub(crate) fn change_in<T: MakeCopy + Drop, By: KeyOf<T>, C: ChangeOf<T, By::Key>>(
+    alloc: Global,
+    by: By,
+    node: &mut Arc<Node<T>, Global>,
+    change: &C,
+) -> bool
+    requires pages { ArePages node.old.value.pages }
+    requires rising { IsRising (By.key_of by) By.key_cmp (joined node.old.value.pages) }
+    requires keyed { AreKeyed (By.key_of by) C.changed C.put (change.now ∷ []) }
+    ensures { MatchBool result (InPlace (By.key_of by) By.key_cmp C.changed C.put node.old.value.pages change.now node.new.value.pages) (node.new.value.pages ≡ node.old.value.pages) }
+{
+    let way = Way {
+        checked: false,
+        ends: true,
+    };
+    if change_alone(alloc, by, node, change, way) {
+        return true;
+    }
+    let way = Way {
+        checked: true,
+        ends: true,
+    };
+    change_alone(alloc, by, node, change, way)
 }

@@ -15,6 +15,7 @@ mod node;
 mod page;
 mod pages;
 mod search;
+mod way;
 
 pub use items::Items;
 pub use key::{BoundOf, ChangeOf, KeyOf};

@@ -15,7 +15,7 @@ ghost use Rattle.page_tree.specs.InPlace.{InPlace};
 use crate::bound::place_in;
 use crate::build::push_above;
 use crate::change::{change_node, fill};
-use crate::in_place::change_alone;
+use crate::in_place::change_in;
 use crate::items::Items;
 use crate::key::{BoundOf, ChangeOf, KeyOf};
 use crate::lent::Lent;
@@ -215,7 +215,7 @@ impl<T: MakeCopy + Drop, By: KeyOf<T>> Pages<T, By> {
         let Some(root) = &mut self.root else {
             return false;
         };
-        change_alone(alloc, by, root, change)
+        change_in(alloc, by, root, change)
     }
 }
 

@@ -1,20 +1,23 @@
-use Rattle.std.proofs.Common.{Global, ◌≡◌, ◌<◌, ◌∙◌, ap, subst, length, get_or-set_same, arith}
+use Rattle.std.proofs.Common.{Global, ◌≡◌, ◌<◌, ◌+◌, ◌∙◌, ap, subst, List, [], length, drop, get_or-set_same, arith}
+use Rattle.std.specs.Prelude.{◌⊎◌, true}
 use Rattle.std.specs.declared.sync.Arc.{Arc}
 use Rattle.page_model.specs.Page.{joined}
+use Rattle.page_tree.specs.Body.{pages_of}
 use Rattle.page_tree.specs.Branch.{Branch}
-use Rattle.page_tree.specs.NodeOf.{IsNodeOf}
-use Rattle.page_tree.proofs.AmongLemmas.{among, grows, items_around, items_set, pages_same}
+use Rattle.page_tree.specs.NodeOf.{Begin}
+use Rattle.page_tree.proofs.AmongLemmas.{items_around, items_set, pages_same}
 use Rattle.page_tree.proofs.ChangeLemmas.{parts_of}
 use Rattle.page_tree.proofs.NodeLemmas.{nodes_from, pages_from}
+use Rattle.page_tree.proofs.WithinLemmas.{within_among, within_grows}
 use Rattle.page_tree.proofs.in_place.+place.Goals as goal
 
 -- The node has fewer nodes below it than all, and its keys rise too.
 pub change_among-change_alone-requires : goal.change_among-change_alone-requires
 change_among-change_alone-requires g t c κs within =
     let nodes = c.args.nodes.now.items in
-    let number = c.node_of-number.result in
+    let number = c.way_among-number.result.0 in
     let node = c.index_mut.result.now in
-    let below : number < length nodes = subst (λ all. number < length all) c.as_slice.ensures.value c.node_of-number.ensures.within in
+    let below : number < length nodes = subst (λ all. number < length all) c.as_slice.ensures.value c.way_among-number.ensures.within in
     let fewer = nodes_from nodes number node below c.index_mut.ensures.value in
     let parts = parts_of (g.By.KeyOf.key_of c.args.by) g.By.KeyOf.key_cmp nodes number node.value.pages _ c.requires.pages c.requires.rising (pages_from nodes number node below c.index_mut.ensures.value) in
     (omega (arith, fewer), (within.0, (within.1.0, (within.1.1.0, (within.1.1.1, (parts.pages_here, (parts.rising_here, c.requires.keyed)))))))
@@ -23,16 +26,16 @@ change_among-change_alone-requires g t c κs within =
 pub change_among-returns-then-not-change_alone-clause-unchanged : goal.change_among-returns-then-not-change_alone-clause-unchanged
 change_among-returns-then-not-change_alone-clause-unchanged g t c =
     let nodes = c.args.nodes.now.items in
-    let number = c.node_of-number.result in
-    let below : number < length nodes = subst (λ all. number < length all) c.as_slice.ensures.value c.node_of-number.ensures.within in
+    let number = c.way_among-number.result.0 in
+    let below : number < length nodes = subst (λ all. number < length all) c.as_slice.ensures.value c.way_among-number.ensures.within in
     pages_same nodes number c.index_mut.result.now c.change_alone.new.node below c.index_mut.ensures.value c.if-not-change_alone.ensures
 
 -- Its items are some of all.
 pub change_among-overflow_sub-result : goal.change_among-overflow_sub-result
 change_among-overflow_sub-result g t c =
     let nodes = c.args.nodes.now.items in
-    let number = c.node_of-number.result in
-    let below : number < length nodes = subst (λ all. number < length all) c.as_slice.ensures.value c.node_of-number.ensures.within in
+    let number = c.way_among-number.result.0 in
+    let below : number < length nodes = subst (λ all. number < length all) c.as_slice.ensures.value c.way_among-number.ensures.within in
     let counted : c.items-before.result ≡ length (joined c.index.result.now.value.pages) = c.items-before.ensures ∙ ap (λ (branch : Branch g.row.T.Denot). length (joined branch.pages)) c.deref.ensures in
     let all = items_around nodes number c.index.result.now below c.index.ensures in
     omega (arith, c.requires.items)
@@ -41,23 +44,23 @@ change_among-overflow_sub-result g t c =
 pub change_among-overflow_add-result : goal.change_among-overflow_add-result
 change_among-overflow_add-result g t c =
     let nodes = c.args.nodes.now.items in
-    let number = c.node_of-number.result in
-    let below : number < length nodes = subst (λ all. number < length all) c.as_slice.ensures.value c.node_of-number.ensures.within in
+    let number = c.way_among-number.result.0 in
+    let below : number < length nodes = subst (λ all. number < length all) c.as_slice.ensures.value c.way_among-number.ensures.within in
     let before : c.items-before.result ≡ length (joined c.index.result.now.value.pages) = c.items-before.ensures ∙ ap (λ (branch : Branch g.row.T.Denot). length (joined branch.pages)) c.deref.ensures in
     let there : c.index-2.result.now ≡ c.change_alone.new.node = c.index-2.ensures ∙ get_or-set_same nodes number c.change_alone.new.node c.index-2.result.now below in
     let after : c.items.result ≡ length (joined c.change_alone.new.node.value.pages) =
     c.items.ensures ∙ (ap (λ (branch : Branch g.row.T.Denot). length (joined branch.pages)) c.deref-2.ensures ∙ ap (λ (node : Arc (Branch g.row.T.Denot) Global). length (joined node.value.pages)) there) in
     let was = items_around nodes number c.index.result.now below c.index.ensures in
     let same = items_around nodes number c.index_mut.result.now below c.index_mut.ensures.value in
-    let more = grows (g.By.KeyOf.key_of c.args.by) g.met.By.KeyOf.total g.C.ChangeOf.changed g.C.ChangeOf.put c.index_mut.result.now.value.pages c.change_alone.new.node.value.pages c.args.change.now c.if-not-change_alone.ensures in
+    let more = within_grows (g.By.KeyOf.key_of c.args.by) g.met.By.KeyOf.total g.C.ChangeOf.changed g.C.ChangeOf.put c.index_mut.result.now.value.pages c.change_alone.new.node.value.pages c.args.change.now _ c.if-not-change_alone.ensures in
     omega (arith, c.requires.items, c.if-items-eq18446744073709551615.false)
 
 -- The others have as many as they had.
 pub change_among-returns-clause-items : goal.change_among-returns-clause-items
 change_among-returns-clause-items g t c =
     let nodes = c.args.nodes.now.items in
-    let number = c.node_of-number.result in
-    let below : number < length nodes = subst (λ all. number < length all) c.as_slice.ensures.value c.node_of-number.ensures.within in
+    let number = c.way_among-number.result.0 in
+    let below : number < length nodes = subst (λ all. number < length all) c.as_slice.ensures.value c.way_among-number.ensures.within in
     let before : c.items-before.result ≡ length (joined c.index.result.now.value.pages) = c.items-before.ensures ∙ ap (λ (branch : Branch g.row.T.Denot). length (joined branch.pages)) c.deref.ensures in
     let there : c.index-2.result.now ≡ c.change_alone.new.node = c.index-2.ensures ∙ get_or-set_same nodes number c.change_alone.new.node c.index-2.result.now below in
     let after : c.items.result ≡ length (joined c.change_alone.new.node.value.pages) =
@@ -66,13 +69,17 @@ change_among-returns-clause-items g t c =
     let is = items_set nodes number c.change_alone.new.node below in
     omega (arith, c.requires.items)
 
--- The change falls into that node.
+-- The page is one of all.
 pub change_among-returns-clause-changed : goal.change_among-returns-clause-changed
 change_among-returns-clause-changed g t c =
+    let nodes = c.args.nodes.now.items in
+    let number = c.way_among-number.result.0 in
+    let below : number < length nodes = subst (λ all. number < length all) c.as_slice.ensures.value c.way_among-number.ensures.within in
     let key_of = g.By.KeyOf.key_of c.args.by in
     let cmp = g.By.KeyOf.key_cmp in
-    let nodes = c.args.nodes.now.items in
-    let number = c.node_of-number.result in
-    let falls : IsNodeOf key_of cmp (g.C.ChangeOf.changed c.args.change.now) nodes number =
-    subst (λ key. IsNodeOf key_of cmp key nodes number) c.key.ensures (subst (λ all. IsNodeOf key_of cmp c.key.result.now all number) c.as_slice.ensures.value c.node_of-number.ensures) in
-    among key_of g.met.By.KeyOf.total g.C.ChangeOf.changed g.C.ChangeOf.put nodes number c.index_mut.result.now c.change_alone.new.node c.args.change.now falls c.index_mut.ensures.value c.requires.pages c.requires.rising c.requires.keyed c.if-not-change_alone.ensures
+    let ends = c.way_among-number.result.1.ends in
+    let behind = λ (all : List (Arc (Branch g.row.T.Denot) Global)). pages_of (drop (number + 1) all) in
+    within_among key_of g.C.ChangeOf.changed g.C.ChangeOf.put nodes number c.index_mut.result.now c.change_alone.new.node c.args.change.now ends c.args.way.ends below c.index_mut.ensures.value
+    (subst (λ key. ends ≡ true → Begin key_of cmp key true (behind nodes) ⊎ ((behind nodes ≡ []) × (c.args.way.ends ≡ true))) c.key.ensures
+    (subst (λ all. ends ≡ true → Begin key_of cmp c.key.result.now true (behind all) ⊎ ((behind all ≡ []) × (c.args.way.ends ≡ true))) c.as_slice.ensures.value c.way_among-number.ensures.ends))
+    c.if-not-change_alone.ensures

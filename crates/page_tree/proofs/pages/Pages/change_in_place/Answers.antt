@@ -17,4 +17,4 @@ invariant_of-self-2 g c =
     let keyed = subst (λ how. AreKeyed (g.By.KeyOf.key_of how) g.C.ChangeOf.changed g.C.ChangeOf.put (c.args.change.now ∷ [])) (sym by) c.requires in
     let pages = subst (λ (root : Option (Arc (Branch g.row.T.Denot) Global)). ArePages (root_pages root)) c.in-Some.is c.self.invariant.0 in
     let rising = subst (λ (root : Option (Arc (Branch g.row.T.Denot) Global)). IsRising (g.By.KeyOf.key_of c.self.inside.by) cmp (joined (root_pages root))) c.in-Some.is c.self.invariant.1 in
-    stays_sound (g.By.KeyOf.key_of c.self.inside.by) g.met.By.KeyOf.total g.C.ChangeOf.changed g.C.ChangeOf.put c.change_alone.result c.in-Some.root.value.pages c.change_alone.new.node.value.pages c.args.change.now c.change_alone.ensures keyed pages rising
+    stays_sound (g.By.KeyOf.key_of c.self.inside.by) g.met.By.KeyOf.total g.C.ChangeOf.changed g.C.ChangeOf.put c.change_in.result c.in-Some.root.value.pages c.change_in.new.node.value.pages c.args.change.now c.change_in.ensures keyed pages rising
