@@ -47,6 +47,11 @@ module _ {T K C : Type 0} (key_of : T → K) {cmp : K → K → Ordering} (order
   unfolding with_change
   parts_are change page place behind is above = rw (below_is key_of order (changed change) page place is, above) refl
 
+  copied_parts : (change : C) (page : List T) (place : ℕ) → IsPlaceOf key_of cmp (changed change) page place
+      → with_change key_of cmp (changed change) (put change) page ≡ take place page ++ (option_to_list (put change) ++ above_key key_of cmp (changed change) page)
+  unfolding with_change
+  copied_parts change page place is = rw (below_is key_of order (changed change) page place is) refl
+
   begins_as : (page new : List T) (place : ℕ) (rest : List T) → 0 < place → new ≡ take place page ++ rest → (first : T) → IsFirst first (page ∷ []) → IsFirst first (new ∷ [])
   begins_as page new place rest some is first begins =
       let starts : page ≡ first ∷ begins.others = let same = begins.is in cc in
@@ -70,6 +75,15 @@ module _ {T K C : Type 0} (key_of : T → K) {cmp : K → K → Ordering} (order
         count = refl;
         begins = begins_as page new place (option_to_list (put change) ++ drop behind page) some parts;
       }
+
+  -- the same of a page that has what the change makes of it
+  pub page_copied : (change : C) (page new : List T) (place : ℕ) → 0 < place → length new ≤ PAGE_ITEMS → 0 < length new → IsPlaceOf key_of cmp (changed change) page place
+      → new ≡ with_change key_of cmp (changed change) (put change) page → InPlace key_of cmp changed put (page ∷ []) change (new ∷ [])
+  page_copied change page new place some fits filled is made = record {
+    adds = adds_leaf key_of order changed put page (change ∷ []) [] (new ∷ []) (omega arith) (record { new = new ∷ []; behind = refl; pages = (record { some = filled; fits = fits }, tt); items = append-nil new ∙ (made ∙ sym (one_change change page)) });
+    count = refl;
+    begins = begins_as page new place (option_to_list (put change) ++ above_key key_of cmp (changed change) page) some (made ∙ copied_parts change page place is);
+  }
 
   -- what one change makes of the items
   pub items_changed : (old new : List (List T)) (change : C) → InPlace key_of cmp changed put old change new → joined new ≡ with_change key_of cmp (changed change) (put change) (joined old)

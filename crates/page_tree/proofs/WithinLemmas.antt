@@ -1,6 +1,6 @@
 -- A page that was changed in place is the one into which the change falls.
 use Rattle.std.proofs.Common.{◌≡◌, refl, sym, ◌∙◌, ap, subst, inl, inr, List, [], ◌∷◌, ◌++◌, ℕ, zero, suc, ◌+◌, ◌<◌, ◌≤◌, length, take, drop, get_or, append_assoc, length-append, Option, MatchBool, arith}
-use Rattle.std.specs.Prelude.{◌⊎◌, Bool, true, false, slice_set}
+use Rattle.std.specs.Prelude.{◌⊎◌, Bool, true, false}
 use Rattle.std.specs.Cmp.{IsTotalOrder}
 use Rattle.std.specs.List.{AllByRecursion as Each}
 use Rattle.std.specs.Ordering.{is_gt, is_lt}
@@ -22,8 +22,14 @@ use Rattle.page_tree.specs.Branch.{Branch}
 use Rattle.page_tree.specs.InPlace.{InPlace}
 use Rattle.page_tree.specs.NodeOf.{Begin}
 use Rattle.page_tree.specs.PutWithin.{Ends, PutWithin, Reaches}
-use Rattle.page_tree.proofs.AmongLemmas.{first_among, grows, pages_around, pages_set}
+use Rattle.page_tree.proofs.AmongLemmas.{first_among, grows}
 use Rattle.page_tree.proofs.ChangeLemmas.{not_below}
+
+-- a list of one
+pub only : {X : Type 0} (xs : List X) (x : X) → length xs ≡ 1 → x ≡ get_or xs 0 x → xs ≡ x ∷ []
+only [] x one is = absurd (omega arith)
+only (y ∷ []) x one is = ap (λ z. z ∷ []) (sym is)
+only (y ∷ (z ∷ xs)) x one is = absurd (omega arith)
 
 -- pages that begin with an item above a key
 record Follows {T K : Type 0} (key_of : T → K) (cmp : K → K → Ordering) (key : K) (behind : List (List T)) : Type 0 where
@@ -107,29 +113,26 @@ module _ {T K : Type 0} (key_of : T → K) {cmp : K → K → Ordering} where
 
 module _ {T K C Z : Type 0} (key_of : T → K) {cmp : K → K → Ordering} (changed : C → K) (put : C → Option T) where
   -- a page of one node, as one of all nodes
-  pub within_among : (nodes : List (Arc (Branch T) Z)) (number : ℕ) (node new : Arc (Branch T) Z) (change : C) (below ends : Bool) → number < length nodes → node ≡ get_or nodes number node
+  pub within_among : (nodes : List (Arc (Branch T) Z)) (number : ℕ) (here new after : List (List T)) (change : C) (below ends : Bool)
+      → pages_of nodes ≡ pages_of (take number nodes) ++ (here ++ pages_of (drop (number + 1) nodes)) → after ≡ pages_of (take number nodes) ++ (new ++ pages_of (drop (number + 1) nodes))
       → (below ≡ true → Begin key_of cmp (changed change) true (pages_of (drop (number + 1) nodes)) ⊎ ((pages_of (drop (number + 1) nodes) ≡ []) × (ends ≡ true)))
-      → PutWithin key_of cmp changed put node.value.pages change new.value.pages below → PutWithin key_of cmp changed put (pages_of nodes) change (pages_of (slice_set nodes number new)) ends
-  within_among nodes number node new change below ends within is after puts = record {
-    front = pages_of (take number nodes) ++ puts.front;
-    page = puts.page;
-    made = puts.made;
-    behind = puts.behind ++ pages_of (drop (number + 1) nodes);
-    was = pages_around nodes number node within is
-        ∙ (ap (λ pages. pages_of (take number nodes) ++ (pages ++ pages_of (drop (number + 1) nodes))) puts.was
-        ∙ around (pages_of (take number nodes)) puts.front puts.page puts.behind (pages_of (drop (number + 1) nodes)));
-    is = pages_set nodes number new within
-        ∙ (ap (λ pages. pages_of (take number nodes) ++ (pages ++ pages_of (drop (number + 1) nodes))) puts.is
-        ∙ around (pages_of (take number nodes)) puts.front puts.made puts.behind (pages_of (drop (number + 1) nodes)));
-    here = puts.here;
-    begins = puts.begins;
-    falls = ends_more key_of (changed change) puts.page puts.behind (pages_of (drop (number + 1) nodes)) below ends puts.falls after;
-    count = rw (pages_set nodes number new within, pages_around nodes number node within is)
-        (omega (arith, puts.count, length-append (pages_of (take number nodes)) (new.value.pages ++ pages_of (drop (number + 1) nodes)), length-append (pages_of (take number nodes)) (node.value.pages ++ pages_of (drop (number + 1) nodes)),
-        length-append new.value.pages (pages_of (drop (number + 1) nodes)), length-append node.value.pages (pages_of (drop (number + 1) nodes))));
-    starts = λ first begins. subst (IsFirst first) (sym (pages_set nodes number new within))
-        (first_among (pages_of (take number nodes)) node.value.pages new.value.pages (pages_of (drop (number + 1) nodes)) puts.count puts.starts first (subst (IsFirst first) (pages_around nodes number node within is) begins));
-  }
+      → PutWithin key_of cmp changed put here change new below → PutWithin key_of cmp changed put (pages_of nodes) change after ends
+  within_among nodes number here new after change below ends was is behind puts =
+      let front = pages_of (take number nodes) in
+      let rest = pages_of (drop (number + 1) nodes) in
+      record {
+        front = front ++ puts.front;
+        page = puts.page;
+        made = puts.made;
+        behind = puts.behind ++ rest;
+        was = was ∙ (ap (λ pages. front ++ (pages ++ rest)) puts.was ∙ around front puts.front puts.page puts.behind rest);
+        is = is ∙ (ap (λ pages. front ++ (pages ++ rest)) puts.is ∙ around front puts.front puts.made puts.behind rest);
+        here = puts.here;
+        begins = puts.begins;
+        falls = ends_more key_of (changed change) puts.page puts.behind rest below ends puts.falls behind;
+        count = rw (is, was) (omega (arith, puts.count, length-append front (new ++ rest), length-append front (here ++ rest), length-append new rest, length-append here rest));
+        starts = λ first begins. subst (IsFirst first) (sym is) (first_among front here new rest puts.count puts.starts first (subst (IsFirst first) was begins));
+      }
 
 module _ {T K C : Type 0} (key_of : T → K) {cmp : K → K → Ordering} (order : IsTotalOrder cmp) (changed : C → K) (put : C → Option T) where
   -- where keys rise, what comes behind a page that comes as far as the key is above it

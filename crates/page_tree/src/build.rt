@@ -11,7 +11,7 @@ use std::alloc::{AllocError, Global};
 use std::sync::Arc;
 
 /// A node of one page.
-fn leaf<T: MakeCopy + Drop>(
+pub(crate) fn leaf<T: MakeCopy + Drop>(
     alloc: Global,
     page: Page<T>,
 ) -> Result<Arc<Node<T>, Global>, AllocError>
@@ -56,7 +56,7 @@ fn hints_of<T>(nodes: &[Arc<Node<T>, Global>]) -> [u64; INNER_NODES] {
 }
 
 /// A node above these, with their pages in their order.
-fn inner<T: MakeCopy + Drop>(
+pub(crate) fn inner<T: MakeCopy + Drop>(
     alloc: Global,
     nodes: Vec<Arc<Node<T>, Global>>,
 ) -> Result<Arc<Node<T>, Global>, AllocError>

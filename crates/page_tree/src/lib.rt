@@ -4,6 +4,7 @@
 mod bound;
 mod build;
 mod change;
+mod copied;
 mod hints;
 mod in_place;
 mod items;

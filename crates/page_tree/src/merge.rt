@@ -1,6 +1,6 @@
 ghost use Rattle.std.specs.Prelude.{◌≡◌, ◌≤◌, ◌+◌, ◌++◌, IfOk, OnOk, drop, length};
 ghost use Rattle.std.specs.Option.{option_copied, option_to_list};
-ghost use Rattle.page_model.specs.Changed.{above_key, below_key, with_changes, AreKeyed};
+ghost use Rattle.page_model.specs.Changed.{above_key, below_key, with_change, with_changes, AreKeyed};
 ghost use Rattle.page_model.specs.Place.{IsPlaceOf};
 ghost use Rattle.page_model.specs.Rising.{IsRising};
 
@@ -81,6 +81,24 @@ fn merge_change<'a, T: MakeCopy + Drop, By: KeyOf<T>, C: ChangeOf<T, By::Key>>(
     push_copies(alloc, &items[..place], first_hints(hints, place), made)?;
     push_copy(alloc, by, change.item(), made)?;
     Ok(&items[above_from(by, items, change.key(), place)..])
+}
+
+/// The items after one change. A hint is made for what it puts; those of the others are taken over.
+pub(crate) fn merged_one<T: MakeCopy + Drop, By: KeyOf<T>, C: ChangeOf<T, By::Key>>(
+    alloc: Global,
+    by: By,
+    items: &[T],
+    hints: &[u64],
+    change: &C,
+) -> Result<Page<T>, AllocError>
+    requires { IsRising (By.key_of by) By.key_cmp items.now }
+    ensures { IfOk result (λ made. made.items.items ≡ with_change (By.key_of by) By.key_cmp (C.changed change.now) (C.put change.now) items.now) }
+{
+    let mut made = Page::with_room(alloc, items.len().saturating_add(1))?;
+    let left = merge_change(alloc, by, items, hints, change, &mut made)?;
+    let beside = hints_behind(hints, items.len().saturating_sub(left.len()));
+    push_copies(alloc, left, beside, &mut made)?;
+    Ok(made)
 }
 
 /// The items after changes. Hints are made for those that are put; those of the others are taken over.

@@ -15,6 +15,7 @@ ghost use Rattle.page_tree.specs.InPlace.{InPlace};
 use crate::bound::place_in;
 use crate::build::push_above;
 use crate::change::{change_node, fill};
+use crate::copied::copied_in;
 use crate::in_place::change_in;
 use crate::items::Items;
 use crate::key::{BoundOf, ChangeOf, KeyOf};
@@ -160,6 +161,10 @@ impl<T: MakeCopy + Drop, By: KeyOf<T>> Pages<T, By> {
         };
         if changes.is_empty() {
             made.push(Arc::try_clone(root)?)?;
+            return Ok(made);
+        }
+        if let Some(node) = copied_in(alloc, self.by, root, changes)? {
+            made.push(node)?;
             return Ok(made);
         }
         change_node(alloc, self.by, root, changes, &mut made)?;

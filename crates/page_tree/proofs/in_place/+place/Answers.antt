@@ -5,7 +5,7 @@ use Rattle.page_model.specs.Page.{joined}
 use Rattle.page_tree.specs.Body.{pages_of}
 use Rattle.page_tree.specs.Branch.{Branch}
 use Rattle.page_tree.specs.NodeOf.{Begin}
-use Rattle.page_tree.proofs.AmongLemmas.{items_around, items_set, pages_same}
+use Rattle.page_tree.proofs.AmongLemmas.{items_around, items_set, pages_around, pages_same, pages_set}
 use Rattle.page_tree.proofs.ChangeLemmas.{parts_of}
 use Rattle.page_tree.proofs.NodeLemmas.{nodes_from, pages_from}
 use Rattle.page_tree.proofs.WithinLemmas.{within_among, within_grows}
@@ -79,7 +79,8 @@ change_among-returns-clause-changed g t c =
     let cmp = g.By.KeyOf.key_cmp in
     let ends = c.way_among-number.result.1.ends in
     let behind = λ (all : List (Arc (Branch g.row.T.Denot) Global)). pages_of (drop (number + 1) all) in
-    within_among key_of g.C.ChangeOf.changed g.C.ChangeOf.put nodes number c.index_mut.result.now c.change_alone.new.node c.args.change.now ends c.args.way.ends below c.index_mut.ensures.value
+    within_among key_of g.C.ChangeOf.changed g.C.ChangeOf.put nodes number c.index_mut.result.now.value.pages c.change_alone.new.node.value.pages _ c.args.change.now ends c.args.way.ends
+    (pages_around nodes number c.index_mut.result.now below c.index_mut.ensures.value) (pages_set nodes number c.change_alone.new.node below)
     (subst (λ key. ends ≡ true → Begin key_of cmp key true (behind nodes) ⊎ ((behind nodes ≡ []) × (c.args.way.ends ≡ true))) c.key.ensures
     (subst (λ all. ends ≡ true → Begin key_of cmp c.key.result.now true (behind all) ⊎ ((behind all ≡ []) × (c.args.way.ends ≡ true))) c.as_slice.ensures.value c.way_among-number.ensures.ends))
     c.if-not-change_alone.ensures
