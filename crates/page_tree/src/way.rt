@@ -34,9 +34,23 @@ pub(crate) fn way_among<T, By: KeyOf<T>>(
     if way.checked {
         let number = node_of(by, nodes, hints, key);
         let ends = way.ends || number < last;
-        return (number, Way { checked: true, ends });
+        return (
+            number,
+            Way {
+                checked: true,
+                ends,
+            },
+        );
     }
-    let number = count_upto(hints, by.key_hint(key)).saturating_sub(1).min(last);
+    let number = count_upto(hints, by.key_hint(key))
+        .saturating_sub(1)
+        .min(last);
     let ends = way.ends && number == last;
-    (number, Way { checked: false, ends })
+    (
+        number,
+        Way {
+            checked: false,
+            ends,
+        },
+    )
 }
