@@ -9,7 +9,7 @@ use std::marker::Model;
 use std::sync::Arc;
 
 /// The most nodes right below a node.
-pub(crate) const INNER_NODES: usize = 8;
+pub(crate) const INNER_NODES: usize = 16;
 
 /// A node of the tree: a page, or some nodes and their pages in their order. The counts and the first item stand beside
 /// them, so that nothing below has to be looked at for those, and so do hints: for the first item, for the first items of
