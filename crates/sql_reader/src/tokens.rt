@@ -6,6 +6,9 @@ ghost use Rattle.grammar_model.specs.Terminal.{terminal_of};
 use sql_lex::{Lexer, SyntaxAt, Token, TokenKind};
 use std::alloc::{AllocError, Global};
 
+/// The room for tokens that is taken at once, for as many as most statements have.
+const TOKENS: usize = 16;
+
 /// The tokens of a text, in order. Where no token begins at a byte, a mark without bytes stands last.
 pub fn tokens(alloc: Global, text: &str) -> Result<Vec<Token<'_>>, AllocError>
     requires { length text.now < 2 ^ 32 }
@@ -14,6 +17,7 @@ pub fn tokens(alloc: Global, text: &str) -> Result<Vec<Token<'_>>, AllocError>
     ensures only { IfOk result (λ tokens. (other : Terminals) → AreTerminals text.now other → other ≡ map terminal_of tokens.items) }
 {
     let mut tokens = Vec::new(alloc);
+    tokens.reserve_exact(TOKENS.min(text.len()))?;
     let mut lexer = Lexer::new(text);
     loop {
         match lexer.next() {
