@@ -1,5 +1,5 @@
 -- The answer for a text, of what the reading rules give for its tokens.
-use Rattle.std.proofs.Common.{◌≡◌, ℕ, List, [], ◌∷◌, length, map, Ok, Err, refl, sym, ap, ◌∙◌, subst}
+use Rattle.std.proofs.Common.{◌≡◌, ℕ, List, [], ◌∷◌, length, map, Ok, Err, IfSome, refl, sym, ap, ◌∙◌, subst}
 use Rattle.own_model.specs.declared.limit.LimitName.{LimitName}
 use Rattle.own_model.specs.declared.limit.TheConstants.{NESTING_LEVELS}
 use Rattle.own_model.specs.declared.statement.Statement.{Statement}
@@ -8,6 +8,9 @@ use Rattle.sql_reader.specs.declared.fault.RuleFault.TheVariants as fault
 use Rattle.grammar_model.specs.Answer.{Answer, GivesStatement, StopsAt, PassesLimit, IsAnswerFor, IsAnswer}
 use Rattle.grammar_model.specs.Terminals.{IsCutInto, AreTerminals}
 use Rattle.grammar_model.specs.Limits.{store_limits}
+use Rattle.sql_reader.specs.AnswerOf.{answer_of, read_fault}
+use Rattle.sql_reader.specs.declared.fault.RuleFault.{RuleFault}
+use Rattle.sql_reader.specs.reading.Reader.{Does}
 use Rattle.sql_reader.specs.reading.Whole.{whole}
 use Rattle.grammar_model.specs.Terminal.{Terminals}
 use Rattle.grammar_model.specs.Terminal.{terminal_of, byte_of}
@@ -44,6 +47,14 @@ answers_syntax text tokens rest byte is place =
 pub answers_limit : (text : List ℕ) (tokens : List lexed.Token) (rest : Terminals) (name : LimitName) → whole (map terminal_of tokens) ≡ Err (fault.Limit name, rest) → IsAnswerFor text (map terminal_of tokens) (PassesLimit name)
 unfolding whole
 answers_limit text tokens rest name is = limit_at (map terminal_of tokens) (no_slots tokens) name rest is
+
+-- a fault of the rules is the answer for the text, unless it is for want of memory
+pub answers_fault : (text : List ℕ) (tokens : List lexed.Token) (terminals rest : Terminals) (why : RuleFault) (byte : ℕ) → IsCutInto (record { text = text; at = 0 }) tokens
+    → ((other : Terminals) → AreTerminals text other → other ≡ map terminal_of tokens) → terminals ≡ map terminal_of tokens → Does whole terminals (Err why) rest → byte ≡ byte_of (length text) rest
+    → IfSome (answer_of (Err (read_fault why byte))) (λ answer. IsAnswer text answer)
+answers_fault text tokens terminals rest fault.Memory byte cut only same does place = tt
+answers_fault text tokens terminals rest (fault.Limit name) byte cut only same does place = answer text tokens (PassesLimit name) cut only (answers_limit text tokens rest name (ap whole (sym same) ∙ does))
+answers_fault text tokens terminals rest fault.Syntax byte cut only same does place = answer text tokens (StopsAt byte) cut only (answers_syntax text tokens rest byte (ap whole (sym same) ∙ does) place)
 
 -- a text has one answer
 pub one_answer : (text : List ℕ) (one other : Answer) → IsAnswer text one → IsAnswer text other → one ≡ other

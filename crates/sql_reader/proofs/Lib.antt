@@ -4,6 +4,7 @@ pub mod CutTexts
 pub mod Exactly
 pub mod FaultPlaces
 pub mod Heads
+mod HeldNames
 pub mod Itemizing
 pub mod Joins
 pub mod Leaves

@@ -8,21 +8,30 @@ ghost use Rattle.script_model.specs.Numbered.{call_after, count_of};
 ghost use Rattle.sql_reader.specs.scripts.Counts.{AreCounted, AddsText, asking};
 
 use crate::fault::ReadFault;
-use crate::read::read_statement;
+use crate::names::Names;
+use crate::read::read_sharing;
 use own_base::{Boxed, List, SessionNo};
 use own_model::{LimitName, Request, STATEMENT_BYTES, ScriptCall};
 use std::alloc::{AllocError, Global};
+use std::mem::drop;
 
 /// The calls so far, and how many of them each session has.
 #[derive(Drop)]
 pub struct Calls {
     list: Vec<ScriptCall>,
     counts: [u32; 16],
+    /// The names in their statements.
+    names: Names,
     ghost counted: { AreCounted counts list.items },
 }
 
-/// What a text asks for, by whether it is closed. Takes memory for its tokens and its statement.
-pub fn request_of(alloc: Global, text: &str, closed: bool) -> Result<Request, AllocError>
+/// What a text asks for, by whether it is closed. Its names are shared with those of the texts before.
+fn request_sharing(
+    alloc: Global,
+    text: &str,
+    closed: bool,
+    names: &mut Names,
+) -> Result<Request, AllocError>
     requires { length text.now < 2 ^ 32 }
     ensures { IfOk result (λ request. IsAskedWhere closed (nat_lt STATEMENT_BYTES (length text.now)) text.now request) }
 {
@@ -32,12 +41,23 @@ pub fn request_of(alloc: Global, text: &str, closed: bool) -> Result<Request, Al
     if text.len() > STATEMENT_BYTES {
         return Ok(Request::Limit(LimitName::Statement));
     }
-    match read_statement(alloc, text) {
+    match read_sharing(alloc, text, names) {
         Ok(statement) => Ok(Request::Run(Boxed::new(alloc, statement)?)),
         Err(ReadFault::Syntax(at)) => Ok(Request::Syntax(at)),
         Err(ReadFault::Limit(limit)) => Ok(Request::Limit(limit)),
         Err(ReadFault::Memory) => Err(AllocError),
     }
+}
+
+/// What a text asks for, by whether it is closed. Takes memory for its tokens and its statement.
+pub fn request_of(alloc: Global, text: &str, closed: bool) -> Result<Request, AllocError>
+    requires { length text.now < 2 ^ 32 }
+    ensures { IfOk result (λ request. IsAskedWhere closed (nat_lt STATEMENT_BYTES (length text.now)) text.now request) }
+{
+    let mut names = Names::new(alloc);
+    let request = request_sharing(alloc, text, closed, &mut names);
+    drop(names);
+    request
 }
 
 /// Puts what a session asks for last, with the session's next number.
@@ -68,6 +88,7 @@ impl Calls {
         Calls {
             list: Vec::new(alloc),
             counts: [0; 16],
+            names: Names::new(alloc),
         }
     }
 
@@ -103,7 +124,7 @@ impl Calls {
         ensures unchanged { OnErr result (self.new.list.items ≡ self.old.list.items) }
     {
         self.list.reserve(1)?;
-        let request = request_of(alloc, text, closed)?;
+        let request = request_sharing(alloc, text, closed, &mut self.names)?;
         put(&mut self.list, &mut self.counts, session, request);
         Ok(())
     }
@@ -137,7 +158,12 @@ impl Calls {
     pub fn into_list(self) -> List<ScriptCall>
         ensures { result ≡ self.list.items }
     {
-        let Calls { list, .. } = self;
+        let Calls {
+            list,
+            counts: _,
+            names,
+        } = self;
+        drop(names);
         List::from_vec(list)
     }
 }

@@ -7,17 +7,19 @@ ghost use Rattle.sql_reader.specs.reading.Judges.{is_name, is_quoted, slot_of};
 ghost use Rattle.grammar_model.specs.Terminal as spec;
 
 use crate::fault::RuleFault;
-use crate::literal::{can_be_name, name_of, number_of, text_of};
+use crate::literal::{can_be_name, number_of, text_of};
+use crate::names::Names;
 use own_base::{Name, Text};
 use own_model::LimitName;
 use sql_lex::{Token, TokenKind};
 use std::alloc::Global;
 use std::marker::Model;
 
-/// The tokens that are still to be read.
+/// The tokens that are still to be read, and the names that were read before.
 #[derive(Debug, Drop)]
 pub struct Cursor<'a> {
     tokens: &'a [Token<'a>],
+    names: Names,
 }
 
 impl<'a> Model for Cursor<'a> {
@@ -49,10 +51,15 @@ fn is_mark(token: &Token, mark: &[u8]) -> bool
 
 impl<'a> Cursor<'a> {
     /// At the first of the tokens.
-    pub fn new(tokens: &'a [Token<'a>]) -> Cursor<'a>
+    pub fn new(tokens: &'a [Token<'a>], names: Names) -> Cursor<'a>
         ensures { result ≡ map spec.terminal_of tokens.now }
     {
-        Cursor { tokens }
+        Cursor { tokens, names }
+    }
+
+    /// The names that were read so far.
+    pub fn into_names(self) -> Names {
+        self.names
     }
 
     /// Whether this keyword comes next.
@@ -128,7 +135,7 @@ impl<'a> Cursor<'a> {
     {
         match self.tokens.first() {
             Some(token) => {
-                let name = name_of(alloc, token)?;
+                let name = self.names.read(alloc, token)?;
                 self.tokens = &self.tokens[1..];
                 Ok(name)
             }

@@ -11,6 +11,7 @@ mod fault;
 pub mod laws;
 mod list;
 mod literal;
+mod names;
 mod piece;
 mod read;
 mod rule;
