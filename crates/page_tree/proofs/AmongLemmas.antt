@@ -1,47 +1,39 @@
 -- Nodes of which one was changed in place.
-use Rattle.std.proofs.Common.{◌≡◌, refl, sym, ◌∙◌, ap, subst, inl, inr, List, [], ◌∷◌, ◌++◌, ℕ, suc, ◌+◌, ◌<◌, ◌≤◌, length, take, drop, get_or, append-nil, append_assoc, add-one, length-append, Option, arith}
+use Rattle.std.proofs.Common.{◌≡◌, sym, ◌∙◌, ap, List, [], ◌∷◌, ◌++◌, ℕ, suc, ◌+◌, ◌<◌, ◌≤◌, length, take, drop, get_or, add-one, length-append, Option, arith}
 use Rattle.std.specs.Prelude.{slice_set}
 use Rattle.std.specs.Cmp.{IsTotalOrder}
-use Rattle.std.specs.List.Sorted.{IsStrictlySortedBy}
 use Rattle.std.specs.declared.cmp.Ordering.{Ordering}
-use Rattle.std.specs.declared.cmp.Ordering.TheVariants.{Less}
 use Rattle.std.specs.declared.sync.Arc.{Arc}
-use Rattle.std.proofs.lemmas.Bool.{cases_lt}
 use Rattle.std.proofs.lemmas.Grind.{flat_map-append}
-use Rattle.std.proofs.lemmas.List.{drop_all}
-use Rattle.page_model.specs.Changed.{AreKeyed}
-use Rattle.page_model.specs.ChangedPages.{AddsChanged}
-use Rattle.page_model.specs.Page.{ArePages, IsFirst, joined}
-use Rattle.page_model.specs.Rising.{IsRising}
+use Rattle.page_model.specs.Page.{IsFirst, joined}
 use Rattle.page_model.proofs.ChangedLemmas.{length_with_changes}
-use Rattle.page_model.proofs.KeptLemmas.{adds_moved, adds_same}
-use Rattle.page_model.proofs.Ordered.{below_from_above, greater_from_gt}
 use Rattle.page_tree.specs.Body.{pages_of}
 use Rattle.page_tree.specs.Branch.{Branch}
 use Rattle.page_tree.specs.InPlace.{InPlace}
-use Rattle.page_tree.specs.NodeOf.{IsNodeOf}
-use Rattle.page_tree.proofs.ChangeLemmas.{adds_behind, adds_front, parts_of}
 use Rattle.page_tree.proofs.InPlaceLemmas.{set_parts}
 use Rattle.page_tree.proofs.NodeLemmas.{pages_from, pages_split}
 
 -- how many items pages have that stand one behind the other
-joined_length : {T : Type 0} (front here behind : List (List T)) → length (joined (front ++ (here ++ behind))) ≡ length (joined front) + (length (joined here) + length (joined behind))
+pub joined_length : {T : Type 0} (front here behind : List (List T)) → length (joined (front ++ (here ++ behind))) ≡ length (joined front) + (length (joined here) + length (joined behind))
 joined_length front here behind =
     ap length (flat_map-append (λ page. page) front (here ++ behind) ∙ ap (λ items. joined front ++ items) (flat_map-append (λ page. page) here behind))
     ∙ (length-append (joined front) (joined here ++ joined behind) ∙ ap (λ n. length (joined front) + n) (length-append (joined here) (joined behind)))
 
+-- how many there are that stand one behind the other
+pub counted : {X : Type 0} (front here behind : List X) → length (front ++ (here ++ behind)) ≡ length front + (length here + length behind)
+counted front here behind = length-append front (here ++ behind) ∙ ap (λ n. length front + n) (length-append here behind)
+
 -- pages begin as before where those that are changed do
-first_here : {T : Type 0} (old new behind : List (List T)) → length new ≡ length old → ((first : T) → IsFirst first old → IsFirst first new) → (first : T) → IsFirst first (old ++ behind) → IsFirst first (new ++ behind)
-first_here [] [] behind count begins first is = is
-first_here [] (page ∷ new) behind count begins first is = absurd (omega arith)
-first_here (page ∷ old) new behind count begins first is =
+first_here : {T : Type 0} (old new behind : List (List T)) → 0 < length old → ((first : T) → IsFirst first old → IsFirst first new) → (first : T) → IsFirst first (old ++ behind) → IsFirst first (new ++ behind)
+first_here [] new behind some begins first is = absurd (omega arith)
+first_here (page ∷ old) new behind some begins first is =
     let starts : page ≡ first ∷ is.others = let same = is.is in cc in
     let there = begins first (record { others = is.others; behind = old; is = ap (λ each. each ∷ old) starts }) in
     record { others = there.others; behind = there.behind ++ behind; is = ap (λ pages. pages ++ behind) there.is }
 
-pub first_among : {T : Type 0} (front old new behind : List (List T)) → length new ≡ length old → ((first : T) → IsFirst first old → IsFirst first new) → (first : T) → IsFirst first (front ++ (old ++ behind)) → IsFirst first (front ++ (new ++ behind))
-first_among [] old new behind count begins first is = first_here old new behind count begins first is
-first_among (page ∷ front) old new behind count begins first is =
+pub first_among : {T : Type 0} (front old new behind : List (List T)) → 0 < length old → ((first : T) → IsFirst first old → IsFirst first new) → (first : T) → IsFirst first (front ++ (old ++ behind)) → IsFirst first (front ++ (new ++ behind))
+first_among [] old new behind some begins first is = first_here old new behind some begins first is
+first_among (page ∷ front) old new behind some begins first is =
     let starts : page ≡ first ∷ is.others = let same = is.is in cc in
     record { others = is.others; behind = front ++ (new ++ behind); is = ap (λ each. each ∷ (front ++ (new ++ behind))) starts }
 
@@ -72,6 +64,15 @@ module _ {T Z : Type 0} where
   pub items_set : (nodes : List (Arc (Branch T) Z)) (number : ℕ) (new : Arc (Branch T) Z) → number < length nodes
       → length (joined (pages_of (slice_set nodes number new))) ≡ length (joined (pages_of (take number nodes))) + (length (joined new.value.pages) + length (joined (pages_of (drop (number + 1) nodes))))
   items_set nodes number new within = ap (λ pages. length (joined pages)) (pages_set nodes number new within) ∙ joined_length (pages_of (take number nodes)) new.value.pages (pages_of (drop (number + 1) nodes))
+
+  -- how many pages there are
+  pub pages_counted : (nodes : List (Arc (Branch T) Z)) (number : ℕ) (node : Arc (Branch T) Z) → number < length nodes → node ≡ get_or nodes number node
+      → length (pages_of nodes) ≡ length (pages_of (take number nodes)) + (length node.value.pages + length (pages_of (drop (number + 1) nodes)))
+  pages_counted nodes number node within is = ap length (pages_around nodes number node within is) ∙ counted (pages_of (take number nodes)) node.value.pages (pages_of (drop (number + 1) nodes))
+
+  pub pages_counted_set : (nodes : List (Arc (Branch T) Z)) (number : ℕ) (new : Arc (Branch T) Z) → number < length nodes
+      → length (pages_of (slice_set nodes number new)) ≡ length (pages_of (take number nodes)) + (length new.value.pages + length (pages_of (drop (number + 1) nodes)))
+  pages_counted_set nodes number new within = ap length (pages_set nodes number new within) ∙ counted (pages_of (take number nodes)) new.value.pages (pages_of (drop (number + 1) nodes))
 
 module _ {T K C : Type 0} (key_of : T → K) {cmp : K → K → Ordering} (order : IsTotalOrder cmp) (changed : C → K) (put : C → Option T) where
   -- a change adds no more than an item

@@ -33,7 +33,7 @@ insert_length xs place x =
     omega (arith, length-append (take place xs) (drop place xs), length-append (take place xs) (x ∷ drop place xs))
 
 -- the first item stays where another place is changed
-first_stays : {T : Type 0} (place : ℕ) (first : T) (others rest : List T) → 0 < place → (more : List T) × (take place (first ∷ others) ++ rest ≡ first ∷ more)
+pub first_stays : {T : Type 0} (place : ℕ) (first : T) (others rest : List T) → 0 < place → (more : List T) × (take place (first ∷ others) ++ rest ≡ first ∷ more)
 first_stays zero first others rest some = absurd (omega arith)
 first_stays (suc place) first others rest some = (take place others ++ rest, refl)
 
@@ -42,7 +42,7 @@ module _ {T K C : Type 0} (key_of : T → K) {cmp : K → K → Ordering} (order
   unfolding with_changes
   one_change change xs = refl
 
-  parts_are : (change : C) (page : List T) (place behind : ℕ) → IsPlaceOf key_of cmp (changed change) page place → above_key key_of cmp (changed change) page ≡ drop behind page
+  pub parts_are : (change : C) (page : List T) (place behind : ℕ) → IsPlaceOf key_of cmp (changed change) page place → above_key key_of cmp (changed change) page ≡ drop behind page
       → with_change key_of cmp (changed change) (put change) page ≡ take place page ++ (option_to_list (put change) ++ drop behind page)
   unfolding with_change
   parts_are change page place behind is above = rw (below_is key_of order (changed change) page place is, above) refl
@@ -72,7 +72,7 @@ module _ {T K C : Type 0} (key_of : T → K) {cmp : K → K → Ordering} (order
       } in
       record {
         adds = adds_leaf key_of order changed put page (change ∷ []) [] (new ∷ []) (omega arith) adds;
-        count = refl;
+        count = omega arith;
         begins = begins_as page new place (option_to_list (put change) ++ drop behind page) some parts;
       }
 
@@ -81,7 +81,7 @@ module _ {T K C : Type 0} (key_of : T → K) {cmp : K → K → Ordering} (order
       → new ≡ with_change key_of cmp (changed change) (put change) page → InPlace key_of cmp changed put (page ∷ []) change (new ∷ [])
   page_copied change page new place some fits filled is made = record {
     adds = adds_leaf key_of order changed put page (change ∷ []) [] (new ∷ []) (omega arith) (record { new = new ∷ []; behind = refl; pages = (record { some = filled; fits = fits }, tt); items = append-nil new ∙ (made ∙ sym (one_change change page)) });
-    count = refl;
+    count = omega arith;
     begins = begins_as page new place (option_to_list (put change) ++ above_key key_of cmp (changed change) page) some (made ∙ copied_parts change page place is);
   }
 

@@ -1,6 +1,7 @@
 mod AmongLemmas
 mod BelowLemmas
 mod ChangeLemmas
+mod CutLemmas
 mod InPlaceLemmas
 mod LikelyLemmas
 mod NodeLemmas

@@ -1,5 +1,5 @@
 -- A page that was changed in place is the one into which the change falls.
-use Rattle.std.proofs.Common.{◌≡◌, refl, sym, ◌∙◌, ap, subst, inl, inr, List, [], ◌∷◌, ◌++◌, ℕ, zero, suc, ◌+◌, ◌<◌, ◌≤◌, length, take, drop, get_or, append_assoc, length-append, Option, MatchBool, arith}
+use Rattle.std.proofs.Common.{◌≡◌, refl, sym, ◌∙◌, ap, subst, inl, inr, List, [], ◌∷◌, ◌++◌, ℕ, zero, suc, ◌+◌, ◌<◌, ◌≤◌, length, take, drop, get_or, append-nil, append_assoc, length-append, Option, MatchBool, arith}
 use Rattle.std.specs.Prelude.{◌⊎◌, Bool, true, false}
 use Rattle.std.specs.Cmp.{IsTotalOrder}
 use Rattle.std.specs.List.{AllByRecursion as Each}
@@ -41,7 +41,7 @@ record Follows {T K : Type 0} (key_of : T → K) (cmp : K → K → Ordering) (k
 abbrev Above : {T K : Type 0} → (T → K) → (K → K → Ordering) → K → List (List T) → Type 0
 Above key_of cmp key behind = (behind ≡ []) ⊎ Follows key_of cmp key behind
 
--- where a list stands at a place, and what comes behind it there
+-- a page comes as far as a key where no item of it from a place on is below the key
 reaches_from : {T K : Type 0} (key_of : T → K) (cmp : K → K → Ordering) (key : K) (page : List T) (place : ℕ) → place < length page → Each (λ item. is_lt (cmp (key_of item) key) ≡ false) (drop place page)
     → Reaches key_of cmp key page
 reaches_from key_of cmp key [] place within upto = absurd (omega arith)
@@ -62,16 +62,16 @@ begins_below key_of cmp key (item ∷ items) (suc place) some filled below = rec
 }
 
 -- a page that was changed behind its first item, and before its end where more may come behind it
-pub page_within : {T K C : Type 0} (key_of : T → K) {cmp : K → K → Ordering} (changed : C → K) (put : C → Option T) (page new : List T) (change : C) (place : ℕ) (ends : Bool)
+pub page_within : {T K C : Type 0} (key_of : T → K) {cmp : K → K → Ordering} (changed : C → K) (put : C → Option T) (page : List T) (new : List (List T)) (change : C) (place : ℕ) (ends : Bool)
     → 0 < place → 0 < length page → IsPlaceOf key_of cmp (changed change) page place → (place ≡ length page → ends ≡ true)
-    → InPlace key_of cmp changed put (page ∷ []) change (new ∷ []) → PutWithin key_of cmp changed put (page ∷ []) change (new ∷ []) ends
+    → InPlace key_of cmp changed put (page ∷ []) change new → PutWithin key_of cmp changed put (page ∷ []) change new ends
 page_within key_of {cmp} changed put page new change place ends some filled is behind here = record {
   front = [];
   page = page;
   made = new;
   behind = [];
   was = refl;
-  is = refl;
+  is = sym (append-nil new);
   here = here;
   begins = begins_below key_of cmp (changed change) page place some filled is.before;
   falls = elim (cases_lt place (length page)) [
@@ -85,11 +85,18 @@ page_within key_of {cmp} changed put page new change place ends some filled is b
 around : {X : Type 0} (a b : List X) (x : X) (c d : List X) → a ++ ((b ++ x ∷ c) ++ d) ≡ (a ++ b) ++ x ∷ (c ++ d)
 around a b x c d = simp append_assoc
 
+around_some : {X : Type 0} (a b m c d : List X) → a ++ ((b ++ (m ++ c)) ++ d) ≡ (a ++ b) ++ (m ++ (c ++ d))
+around_some a b m c d = simp append_assoc
+
+-- some pages, where one of them is known
+filled : {X : Type 0} (xs a : List X) (x : X) (b : List X) → xs ≡ a ++ x ∷ b → 0 < length xs
+filled xs a x b is = rw is (omega (arith, length-append a (x ∷ b)))
+
 -- the same of a change that was made, or wasn't
 pub within_made : {T K C : Type 0} (key_of : T → K) {cmp : K → K → Ordering} (changed : C → K) (put : C → Option T) (made : Bool) (page new : List T) (change : C) (place : ℕ) (ends : Bool)
     → 0 < place → 0 < length page → IsPlaceOf key_of cmp (changed change) page place → (place ≡ length page → ends ≡ true)
     → MatchBool made (InPlace key_of cmp changed put (page ∷ []) change (new ∷ [])) (new ≡ page) → MatchBool made (PutWithin key_of cmp changed put (page ∷ []) change (new ∷ []) ends) (new ≡ page)
-within_made key_of changed put true page new change place ends some filled is behind here = page_within key_of changed put page new change place ends some filled is behind here
+within_made key_of changed put true page new change place ends some filled is behind here = page_within key_of changed put page (new ∷ []) change place ends some filled is behind here
 within_made key_of changed put false page new change place ends some filled is behind same = same
 
 module _ {T K : Type 0} (key_of : T → K) {cmp : K → K → Ordering} where
@@ -126,12 +133,12 @@ module _ {T K C Z : Type 0} (key_of : T → K) {cmp : K → K → Ordering} (cha
         made = puts.made;
         behind = puts.behind ++ rest;
         was = was ∙ (ap (λ pages. front ++ (pages ++ rest)) puts.was ∙ around front puts.front puts.page puts.behind rest);
-        is = is ∙ (ap (λ pages. front ++ (pages ++ rest)) puts.is ∙ around front puts.front puts.made puts.behind rest);
+        is = is ∙ (ap (λ pages. front ++ (pages ++ rest)) puts.is ∙ around_some front puts.front puts.made puts.behind rest);
         here = puts.here;
         begins = puts.begins;
         falls = ends_more key_of (changed change) puts.page puts.behind rest below ends puts.falls behind;
         count = rw (is, was) (omega (arith, puts.count, length-append front (new ++ rest), length-append front (here ++ rest), length-append new rest, length-append here rest));
-        starts = λ first begins. subst (IsFirst first) (sym is) (first_among front here new rest puts.count puts.starts first (subst (IsFirst first) was begins));
+        starts = λ first begins. subst (IsFirst first) (sym is) (first_among front here new rest (filled here puts.front puts.page puts.behind puts.was) puts.starts first (subst (IsFirst first) was begins));
       }
 
 module _ {T K C : Type 0} (key_of : T → K) {cmp : K → K → Ordering} (order : IsTotalOrder cmp) (changed : C → K) (put : C → Option T) where
@@ -152,13 +159,13 @@ module _ {T K C : Type 0} (key_of : T → K) {cmp : K → K → Ordering} (order
   above_from key page behind ends (inr (inr none)) pages rising = inl none.0
 
   -- a page with a change, and those behind it
-  adds_here : (page : List T) (change : C) (made : List T) (behind : List (List T)) → Above key_of cmp (changed change) behind → ArePages behind → IsRising key_of cmp (joined (page ∷ behind)) → AreKeyed key_of changed put (change ∷ [])
-      → AddsChanged key_of cmp changed put (page ∷ []) (change ∷ []) [] (made ∷ []) → AddsChanged key_of cmp changed put (page ∷ behind) (change ∷ []) [] (made ∷ behind)
+  adds_here : (page : List T) (change : C) (made : List (List T)) (behind : List (List T)) → Above key_of cmp (changed change) behind → ArePages behind → IsRising key_of cmp (joined (page ∷ behind)) → AreKeyed key_of changed put (change ∷ [])
+      → AddsChanged key_of cmp changed put (page ∷ []) (change ∷ []) [] made → AddsChanged key_of cmp changed put (page ∷ behind) (change ∷ []) [] (made ++ behind)
   adds_here page change made behind (inl none) pages rising keyed adds =
-      subst (λ rest. AddsChanged key_of cmp changed put (page ∷ rest) (change ∷ []) [] (made ∷ rest)) (sym none) adds
+      subst (λ rest. AddsChanged key_of cmp changed put (page ∷ rest) (change ∷ []) [] (made ++ rest)) (sym none) (subst (AddsChanged key_of cmp changed put (page ∷ []) (change ∷ []) []) (sym (append-nil made)) adds)
   adds_here page change made behind (inr above) pages rising keyed adds =
-      adds_both key_of order changed put (page ∷ []) behind above.first above.is.others above.is.behind (change ∷ []) [] [] (made ∷ []) (made ∷ behind) above.is.is rising keyed (above.above, tt) tt adds
-      (adds_same key_of order changed put behind (made ∷ []) (made ∷ behind) pages refl)
+      adds_both key_of order changed put (page ∷ []) behind above.first above.is.others above.is.behind (change ∷ []) [] [] made (made ++ behind) above.is.is rising keyed (above.above, tt) tt adds
+      (adds_same key_of order changed put behind made (made ++ behind) pages refl)
 
   -- so all pages are as the change makes them
   pub whole : (old new : List (List T)) (change : C) (ends : Bool) → PutWithin key_of cmp changed put old change new ends → ArePages old → IsRising key_of cmp (joined old) → AreKeyed key_of changed put (change ∷ [])
@@ -175,11 +182,11 @@ module _ {T K C : Type 0} (key_of : T → K) {cmp : K → K → Ordering} (order
       let here = adds_here puts.page change puts.made puts.behind above pages_back.1 rises_back keyed puts.here.adds in
       let begin = puts.begins in
       let starts : back ≡ (begin.first ∷ begin.is.others) ∷ puts.behind = ap (λ page. page ∷ puts.behind) (let same = begin.is.is in let first : puts.page ≡ begin.first ∷ begin.is.others = cc in first) in
-      let both = adds_both key_of order changed put front back begin.first begin.is.others puts.behind [] (change ∷ []) [] front (front ++ puts.made ∷ puts.behind) starts rises tt tt
+      let both = adds_both key_of order changed put front back begin.first begin.is.others puts.behind [] (change ∷ []) [] front (front ++ (puts.made ++ puts.behind)) starts rises tt tt
       (not_below key_of order changed (key_of begin.first) (changed change) _ refl begin.stands, tt)
       (adds_same key_of order changed put front [] front (each_front _ front back all) refl)
-      (adds_moved key_of order changed put back (change ∷ []) front (puts.made ∷ puts.behind) (front ++ puts.made ∷ puts.behind) refl here) in
-      let made : AddsChanged key_of cmp changed put (front ++ back) (change ∷ []) [] (front ++ puts.made ∷ puts.behind) = both in
+      (adds_moved key_of order changed put back (change ∷ []) front (puts.made ++ puts.behind) (front ++ (puts.made ++ puts.behind)) refl here) in
+      let made : AddsChanged key_of cmp changed put (front ++ back) (change ∷ []) [] (front ++ (puts.made ++ puts.behind)) = both in
       record {
         adds = subst (λ each. AddsChanged key_of cmp changed put each (change ∷ []) [] new) (sym puts.was) (subst (AddsChanged key_of cmp changed put (front ++ back) (change ∷ []) []) (sym puts.is) made);
         count = puts.count;
@@ -196,7 +203,8 @@ module _ {T K C : Type 0} (key_of : T → K) {cmp : K → K → Ordering} (order
   -- a change adds no more than an item
   pub within_grows : (old new : List (List T)) (change : C) (ends : Bool) → PutWithin key_of cmp changed put old change new ends → length (joined new) ≤ length (joined old) + 1
   within_grows old new change ends puts =
-      let more = grows key_of order changed put (puts.page ∷ []) (puts.made ∷ []) change puts.here in
+      let more = grows key_of order changed put (puts.page ∷ []) puts.made change puts.here in
       let was = ap (λ pages. length (joined pages)) puts.was ∙ (ap length (flat_map-append (λ page. page) puts.front (puts.page ∷ puts.behind)) ∙ length-append (joined puts.front) (joined (puts.page ∷ puts.behind))) in
-      let is = ap (λ pages. length (joined pages)) puts.is ∙ (ap length (flat_map-append (λ page. page) puts.front (puts.made ∷ puts.behind)) ∙ length-append (joined puts.front) (joined (puts.made ∷ puts.behind))) in
-      omega (arith, length-append puts.page (joined puts.behind), length-append puts.made (joined puts.behind), length-append puts.page [], length-append puts.made [])
+      let is = ap (λ pages. length (joined pages)) puts.is ∙ (ap length (flat_map-append (λ page. page) puts.front (puts.made ++ puts.behind)) ∙ length-append (joined puts.front) (joined (puts.made ++ puts.behind))) in
+      let parts = ap length (flat_map-append (λ page. page) puts.made puts.behind) ∙ length-append (joined puts.made) (joined puts.behind) in
+      omega (arith, length-append puts.page (joined puts.behind), length-append puts.page [])

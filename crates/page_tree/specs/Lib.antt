@@ -1,8 +1,10 @@
 pub mod Body
 pub mod Branch
+pub mod CutWithin
 pub mod Falls
 pub mod Held
 pub mod InPlace
+pub mod IsCut
 pub mod ItemsLeft
 pub mod NodeBelow
 pub mod NodeOf

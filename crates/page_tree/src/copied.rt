@@ -2,13 +2,14 @@ ghost use Rattle.std.specs.Prelude.{◌<◌, IfOk, IfSome, [], ◌∷◌, length
 ghost use Rattle.page_model.specs.Changed.{AreKeyed};
 ghost use Rattle.page_model.specs.ChangedPages.{AddsChanged};
 ghost use Rattle.page_model.specs.Page.{ArePages, IsPage, joined};
+ghost use Rattle.page_model.specs.Place.{IsPlaceOf};
 ghost use Rattle.page_model.specs.Rising.{IsRising};
 ghost use Rattle.page_tree.specs.Body.{pages_of};
 ghost use Rattle.page_tree.specs.PutWithin.{PutWithin};
 
 use crate::build::{inner, leaf, push_nodes};
 use crate::key::{ChangeOf, KeyOf};
-use crate::merge::merged_one;
+use crate::merge::{above_from, merged_one};
 use crate::node::{Body, Node, around};
 use crate::search::place_of;
 use crate::way::{Way, way_among};
@@ -16,6 +17,19 @@ use own_base::MakeCopy;
 use page_model::PAGE_ITEMS;
 use std::alloc::{AllocError, Global};
 use std::sync::Arc;
+
+/// Whether a change puts an item whose key no item of a page has: then it comes at a place between two of them. Takes no memory.
+fn is_new<T, By: KeyOf<T>, C: ChangeOf<T, By::Key>>(
+    by: By,
+    page: &[T],
+    change: &C,
+    place: usize,
+) -> bool
+    requires rising { IsRising (By.key_of by) By.key_cmp page.now }
+    requires place { IsPlaceOf (By.key_of by) By.key_cmp (C.changed change.now) page.now place }
+{
+    change.item().is_some() && above_from(by, page, change.key(), place) == place
+}
 
 /// A page with a change, beside which hints stand, as a node, unless the change falls to the first item, or behind all where it
 /// isn't known that what comes after the page is above it, or it would be too many items for one page.
@@ -36,6 +50,9 @@ fn copied_page<T: MakeCopy + Drop, By: KeyOf<T>, C: ChangeOf<T, By::Key>>(
         return Ok(None);
     }
     if !ends && place == page.len() {
+        return Ok(None);
+    }
+    if page.len() >= PAGE_ITEMS && is_new(by, page, change, place) {
         return Ok(None);
     }
     let made = merged_one(alloc, by, page, hints, change)?;

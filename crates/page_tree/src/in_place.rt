@@ -8,10 +8,11 @@ ghost use Rattle.page_tree.specs.Body.{pages_of};
 ghost use Rattle.page_tree.specs.InPlace.{InPlace};
 ghost use Rattle.page_tree.specs.PutWithin.{PutWithin};
 
+use crate::cut::cut_among;
 use crate::hints::remove_hint;
 use crate::key::{ChangeOf, KeyOf};
 use crate::merge::above_from;
-use crate::node::{Body, Node};
+use crate::node::{Body, INNER_NODES, Node};
 use crate::search::place_of;
 use crate::way::{Way, way_among};
 use own_base::MakeCopy;
@@ -20,7 +21,7 @@ use std::alloc::Global;
 use std::sync::Arc;
 
 /// Puts an item between those of a page, and its hint between theirs, unless memory is refused. Answers whether it did.
-fn insert_at<T: Drop>(
+pub(crate) fn insert_at<T: Drop>(
     page: &mut Vec<T>,
     hints: &mut Vec<u64>,
     place: usize,
@@ -135,7 +136,7 @@ fn change_within<T: MakeCopy + Drop, By: KeyOf<T>, C: ChangeOf<T, By::Key>>(
     requires keyed { AreKeyed (By.key_of by) C.changed C.put (change.now ∷ []) }
     ensures { MatchBool result (PutWithin (By.key_of by) By.key_cmp C.changed C.put node.old.pages change.now node.new.pages way.ends) (node.new.pages ≡ node.old.pages) }
 {
-    let items = node.items;
+    let counts = (node.items, node.pages);
     match &mut node.body {
         Body::Leaf(page) => {
             if !change_page(alloc, by, page, &mut node.item_hints, change, way.ends) {
@@ -144,54 +145,61 @@ fn change_within<T: MakeCopy + Drop, By: KeyOf<T>, C: ChangeOf<T, By::Key>>(
             node.items = page.len();
             true
         }
-        Body::Inner(nodes) => match change_among(
-            alloc,
-            by,
-            nodes,
-            node.node_hints.as_slice(),
-            items,
-            change,
-            way,
-        ) {
-            None => false,
-            Some(items) => {
-                node.items = items;
-                true
-            }
-        },
+        Body::Inner(nodes) => {
+            let hints = &mut node.node_hints;
+            let Some((items, pages)) = change_among(alloc, by, nodes, hints, counts, change, way)
+            else {
+                return false;
+            };
+            node.items = items;
+            node.pages = pages;
+            true
+        }
     }
 }
 
-/// Puts a change into the page of some nodes to which a way leads, beside which hints stand and which have so many items, where
-/// nobody shares the way to it. Answers how many items they have then.
+/// Puts a change into the page of some nodes to which a way leads, beside which hints stand and which have so many items and pages,
+/// where nobody shares the way to it: a full page is cut, where one more node fits. Answers how many items and pages they have then.
 #[cycle(place)]
 fn change_among<T: MakeCopy + Drop, By: KeyOf<T>, C: ChangeOf<T, By::Key>>(
     alloc: Global,
     by: By,
     nodes: &mut Vec<Arc<Node<T>, Global>>,
-    hints: &[u64],
-    items: usize,
+    hints: &mut [u64; INNER_NODES],
+    counts: (usize, usize),
     change: &C,
     way: Way,
-) -> Option<usize>
+) -> Option<(usize, usize)>
     requires some { 0 < length nodes.old.items }
-    requires items { items ≡ length (joined (pages_of nodes.old.items)) }
+    requires items { counts.0 ≡ length (joined (pages_of nodes.old.items)) }
+    requires counted { counts.1 ≡ length (pages_of nodes.old.items) }
     requires pages { ArePages (pages_of nodes.old.items) }
     requires rising { IsRising (By.key_of by) By.key_cmp (joined (pages_of nodes.old.items)) }
     requires keyed { AreKeyed (By.key_of by) C.changed C.put (change.now ∷ []) }
-    ensures items { IfSome result (λ items. items ≡ length (joined (pages_of nodes.new.items))) }
+    ensures items { IfSome result (λ counts. counts.0 ≡ length (joined (pages_of nodes.new.items))) }
+    ensures counted { IfSome result (λ counts. counts.1 ≡ length (pages_of nodes.new.items)) }
     ensures changed { IfSome result (λ _. PutWithin (By.key_of by) By.key_cmp C.changed C.put (pages_of nodes.old.items) change.now (pages_of nodes.new.items) way.ends) }
     ensures unchanged { IfNone result (pages_of nodes.new.items ≡ pages_of nodes.old.items) }
 {
-    if items == usize::MAX {
+    let (items, pages) = counts;
+    if items == usize::MAX || pages == usize::MAX {
         return None;
     }
-    let (number, way) = way_among(by, nodes.as_slice(), hints, change.key(), way);
-    let before = nodes[number].items();
-    if !change_alone(alloc, by, &mut nodes[number], change, way) {
-        return None;
+    let (number, below) = way_among(by, nodes.as_slice(), hints.as_slice(), change.key(), way);
+    let (items_there, pages_there) = (nodes[number].items(), nodes[number].pages());
+    if change_alone(alloc, by, &mut nodes[number], change, below) {
+        let node = &nodes[number];
+        return Some((
+            items - items_there + node.items(),
+            pages - pages_there + node.pages(),
+        ));
     }
-    Some(items - before + nodes[number].items())
+    if cut_among(
+        alloc, by, nodes, hints, number, change, below.ends, way.ends,
+    ) {
+        return Some((items + 1, pages + 1));
+    }
+    None
 }
 
 /// Puts a change into the page of a node into which it falls, where nobody shares the way to it, and the page takes it. Hints tell

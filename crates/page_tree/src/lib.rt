@@ -5,6 +5,7 @@ mod bound;
 mod build;
 mod change;
 mod copied;
+mod cut;
 mod hints;
 mod in_place;
 mod items;

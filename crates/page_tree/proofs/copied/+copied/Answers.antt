@@ -1,4 +1,4 @@
-use Rattle.std.proofs.Common.{Global, ◌≡◌, ◌+◌, ◌∙◌, ◌++◌, ◌∷◌, [], List, ap, subst, length, take, drop, append_assoc, IfSome, Option, arith}
+use Rattle.std.proofs.Common.{Global, ◌≡◌, ◌+◌, ◌∙◌, ◌++◌, ◌∷◌, [], List, ap, subst, take, drop, append_assoc, IfSome, Option, arith}
 use Rattle.std.specs.Prelude.{◌⊎◌, true}
 use Rattle.std.specs.declared.sync.Arc.{Arc}
 use Rattle.std.proofs.lemmas.Grind.{flat_map-append}

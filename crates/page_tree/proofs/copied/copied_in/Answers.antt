@@ -1,4 +1,4 @@
-use Rattle.std.proofs.Common.{Global, ◌≡◌, ◌∷◌, [], Option, sym, subst, IfSome}
+use Rattle.std.proofs.Common.{Global, [], Option, sym, subst, IfSome}
 use Rattle.std.specs.declared.sync.Arc.{Arc}
 use Rattle.page_model.specs.Changed.{AreKeyed}
 use Rattle.page_model.specs.ChangedPages.{AddsChanged}

@@ -29,4 +29,4 @@ returns g c =
       | else-not-ends-via-else-not-ends w ↦ w.if-not-ends.false
     ] in
     subst (λ (pages : List (List g.row.T.Denot)). PutWithin key_of cmp changed put (page ∷ []) change pages c.args.ends) (sym c.in_ok-leaf.ensures)
-    (page_within key_of changed put page made change place c.args.ends some c.requires.page.some is ends here)
+    (page_within key_of changed put page (made ∷ []) change place c.args.ends some c.requires.page.some is ends here)

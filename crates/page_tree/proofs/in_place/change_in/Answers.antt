@@ -1,4 +1,3 @@
-use Rattle.std.proofs.Common.{◌≡◌}
 use Rattle.page_tree.proofs.WithinLemmas.{whole, whole_made}
 use Rattle.page_tree.proofs.in_place.change_in.Goals as goal
 

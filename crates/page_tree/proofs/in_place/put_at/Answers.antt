@@ -1,10 +1,9 @@
-use Rattle.std.proofs.Common.{◌≡◌, ◌<◌, ◌≤◌, ◌∷◌, [], ◌++◌, ◌∙◌, refl, suc, ap, sym, subst, length, take, drop, take-append-drop, Some, None, arith}
+use Rattle.std.proofs.Common.{◌≡◌, ◌≤◌, ◌∷◌, [], ◌++◌, ◌∙◌, refl, suc, ap, sym, subst, length, take, drop, take-append-drop, Some, None, arith}
 use Rattle.std.specs.Prelude.{slice_set}
 use Rattle.std.specs.Option.{option_copied, option_to_list}
 use Rattle.std.specs.List.{insert}
 use Rattle.std.proofs.lemmas.List.{length-set}
 use Rattle.page_model.specs.Changed.{above_key}
-use Rattle.page_model.specs.Place.{IsPlaceOf}
 use Rattle.page_tree.specs.InPlace.{InPlace}
 use Rattle.page_tree.proofs.InPlaceLemmas.{insert_length, match_made, page_changed, set_parts}
 use Rattle.page_tree.proofs.in_place.put_at.Goals as goal

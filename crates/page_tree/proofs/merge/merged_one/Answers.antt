@@ -1,4 +1,4 @@
-use Rattle.std.proofs.Common.{◌≡◌, ◌∙◌, ◌++◌, ap, append_assoc}
+use Rattle.std.proofs.Common.{◌∙◌, ◌++◌, ap, append_assoc}
 use Rattle.std.specs.Option.{option_to_list}
 use Rattle.page_model.specs.Changed.{below_key, with_change}
 use Rattle.page_tree.proofs.merge.merged_one.Goals as goal
