@@ -4,6 +4,7 @@ pub mod Enough
 pub mod Groups
 pub mod KeyRange
 pub mod Meetings
+pub mod Met
 pub mod Numbers
 pub mod ShownEntry
 pub mod ShowColumns

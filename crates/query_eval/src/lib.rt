@@ -5,6 +5,7 @@ mod group_tally;
 mod group_value;
 mod grouping;
 mod groups;
+mod in_key_order;
 mod in_order;
 mod item_tally;
 mod joining;

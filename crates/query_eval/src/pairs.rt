@@ -7,9 +7,9 @@ ghost use Rattle.query_model.specs.Truth.{keeps};
 ghost use Rattle.query_eval.specs.Enough.{IsEnough};
 ghost use Rattle.query_eval.specs.Tables.{AreTables};
 
+use crate::in_key_order::{met_row, met_rows, next_met};
 use crate::kept::key_column;
 use crate::lent_rows::LentRows;
-use crate::meeting::meeting_row;
 use crate::row_list::RowList;
 use crate::table_rows::TableRows;
 use crate::value_index::ValueIndex;
@@ -110,13 +110,14 @@ fn kept_by_key<'a, V: StoreView>(
     ensures { IfOk result (λ kept. IsEnough most (filter (keeps (option_copied cond.entry))
         (joined tables.left_column.0 tables.right_column.0 (rows_at (V.db view.now).rows tables.left.0) (rows_at (V.db view.now).rows tables.right.0))) kept) }
 {
+    let mut met = met_rows(alloc, view, tables)?;
     let mut kept = LentRows::new(alloc);
     for left in TableRows::new(view, tables.left) {
         if kept.is_past(most) {
             return Ok(kept);
         }
         let value = cell(left, tables.left_column);
-        let right = meeting_row(alloc, view, tables.right, tables.right_column, value)?;
+        let right = met_row(alloc, view, tables, value, next_met(&mut met))?;
         keep_pair(&mut kept, left, right, cond)?;
     }
     Ok(kept)

@@ -8,8 +8,8 @@ use Rattle.query_eval.proofs.TableRows.{stored_at, stored_cell}
 use Rattle.query_eval.proofs.pairs.kept_by_key.Goals as goal
 
 -- A row of the left table holds no sums.
-pub meeting_row-requires-clause-stored : goal.meeting_row-requires-clause-stored
-meeting_row-requires-clause-stored g c =
+pub met_row-requires-clause-stored : goal.met_row-requires-clause-stored
+met_row-requires-clause-stored g c =
     let stored = stored_at (g.V.StoreView.db c.args.view.now).rows c.args.tables.left.0 c.requires.tables.stored in
     let whole = rw c.in-Some.ensures.steps at c.loop-left.invariant.1 in
     let rest = rows_left c.next.new.self.run.now c.next.new.self.behind (rows_at (g.V.StoreView.db c.next.new.self.view.now).rows c.next.new.self.table.0) in
@@ -25,4 +25,9 @@ loop-left-preserved g c =
       gone.0 ++ c.in-Some.left.now ∷ [],
       rw (append_assoc, ← c.in-Some.ensures.steps) gone.1,
       kept-more (keeps (option_copied c.args.cond)) c.args.tables.left_column.0 c.args.tables.right_column.0 gone.0 rights c.in-Some.left.now c.loop-left.kept (option_to_list (option_copied c.in_ok-right.right)) c.keep_pair.new.kept gone.2 met c.in_ok-keep_pair.ensures,
+      c.next_met.ensures.others c.args.tables.right_column.0 rights gone.3,
     )
+
+-- The next row that was looked up is met.
+pub met_row-requires-clause-met : goal.met_row-requires-clause-met
+met_row-requires-clause-met g c = c.next_met.ensures.next c.args.tables.right_column.0 (rows_at (g.V.StoreView.db c.args.view.now).rows c.args.tables.right.0) c.loop-left.invariant.3
