@@ -24,7 +24,7 @@ import sys
 import tempfile
 import time
 
-from processor import instructions, spent, tells_instructions
+from processor import as_started, instructions, spent, tells_instructions
 
 COMMITS, ROUNDS = 1_000, 20
 CREATE = "CREATE TABLE items (id INT PRIMARY KEY, n INT, name TEXT);\n"
@@ -88,7 +88,7 @@ def fed(command, calls):
         asked.write("".join(calls).encode())
         asked.seek(0)
         with Taken() as taken:
-            done = subprocess.run(command, stdin=asked, stdout=told)
+            done = subprocess.run(command, stdin=asked, stdout=told, env=as_started(command))
         if done.returncode != 0:
             sys.exit(f"{command[0]} failed: status {done.returncode}")
         told.seek(0)

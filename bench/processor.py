@@ -2,6 +2,7 @@
 import functools
 import hashlib
 import os
+import re
 import resource
 import shutil
 import signal
@@ -10,16 +11,34 @@ import tempfile
 import time
 
 
+TOP = os.path.dirname(os.path.dirname(os.path.realpath(__file__)))
+OWN = ("store_main", "store_shell", "subjectdb-linux-x86_64", "subjectdb-shell-linux-x86_64")
+
+
+@functools.lru_cache(maxsize=None)
+def tunables():
+    """What ./subjectdb tells the C library of the programs that it starts."""
+    with open(os.path.join(TOP, "subjectdb"), encoding="utf-8") as launcher:
+        return re.search(r"^tunables=(\S+)$", launcher.read(), re.MULTILINE)[1]
+
+
+def as_started(command):
+    """The environment of a command: this project's programs have that in which ./subjectdb starts them, also where a shell
+    starts them, of which they are a word then."""
+    if any(os.path.basename(word) in OWN for word in command) and "GLIBC_TUNABLES" not in os.environ:
+        return {**os.environ, "GLIBC_TUNABLES": tunables()}
+    return dict(os.environ)
+
+
 def measured_on(program):
     """A line for the top of a bench: the commit of this checkout, the program by its SHA-256, whether a released one is of other sources
     than those of the checkout, and the machine's processors."""
-    top = os.path.dirname(os.path.dirname(os.path.realpath(__file__)))
-    done = subprocess.run(["git", "-C", top, "rev-parse", "HEAD"], capture_output=True, text=True)
+    done = subprocess.run(["git", "-C", TOP, "rev-parse", "HEAD"], capture_output=True, text=True)
     commit = done.stdout.strip() if done.returncode == 0 else "unknown"
     with open(program, "rb") as file:
         digest = hashlib.file_digest(file, "sha256").hexdigest()
     listed, other = os.path.join(os.path.dirname(os.path.abspath(program)), "sources.sha256"), ""
-    if os.path.exists(listed) and subprocess.run([os.path.join(top, "tools", "sources-checksum"), "--differences", listed], capture_output=True).stdout:
+    if os.path.exists(listed) and subprocess.run([os.path.join(TOP, "tools", "sources-checksum"), "--differences", listed], capture_output=True).stdout:
         other = " (of other sources than this commit's)"
     with open("/proc/cpuinfo") as file:
         models = [line.partition(":")[2].strip() for line in file if line.startswith("model name")]
@@ -72,7 +91,7 @@ def read_from(told):
 def counted(command, source):
     """The instructions that perf counts of a command outside the system, or None where it counts none."""
     with tempfile.NamedTemporaryFile("r") as told:
-        done = subprocess.run([*PERF, "-o", told.name, "--", *command], stdin=source, stdout=subprocess.DEVNULL, stderr=subprocess.DEVNULL)
+        done = subprocess.run([*PERF, "-o", told.name, "--", *command], stdin=source, stdout=subprocess.DEVNULL, stderr=subprocess.DEVNULL, env=as_started(command))
         return read_from(told) if done.returncode == 0 else None
 
 
@@ -103,7 +122,7 @@ def least_in_turn(commands, runs, output=subprocess.PIPE):
         for number, (command, path) in enumerate(commands):
             with open(path, "rb") as source:
                 begin = spent()
-                told[number] = subprocess.run(command, stdin=source, stdout=output, check=True).stdout
+                told[number] = subprocess.run(command, stdin=source, stdout=output, check=True, env=as_started(command)).stdout
                 taken[number].append(spent() - begin)
     return [(Cost(min(times), instructions(*one)), lines) for times, one, lines in zip(taken, commands, told)]
 

@@ -10,6 +10,8 @@ import subprocess
 import sys
 import tempfile
 
+from processor import as_started
+
 STARTER = r"""
 #include <stdio.h>
 #include <sys/resource.h>
@@ -68,9 +70,9 @@ class Run:
 
 def run(command, path=os.devnull, told=None, settings=None):
     """Runs a command with the file of that path as its input, and gives what it took. What it writes goes to the file `told`, if there
-    is one; the settings are variables of its environment besides those of this process."""
+    is one; the settings are variables of its environment besides those that it is started with."""
     command = [shutil.which(command[0]) or command[0], *command[1:]]
-    environment = {**os.environ, **settings} if settings else None
+    environment = {**as_started(command), **(settings or {})}
     _, start = starter()
     with open(path, "rb") as asked, tempfile.NamedTemporaryFile("r") as taken:
         done = subprocess.run([start, taken.name, *command], stdin=asked, stdout=told or subprocess.DEVNULL, env=environment)

@@ -5,6 +5,7 @@ import sys
 import tempfile
 
 from large_items import ratio
+from processor import as_started
 
 LINES = 15
 SETTINGS = ("glibc.malloc.hugetlb=1", "glibc.malloc.top_pad=67108864", "glibc.malloc.mmap_threshold=33554432", "glibc.malloc.tcache_count=1000")
@@ -16,7 +17,8 @@ def profiled(job, event, begin):
     counted = ["-c", "1"] if event == "page-faults" else ["-F", "999"]
     with tempfile.TemporaryDirectory() as folder, open(job.path, "rb") as asked:
         data = os.path.join(folder, "perf.data")
-        subprocess.run(["perf", "record", "-q", "-e", event, *counted, "-o", data, "--", *job.command()], stdin=asked, stdout=subprocess.DEVNULL, check=True)
+        subprocess.run(["perf", "record", "-q", "-e", event, *counted, "-o", data, "--", *job.command()], stdin=asked, stdout=subprocess.DEVNULL, check=True,
+                       env=as_started(job.command()))
         window = ["--time", f"{begin:.0f}%-100%"] if begin else []
         told = subprocess.run(["perf", "report", "--stdio", "--no-children", "-g", "none", *window, "-i", data], capture_output=True, text=True, check=True).stdout
     return [line.rstrip() for line in told.splitlines() if line.strip() and not line.startswith("#")][:LINES]
@@ -49,7 +51,7 @@ def try_settings(item, program, rounds):
     for _ in range(rounds):
         for name, job in jobs.items():
             for setting in ("", *SETTINGS):
-                one = job.take({"GLIBC_TUNABLES": setting} if setting else None)
+                one = job.take({"GLIBC_TUNABLES": setting})
                 best.setdefault(setting, {}).setdefault(name, one)
                 best[setting][name] = one.least(best[setting][name])
     with open(LARGE_PAGES) as file:
