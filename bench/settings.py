@@ -17,8 +17,9 @@ def profiled(job, event, begin):
     counted = ["-c", "1"] if event == "page-faults" else ["-F", "999"]
     with tempfile.TemporaryDirectory() as folder, open(job.path, "rb") as asked:
         data = os.path.join(folder, "perf.data")
-        subprocess.run(["perf", "record", "-q", "-e", event, *counted, "-o", data, "--", *job.command()], stdin=asked, stdout=subprocess.DEVNULL, check=True,
-                       env=as_started(job.command()))
+        command = job.command()
+        subprocess.run(["perf", "record", "-q", "-e", event, *counted, "-o", data, "--", *command], stdin=asked, stdout=subprocess.DEVNULL, check=True,
+                       env=as_started(command))
         window = ["--time", f"{begin:.0f}%-100%"] if begin else []
         told = subprocess.run(["perf", "report", "--stdio", "--no-children", "-g", "none", *window, "-i", data], capture_output=True, text=True, check=True).stdout
     return [line.rstrip() for line in told.splitlines() if line.strip() and not line.startswith("#")][:LINES]
