@@ -1,6 +1,8 @@
 mod CreatedOwners
 mod CreatedShelves
+mod FewRows
 mod Indexed
+mod Laid
 mod LoneChange
 mod NamedRows
 mod OneChange

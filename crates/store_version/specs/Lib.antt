@@ -1,2 +1,3 @@
+pub mod AreFew
 pub mod Added
 pub mod Parts

@@ -7,6 +7,8 @@ ghost use Rattle.move_model.specs.Moves.{AreMovesOf};
 ghost use Rattle.annot_schema.specs.Created.{IsAdmissible};
 ghost use Rattle.ref_index.specs.Tells.{Tell};
 ghost use Rattle.store_version.specs.Added.{IsBoundView, db_viewed, db_with};
+ghost use Rattle.store_version.specs.AreFew.{AreFew};
+ghost use Rattle.view_select.specs.ShowsViews.{ShowsViews};
 
 use crate::shown_owned::ShownOwned;
 use crate::version::{Next, Version};
@@ -17,6 +19,8 @@ use own_model::ViewDef;
 use std::alloc::{AllocError, Global};
 use std::mem::drop;
 use std::slice;
+use txn_space::Space;
+use view_deltas::Views;
 
 /// The version with changes of rows, which may come in any order, each of which tells the row as it is, and which subjects
 /// stand otherwise to which rows than before.
@@ -135,8 +139,43 @@ fn change_in_place(alloc: Global, version: &mut Version, change: &Change) -> Res
     version.owned.change(alloc, change)
 }
 
-/// Makes one change of a row of a lone table, which tells the row as it is, in the version itself: in place, where the store has
-/// no view, and nobody shares the rows that it falls among. After `AllocError` the version is as it was.
+/// What is kept for the views after one change, which tells the row as it is: it is made before the rows are changed, over the
+/// rows with the change laid over them.
+fn views_after(alloc: Global, version: &Version, change: &Change) -> Result<Views, AllocError>
+    requires tells { Tell version.now (change.now ∷ []) }
+    requires well_formed { IsWellFormed version.now }
+    requires few { AreFew version.now.rows }
+    ensures { IfOk result (λ views. ShowsViews (put version.now (change.now ∷ [])) views) }
+{
+    let before = ShownOwned {
+        owned: &version.owned,
+    };
+    let changes = slice::from_ref(change);
+    let mut space = Space::new(alloc);
+    space.put(alloc, &before, changes)?;
+    let after = space.over(&before);
+    version.views.with_changes(alloc, &before, &after, changes)
+}
+
+/// Makes one change of a row of a lone table, which tells the row as it is, in a version that has views: in place, where nobody
+/// shares the rows that it falls among. What is kept for the views is made beside, and takes its place then. After `AllocError`
+/// the version is as it was.
+fn change_viewed(alloc: Global, version: &mut Version, change: &Change) -> Result<(), AllocError>
+    requires tells { Tell version.old (change.now ∷ []) }
+    requires well_formed { IsWellFormed version.old }
+    requires lone { IsTrue (is_lone version.old.schema change.now.name.table.0) }
+    requires few { AreFew version.old.rows }
+    ensures changed { OnOk result (version.new ≡ put version.old (change.now ∷ [])) }
+    ensures unchanged { OnErr result (version.new ≡ version.old) }
+{
+    let views = views_after(alloc, version, change)?;
+    version.owned.change(alloc, change)?;
+    version.views = views;
+    Ok(())
+}
+
+/// Makes one change of a row of a lone table, which tells the row as it is, in the version itself: in place, where nobody
+/// shares the rows that it falls among. After `AllocError` the version is as it was.
 pub fn publish_change(
     alloc: Global,
     version: &mut Version,
@@ -150,6 +189,8 @@ pub fn publish_change(
 {
     if version.schema().views.items().is_empty() {
         change_in_place(alloc, version, change)
+    } else if version.rows().are_few() {
+        change_viewed(alloc, version, change)
     } else {
         change_beside(alloc, version, slice::from_ref(change))
     }

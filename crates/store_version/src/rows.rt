@@ -12,6 +12,7 @@ ghost use Rattle.annot_schema.specs.Created.{IsAdmissible, IsSound};
 ghost use Rattle.ref_index.specs.Stands.{Stands};
 ghost use Rattle.ref_index.specs.Tells.{Tell};
 ghost use Rattle.store_version.specs.Added.{db_viewed, db_with};
+ghost use Rattle.store_version.specs.AreFew.{AreFew};
 
 use crate::after::{parts_after, parts_copied};
 use annot_schema::{Admitted, Catalog};
@@ -25,6 +26,9 @@ use std::mem::drop;
 use std::slice;
 use std::sync::Arc;
 use table_part::TablePart;
+
+/// So many rows of a table may be too many to count them with those of a transaction.
+const MANY_ROWS: u64 = 9_223_372_036_854_775_808;
 
 /// The rows of a store, which contracts see as the database: a catalog, for each table by its number its rows, and the index
 /// of who holds what in its UNIQUE and referring columns.
@@ -185,6 +189,18 @@ impl Rows {
         ensures { result.now ≡ self.now.schema }
     {
         self.catalog.schema()
+    }
+
+    /// Whether each table has so few rows that those of a transaction can be counted with them. Takes no memory.
+    pub(crate) fn are_few(&self) -> bool
+        ensures { IsTrue result → AreFew self.now.rows }
+    {
+        for part in self.parts.iter() {
+            if part.len() >= MANY_ROWS {
+                return false;
+            }
+        }
+        true
     }
 
     /// How many rows a table has. Takes no memory.
