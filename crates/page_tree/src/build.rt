@@ -3,6 +3,7 @@ ghost use Rattle.page_model.specs.ChangedPages.{AddsPages};
 ghost use Rattle.page_model.specs.Page.{joined};
 ghost use Rattle.page_tree.specs.Body.{pages_of};
 
+use crate::hints::Hints;
 use crate::node::{Body, INNER_NODES, Node, first_of, parted};
 use crate::page::Page;
 use own_base::MakeCopy;
@@ -24,9 +25,8 @@ pub(crate) fn leaf<T: MakeCopy + Drop>(
         items: items.len(),
         pages: 1,
         hint: hints.first().copied().unwrap_or(0),
-        node_hints: [u64::MAX; INNER_NODES],
-        item_hints: hints,
         body: Body::Leaf(items),
+        hints: Hints::of(hints.as_slice()),
     };
     Ok(Arc::new(alloc, node)?)
 }
@@ -46,13 +46,13 @@ fn counts<T>(nodes: &[Arc<Node<T>, Global>]) -> Result<(usize, usize), AllocErro
     Ok((items, pages))
 }
 
-/// The hints of the first items of some nodes, and the greatest number where there is no node. Takes no memory.
-fn hints_of<T>(nodes: &[Arc<Node<T>, Global>]) -> [u64; INNER_NODES] {
+/// The hints of the first items of some nodes, as far as there is room for them. Takes no memory.
+fn hints_of<T>(nodes: &[Arc<Node<T>, Global>]) -> Hints {
     let mut hints = [u64::MAX; INNER_NODES];
     for (hint, node) in hints.iter_mut().zip(nodes) {
         *hint = node.hint();
     }
-    hints
+    Hints::of(&hints)
 }
 
 /// A node above these, with their pages in their order.
@@ -64,15 +64,14 @@ pub(crate) fn inner<T: MakeCopy + Drop>(
     ensures { IfOk result (λ node. node.value.pages ≡ pages_of nodes.items) }
 {
     let (items, pages) = counts(nodes.as_slice())?;
-    let node_hints = hints_of(nodes.as_slice());
+    let hints = hints_of(nodes.as_slice());
     let node = Node {
         first: first_of(nodes.as_slice()).copy(alloc)?,
         items,
         pages,
-        hint: node_hints[0],
-        node_hints,
-        item_hints: Vec::new(alloc),
+        hint: hints.at(0),
         body: Body::Inner(nodes),
+        hints,
     };
     Ok(Arc::new(alloc, node)?)
 }

@@ -77,7 +77,7 @@ pub(crate) fn change_node<T: MakeCopy + Drop, By: KeyOf<T>, C: ChangeOf<T, By::K
 {
     match &node.body {
         Body::Leaf(page) => {
-            let hints = node.item_hints.as_slice();
+            let hints = node.hints.first(page.len());
             fill(alloc, by, page.as_slice(), hints, changes, made)
         }
         Body::Inner(nodes) => {

@@ -82,11 +82,11 @@ fn copied_node<T: MakeCopy + Drop, By: KeyOf<T>, C: ChangeOf<T, By::Key>>(
 {
     match &node.body {
         Body::Leaf(page) => {
-            let hints = node.item_hints.as_slice();
+            let hints = node.hints.first(page.len());
             copied_page(alloc, by, page.as_slice(), hints, change, way.ends)
         }
         Body::Inner(nodes) => {
-            let hints = node.node_hints.as_slice();
+            let hints = node.hints.first(nodes.len());
             copied_among(alloc, by, nodes.as_slice(), hints, change, way)
         }
     }

@@ -8,8 +8,7 @@ ghost use Rattle.page_tree.specs.IsCut.{IsCut};
 ghost use Rattle.page_tree.specs.NodeOf.{Begin};
 
 use crate::build::leaf;
-use crate::hints::{insert_node_hint, remove_hint, split_hints};
-use crate::in_place::insert_at;
+use crate::hints::Hints;
 use crate::key::{ChangeOf, KeyOf};
 use crate::merge::above_from;
 use crate::node::{Body, INNER_NODES, Node};
@@ -35,33 +34,32 @@ fn node_of_one<T: MakeCopy + Drop>(
 }
 
 /// Gives a node other items, the first of which is the one that it has, and their hints.
-fn refill<T: Drop>(node: &mut Node<T>, items: Vec<T>, hints: Vec<u64>)
+fn refill<T: Drop>(node: &mut Node<T>, items: Vec<T>, hints: Hints)
     requires { (first : T) → IsFirst first node.old.pages → IsFirst first (items.items ∷ []) }
     ensures { node.new.pages ≡ items.items ∷ [] }
 {
     node.items = items.len();
     node.pages = 1;
-    node.item_hints = hints;
+    node.hints = hints;
     node.body = Body::Leaf(items);
 }
 
-/// Cuts a page, beside which hints stand, and answers a node of the items from a place on, unless memory is refused.
+/// Cuts a page, and answers a node of the items from a place on, whose hints are told, unless memory is refused.
 fn cut_off<T: MakeCopy + Drop>(
     alloc: Global,
     page: &mut Vec<T>,
-    hints: &mut Vec<u64>,
     place: usize,
+    hints: Hints,
 ) -> Option<Arc<Node<T>, Global>>
     requires { place < length page.old.items }
     ensures page { IfSome result (λ _. page.new.items ≡ take place page.old.items) }
     ensures other { IfSome result (λ other. other.value.pages ≡ drop place page.old.items ∷ []) }
     ensures unchanged { IfNone result (page.new.items ≡ page.old.items) }
 {
-    let hint = hints.get(place).copied().unwrap_or(0);
-    let mut other = node_of_one(alloc, &page[place], hint)?;
+    let mut other = node_of_one(alloc, &page[place], hints.at(0))?;
     let node = Arc::get_mut(&mut other)?;
     let items = page.split_off(place).ok()?;
-    refill(node, items, split_hints(alloc, hints, place));
+    refill(node, items, hints);
     Some(other)
 }
 
@@ -70,7 +68,7 @@ fn cut_off<T: MakeCopy + Drop>(
 fn cut_at<T: MakeCopy + Drop>(
     alloc: Global,
     page: &mut Vec<T>,
-    hints: &mut Vec<u64>,
+    hints: &mut Hints,
     place: usize,
     item: T,
     hint: u64,
@@ -84,14 +82,13 @@ fn cut_at<T: MakeCopy + Drop>(
     let count = page.len();
     let middle = if place == count { count } else { count / 2 };
     page.reserve_exact(1).ok()?;
-    hints.reserve_exact(1).ok()?;
-    if !insert_at(page, hints, place, item, hint) {
-        return None;
-    }
-    let cut = cut_off(alloc, page, hints, middle);
+    page.insert(place, item).ok()?;
+    let (front, back) = hints.cut(place, hint, middle);
+    let cut = cut_off(alloc, page, middle, back);
     if cut.is_none() {
         drop(page.remove(place));
-        remove_hint(hints, place);
+    } else {
+        *hints = front;
     }
     cut
 }
@@ -103,7 +100,7 @@ fn cut_page<T: MakeCopy + Drop, By: KeyOf<T>, C: ChangeOf<T, By::Key>>(
     alloc: Global,
     by: By,
     page: &mut Vec<T>,
-    hints: &mut Vec<u64>,
+    hints: &mut Hints,
     change: &C,
     ends: bool,
 ) -> Option<Arc<Node<T>, Global>>
@@ -115,7 +112,7 @@ fn cut_page<T: MakeCopy + Drop, By: KeyOf<T>, C: ChangeOf<T, By::Key>>(
     if page.len() < PAGE_ITEMS {
         return None;
     }
-    let place = place_of(by, page.as_slice(), hints.as_slice(), change.key());
+    let place = place_of(by, page.as_slice(), hints.first(page.len()), change.key());
     if place == 0 {
         return None;
     }
@@ -153,7 +150,7 @@ fn cut_alone<T: MakeCopy + Drop, By: KeyOf<T>, C: ChangeOf<T, By::Key>>(
     match &mut node.body {
         Body::Inner(_) => None,
         Body::Leaf(page) => {
-            let other = cut_page(alloc, by, page, &mut node.item_hints, change, ends)?;
+            let other = cut_page(alloc, by, page, &mut node.hints, change, ends)?;
             node.items = page.len();
             Some(other)
         }
@@ -167,7 +164,7 @@ pub(crate) fn cut_among<T: MakeCopy + Drop, By: KeyOf<T>, C: ChangeOf<T, By::Key
     alloc: Global,
     by: By,
     nodes: &mut Vec<Arc<Node<T>, Global>>,
-    hints: &mut [u64; INNER_NODES],
+    hints: &mut Hints,
     number: usize,
     change: &C,
     below: bool,
@@ -188,7 +185,7 @@ pub(crate) fn cut_among<T: MakeCopy + Drop, By: KeyOf<T>, C: ChangeOf<T, By::Key
     let Some(other) = cut else {
         return false;
     };
-    insert_node_hint(hints, number + 1, other.hint());
+    hints.insert(number + 1, other.hint());
     drop(nodes.insert(number + 1, other));
     true
 }

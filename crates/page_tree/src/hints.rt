@@ -1,17 +1,71 @@
 //! Hints are numbers that stand beside items, or beside nodes for their first items, and tell where a key may be without
 //! a look at an item. They are advice: whatever they say, what a caller does with them has to be right.
 
-use crate::node::INNER_NODES;
-use std::alloc::Global;
+use page_model::PAGE_ITEMS;
 
-/// How many hints are below another. Takes no memory.
-pub(crate) fn count_below(hints: &[u64], hint: u64) -> usize {
-    hints.partition_point(|each| *each < hint)
+/// The hints of a page's items, or of the nodes right below a node, in their order. The greatest number stands where there
+/// is no item and no node. They lie in one piece with what they belong to, so that a look at one brings the others near.
+#[derive(Clone, Copy)]
+pub(crate) struct Hints {
+    all: [u64; PAGE_ITEMS],
 }
 
-/// How many hints aren't above another. Takes no memory.
+impl Hints {
+    /// Those of a list, as far as there is room for them. Takes no memory.
+    pub(crate) fn of(hints: &[u64]) -> Hints {
+        let mut all = [u64::MAX; PAGE_ITEMS];
+        for (there, hint) in all.iter_mut().zip(hints) {
+            *there = *hint;
+        }
+        Hints { all }
+    }
+
+    /// The hint at a place, 0 where there is room for none. Takes no memory.
+    pub(crate) fn at(&self, place: usize) -> u64 {
+        self.all.get(place).copied().unwrap_or(0)
+    }
+
+    /// The first ones, so many as there is room for at most. Takes no memory.
+    pub(crate) fn first(&self, count: usize) -> &[u64] {
+        first_hints(&self.all, count)
+    }
+
+    /// Puts one between them; where there is no room, the last one goes. Takes no memory.
+    pub(crate) fn insert(&mut self, place: usize, hint: u64) {
+        if place < PAGE_ITEMS {
+            self.all.copy_within(place..PAGE_ITEMS - 1, place + 1);
+            self.all[place] = hint;
+        }
+    }
+
+    /// Takes one away. Takes no memory.
+    pub(crate) fn remove(&mut self, place: usize) {
+        if place < PAGE_ITEMS {
+            self.all.copy_within(place + 1..PAGE_ITEMS, place);
+            self.all[PAGE_ITEMS - 1] = u64::MAX;
+        }
+    }
+
+    /// These with one more at a place, in two parts: so many, and those behind them. Takes no memory.
+    pub(crate) fn cut(&self, place: usize, hint: u64, count: usize) -> (Hints, Hints) {
+        let mut front = *self;
+        front.insert(place, hint);
+        let last = if place < PAGE_ITEMS { self.all[PAGE_ITEMS - 1] } else { hint };
+        let mut back = Hints::of(hints_behind(&front.all, count));
+        back.insert(PAGE_ITEMS.saturating_sub(count), last);
+        (Hints::of(front.first(count)), back)
+    }
+}
+
+/// How many hints are below another. Each is looked at, so that the processor fetches all of them at once and needn't guess
+/// which come next. Takes no memory.
+pub(crate) fn count_below(hints: &[u64], hint: u64) -> usize {
+    hints.iter().filter(|each| **each < hint).count()
+}
+
+/// How many hints aren't above another. Each is looked at. Takes no memory.
 pub(crate) fn count_upto(hints: &[u64], hint: u64) -> usize {
-    hints.partition_point(|each| *each <= hint)
+    hints.iter().filter(|each| **each <= hint).count()
 }
 
 /// The hints of so many items that stand first. Takes no memory.
@@ -22,26 +76,4 @@ pub(crate) fn first_hints(hints: &[u64], count: usize) -> &[u64] {
 /// The hints of the items behind so many. Takes no memory.
 pub(crate) fn hints_behind(hints: &[u64], count: usize) -> &[u64] {
     &hints[count.min(hints.len())..]
-}
-
-/// Takes away the hint at a place, where there is one.
-pub(crate) fn remove_hint(hints: &mut Vec<u64>, place: usize) {
-    if place < hints.len() {
-        drop(hints.remove(place));
-    }
-}
-
-/// Takes away the hints from a place on, and gives them back, or none where memory is refused.
-pub(crate) fn split_hints(alloc: Global, hints: &mut Vec<u64>, place: usize) -> Vec<u64> {
-    hints
-        .split_off(place.min(hints.len()))
-        .unwrap_or(Vec::new(alloc))
-}
-
-/// Puts a hint between those of nodes, where there is room for one more node.
-pub(crate) fn insert_node_hint(hints: &mut [u64; INNER_NODES], place: usize, hint: u64) {
-    if place < INNER_NODES {
-        hints[place..].rotate_right(1);
-        hints[place] = hint;
-    }
 }

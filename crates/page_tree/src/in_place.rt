@@ -9,10 +9,10 @@ ghost use Rattle.page_tree.specs.InPlace.{InPlace};
 ghost use Rattle.page_tree.specs.PutWithin.{PutWithin};
 
 use crate::cut::cut_among;
-use crate::hints::remove_hint;
+use crate::hints::Hints;
 use crate::key::{ChangeOf, KeyOf};
 use crate::merge::above_from;
-use crate::node::{Body, INNER_NODES, Node};
+use crate::node::{Body, Node};
 use crate::search::place_of;
 use crate::way::{Way, way_among};
 use own_base::MakeCopy;
@@ -23,7 +23,7 @@ use std::sync::Arc;
 /// Puts an item between those of a page, and its hint between theirs, unless memory is refused. Answers whether it did.
 pub(crate) fn insert_at<T: Drop>(
     page: &mut Vec<T>,
-    hints: &mut Vec<u64>,
+    hints: &mut Hints,
     place: usize,
     item: T,
     hint: u64,
@@ -31,14 +31,10 @@ pub(crate) fn insert_at<T: Drop>(
     requires { place ≤ length page.old.items }
     ensures { page.new.items ≡ (if result then insert page.old.items place item else page.old.items) }
 {
-    let beside = place.min(hints.len());
-    if hints.insert(beside, hint).is_err() {
-        return false;
-    }
     if page.insert(place, item).is_err() {
-        remove_hint(hints, beside);
         return false;
     }
+    hints.insert(place, hint);
     true
 }
 
@@ -48,7 +44,7 @@ fn put_at<T: MakeCopy + Drop, By: KeyOf<T>, C: ChangeOf<T, By::Key>>(
     alloc: Global,
     by: By,
     page: &mut Vec<T>,
-    hints: &mut Vec<u64>,
+    hints: &mut Hints,
     change: &C,
     place: usize,
 ) -> bool
@@ -62,7 +58,7 @@ fn put_at<T: MakeCopy + Drop, By: KeyOf<T>, C: ChangeOf<T, By::Key>>(
     let Some(item) = change.item() else {
         if place < behind {
             drop(page.remove(place));
-            remove_hint(hints, place);
+            hints.remove(place);
         }
         return true;
     };
@@ -83,7 +79,7 @@ fn change_page<T: MakeCopy + Drop, By: KeyOf<T>, C: ChangeOf<T, By::Key>>(
     alloc: Global,
     by: By,
     page: &mut Vec<T>,
-    hints: &mut Vec<u64>,
+    hints: &mut Hints,
     change: &C,
     ends: bool,
 ) -> bool
@@ -91,7 +87,7 @@ fn change_page<T: MakeCopy + Drop, By: KeyOf<T>, C: ChangeOf<T, By::Key>>(
     requires rising { IsRising (By.key_of by) By.key_cmp page.old.items }
     ensures { MatchBool result (PutWithin (By.key_of by) By.key_cmp C.changed C.put (page.old.items ∷ []) change.now (page.new.items ∷ []) ends) (page.new.items ≡ page.old.items) }
 {
-    let place = place_of(by, page.as_slice(), hints.as_slice(), change.key());
+    let place = place_of(by, page.as_slice(), hints.first(page.len()), change.key());
     if place == 0 {
         return false;
     }
@@ -139,14 +135,14 @@ fn change_within<T: MakeCopy + Drop, By: KeyOf<T>, C: ChangeOf<T, By::Key>>(
     let counts = (node.items, node.pages);
     match &mut node.body {
         Body::Leaf(page) => {
-            if !change_page(alloc, by, page, &mut node.item_hints, change, way.ends) {
+            if !change_page(alloc, by, page, &mut node.hints, change, way.ends) {
                 return false;
             }
             node.items = page.len();
             true
         }
         Body::Inner(nodes) => {
-            let hints = &mut node.node_hints;
+            let hints = &mut node.hints;
             let Some((items, pages)) = change_among(alloc, by, nodes, hints, counts, change, way)
             else {
                 return false;
@@ -165,7 +161,7 @@ fn change_among<T: MakeCopy + Drop, By: KeyOf<T>, C: ChangeOf<T, By::Key>>(
     alloc: Global,
     by: By,
     nodes: &mut Vec<Arc<Node<T>, Global>>,
-    hints: &mut [u64; INNER_NODES],
+    hints: &mut Hints,
     counts: (usize, usize),
     change: &C,
     way: Way,
@@ -185,7 +181,7 @@ fn change_among<T: MakeCopy + Drop, By: KeyOf<T>, C: ChangeOf<T, By::Key>>(
     if items == usize::MAX || pages == usize::MAX {
         return None;
     }
-    let (number, below) = way_among(by, nodes.as_slice(), hints.as_slice(), change.key(), way);
+    let (number, below) = way_among(by, nodes.as_slice(), hints.first(nodes.len()), change.key(), way);
     let (items_there, pages_there) = (nodes[number].items(), nodes[number].pages());
     if change_alone(alloc, by, &mut nodes[number], change, below) {
         let node = &nodes[number];

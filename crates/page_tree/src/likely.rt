@@ -4,7 +4,8 @@ ghost use Rattle.page_tree.specs.Body.{pages_of};
 ghost use Rattle.page_tree.specs.Held.{HoldsRun};
 
 use crate::hints::{count_below, count_upto};
-use crate::node::{Body, Node};
+use crate::node::{Body, INNER_NODES, Node};
+use page_model::PAGE_ITEMS;
 use std::alloc::Global;
 use std::sync::Arc;
 
@@ -27,10 +28,10 @@ pub(crate) fn likely_in<T>(node: &Node<T>, hint: u64) -> Option<Likely<'_, T>>
     match &node.body {
         Body::Leaf(page) => Some(Likely {
             run: page.as_slice(),
-            place: count_below(node.item_hints.as_slice(), hint),
+            place: count_below(node.hints.first(PAGE_ITEMS), hint),
             last: true,
         }),
-        Body::Inner(nodes) => likely_among(nodes.as_slice(), node.node_hints.as_slice(), hint),
+        Body::Inner(nodes) => likely_among(nodes.as_slice(), node.hints.first(INNER_NODES), hint),
     }
 }
 

@@ -4,6 +4,7 @@ ghost use Rattle.page_model.specs.Page.{IsFirst, joined};
 ghost use Rattle.page_model.specs.Run.{IsRunFrom};
 ghost use Rattle.page_tree.specs.Body.{nodes_of, pages_of};
 
+use crate::hints::Hints;
 use std::alloc::Global;
 use std::marker::Model;
 use std::sync::Arc;
@@ -12,8 +13,8 @@ use std::sync::Arc;
 pub(crate) const INNER_NODES: usize = 16;
 
 /// A node of the tree: a page, or some nodes and their pages in their order. The counts and the first item stand beside
-/// them, so that nothing below has to be looked at for those, and so do hints: for the first item, for the first items of
-/// the nodes, with the greatest number where there is no node, and for the items of a page.
+/// them, so that nothing below has to be looked at for those, and so do hints: for the first item, and for the items of the
+/// page, or the first items of the nodes.
 #[cycle(node)]
 #[derive(Drop)]
 pub(crate) struct Node<T> {
@@ -22,8 +23,7 @@ pub(crate) struct Node<T> {
     pub(crate) hint: u64,
     pub(crate) first: T,
     pub(crate) body: Body<T>,
-    pub(crate) item_hints: Vec<u64>,
-    pub(crate) node_hints: [u64; INNER_NODES],
+    pub(crate) hints: Hints,
 }
 
 /// What a node holds.

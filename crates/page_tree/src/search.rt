@@ -166,8 +166,8 @@ fn item_in<'a, T, By: KeyOf<T>>(by: By, node: &'a Node<T>, key: &By::Key) -> Opt
     ensures { option_copied result ≡ found (By.key_of by) By.key_cmp key.now (joined node.now.pages) }
 {
     match &node.body {
-        Body::Leaf(page) => item_of(by, page.as_slice(), node.item_hints.as_slice(), key),
-        Body::Inner(nodes) => item_among(by, nodes.as_slice(), node.node_hints.as_slice(), key),
+        Body::Leaf(page) => item_of(by, page.as_slice(), node.hints.first(page.len()), key),
+        Body::Inner(nodes) => item_among(by, nodes.as_slice(), node.hints.first(nodes.len()), key),
     }
 }
 

@@ -54,9 +54,9 @@ returns g c =
     let took = c.insert.ensures.succeeds (omega (arith, room, c.remove-node.ensures.len, c.remove-node.ensures.capacity)) in
     let back : c.insert.new.self.items ≡ insert (remove nodes number) number new =
     lemmas.done c.insert.result _ _ _ c.insert.ensures.items took ∙ ap (λ (all : List (Arc (Branch g.row.T.Denot) Global)). insert all number new) was in
-    let both : c.insert-2.new.self.items ≡ insert (insert (remove nodes number) number new) (number + 1) other =
-    lemmas.done c.insert-2.result _ _ _ c.insert-2.ensures.items
-    (c.insert-2.ensures.succeeds (omega (arith, room, c.remove-node.ensures.len, c.remove-node.ensures.capacity, lemmas.done c.insert.result _ _ _ c.insert.ensures.len took, c.insert.ensures.capacity)))
+    let both : c.insert-3.new.self.items ≡ insert (insert (remove nodes number) number new) (number + 1) other =
+    lemmas.done c.insert-3.result _ _ _ c.insert-3.ensures.items
+    (c.insert-3.ensures.succeeds (omega (arith, room, c.remove-node.ensures.len, c.remove-node.ensures.capacity, lemmas.done c.insert.result _ _ _ c.insert.ensures.len took, c.insert.ensures.capacity)))
     ∙ ap (λ (all : List (Arc (Branch g.row.T.Denot) Global)). insert all (number + 1) other) back in
-    lemmas.cut_among (g.By.KeyOf.key_of c.args.by) g.C.ChangeOf.changed g.C.ChangeOf.put nodes number node.value.pages (new.value.pages ++ other.value.pages) (pages_of c.insert-2.new.self.items) c.args.change.now c.args.below c.args.ends
+    lemmas.cut_among (g.By.KeyOf.key_of c.args.by) g.C.ChangeOf.changed g.C.ChangeOf.put nodes number node.value.pages (new.value.pages ++ other.value.pages) (pages_of c.insert-3.new.self.items) c.args.change.now c.args.below c.args.ends
     (pages_around nodes number node c.requires.number found) (ap pages_of both ∙ lemmas.pages_two nodes number new other c.requires.number) c.requires.way c.in-Some.ensures.cut

@@ -17,7 +17,7 @@ returns-clause-cut g c =
     let key = g.C.ChangeOf.changed c.args.change.now in
     let is : IsPlaceOf key_of cmp key page place = subst (λ k. IsPlaceOf key_of cmp k page place) c.key.ensures (subst (λ xs. IsPlaceOf key_of cmp c.key.result.now xs place) c.as_slice.ensures.value c.place_of-place.ensures) in
     let above : above_key key_of cmp key page ≡ drop behind page =
-    subst (λ k. above_key key_of cmp k page ≡ drop behind page) c.key-2.ensures (subst (λ xs. above_key key_of cmp c.key-2.result.now xs ≡ drop behind xs) c.as_slice-3.ensures.value c.above_from-behind.ensures.above) in
+    subst (λ k. above_key key_of cmp k page ≡ drop behind page) c.key-2.ensures (subst (λ xs. above_key key_of cmp c.key-2.result.now xs ≡ drop behind xs) c.as_slice-2.ensures.value c.above_from-behind.ensures.above) in
     let same : behind ≡ place = omega (arith, c.above_from-behind.ensures.behind, c.if-place-behind.false) in
     let item = c.in-Ok.item in
     let put : g.C.ChangeOf.put c.args.change.now ≡ Some item = sym c.item.ensures ∙ (ap option_copied c.in-Some.is ∙ ap Some (sym c.in-Ok.ensures)) in

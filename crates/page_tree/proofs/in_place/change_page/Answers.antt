@@ -16,7 +16,7 @@ returns g c =
     within_made key_of g.C.ChangeOf.changed g.C.ChangeOf.put c.put_at.result page c.put_at.new.page.items c.args.change.now place c.args.ends
     (omega (arith, c.if-place-eq0.false)) c.requires.page.some is
     (λ end. elim c.else-not-ends.branch [
-      | else-not-ends-via-then-not-ends+else-place-len w ↦ absurd (omega (arith, end, w.len.ensures, w.if-place-len.false))
+      | else-not-ends-via-then-not-ends+else-place-len w ↦ absurd (omega (arith, end, w.len-then-not-ends.ensures, w.if-place-len.false))
       | else-not-ends-via-else-not-ends w ↦ w.if-not-ends.false
     ])
     c.put_at.ensures
