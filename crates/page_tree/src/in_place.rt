@@ -181,7 +181,13 @@ fn change_among<T: MakeCopy + Drop, By: KeyOf<T>, C: ChangeOf<T, By::Key>>(
     if items == usize::MAX || pages == usize::MAX {
         return None;
     }
-    let (number, below) = way_among(by, nodes.as_slice(), hints.first(nodes.len()), change.key(), way);
+    let (number, below) = way_among(
+        by,
+        nodes.as_slice(),
+        hints.first(nodes.len()),
+        change.key(),
+        way,
+    );
     let (items_there, pages_there) = (nodes[number].items(), nodes[number].pages());
     if change_alone(alloc, by, &mut nodes[number], change, below) {
         let node = &nodes[number];

@@ -3,9 +3,8 @@ ghost use Rattle.page_model.specs.Page.{joined};
 ghost use Rattle.page_tree.specs.Body.{pages_of};
 ghost use Rattle.page_tree.specs.Held.{HoldsRun};
 
-use crate::hints::{count_below, count_upto};
-use crate::node::{Body, INNER_NODES, Node};
-use page_model::PAGE_ITEMS;
+use crate::hints::Hints;
+use crate::node::{Body, Node};
 use std::alloc::Global;
 use std::sync::Arc;
 
@@ -28,10 +27,10 @@ pub(crate) fn likely_in<T>(node: &Node<T>, hint: u64) -> Option<Likely<'_, T>>
     match &node.body {
         Body::Leaf(page) => Some(Likely {
             run: page.as_slice(),
-            place: count_below(node.hints.first(PAGE_ITEMS), hint),
+            place: node.hints.below(hint),
             last: true,
         }),
-        Body::Inner(nodes) => likely_among(nodes.as_slice(), node.hints.first(INNER_NODES), hint),
+        Body::Inner(nodes) => likely_among(nodes.as_slice(), &node.hints, hint),
     }
 }
 
@@ -39,12 +38,12 @@ pub(crate) fn likely_in<T>(node: &Node<T>, hint: u64) -> Option<Likely<'_, T>>
 #[cycle(likely)]
 fn likely_among<'a, T>(
     nodes: &'a [Arc<Node<T>, Global>],
-    hints: &[u64],
+    hints: &Hints,
     hint: u64,
 ) -> Option<Likely<'a, T>>
     ensures { IfSome result (λ page. HoldsRun (joined (pages_of nodes.now)) page.run.now page.last) }
 {
-    let number = count_upto(hints, hint).saturating_sub(1);
+    let number = hints.upto(hint).saturating_sub(1);
     if number >= nodes.len() {
         return None;
     }
