@@ -4,6 +4,7 @@ use denote.Param.Send.{IsSend, IsSync, recorded_send, recorded_sync, sendable, s
 use denote.Struct.Declared.{shape}
 use Rattle.std.proofs.Crossing.{crosses, Arc-send, Arc-sync, Vec-send, Vec-sync}
 use Rattle.std.proofs.option.Option.TheSendSync as option
+use Rattle.page_tree.proofs.hints.Hints.TheSendSync as hints
 use Rattle.page_tree.specs.declared.key.KeyOf.{Ghosts}
 use Rattle.page_tree.specs.contracts.node.Node as Node
 use Rattle.page_tree.specs.contracts.pages.Pages as Pages
@@ -15,14 +16,14 @@ module _ (T : RattleType) (sent : IsSend T) (lent : IsSync T) where
   node_send : IsSend (Node.the_row T)
   node_send =
       both_send-Node T
-      (search sendable) (search sendable) (search (sendable, sent)) (search (sendable, crosses)) (search sendable) (search (sendable, crosses, sent)) (λ h hs hy. Vec-send _ (Arc-send h hs hy))
-      (search sendable) (search sendable) (search (sendable, lent)) (search (sendable, crosses)) (search sendable) (search (sendable, crosses, lent)) (λ h hs hy. Vec-sync _ (Arc-sync h hs hy))
+      (search sendable) (search sendable) (search (sendable, sent)) (search (sendable, hints.the_send)) (search (sendable, crosses, sent)) (λ h hs hy. Vec-send _ (Arc-send h hs hy))
+      (search sendable) (search sendable) (search (sendable, lent)) (search (sendable, hints.the_sync)) (search (sendable, crosses, lent)) (λ h hs hy. Vec-sync _ (Arc-sync h hs hy))
 
   node_sync : IsSync (Node.the_row T)
   node_sync =
       both_sync-Node T
-      (search sendable) (search sendable) (search (sendable, sent)) (search (sendable, crosses)) (search sendable) (search (sendable, crosses, sent)) (λ h hs hy. Vec-send _ (Arc-send h hs hy))
-      (search sendable) (search sendable) (search (sendable, lent)) (search (sendable, crosses)) (search sendable) (search (sendable, crosses, lent)) (λ h hs hy. Vec-sync _ (Arc-sync h hs hy))
+      (search sendable) (search sendable) (search (sendable, sent)) (search (sendable, hints.the_send)) (search (sendable, crosses, sent)) (λ h hs hy. Vec-send _ (Arc-send h hs hy))
+      (search sendable) (search sendable) (search (sendable, lent)) (search (sendable, hints.the_sync)) (search (sendable, crosses, lent)) (λ h hs hy. Vec-sync _ (Arc-sync h hs hy))
 
   module _ (By Key : RattleType) (g : Ghosts By.Denot T.Denot Key.Denot) where
     inside_send : IsSend By → IsSend (Inside.the_field T By Key g).row
