@@ -11,7 +11,7 @@ use Rattle.query_eval.specs.Meetings.{meeting}
 use Rattle.query_model.specs.Stored.{AreStored, IsStoredRow}
 
 -- the pairs with one row more of the left table
-joined-more : (left_column right_column : ℕ) (lefts rights : List Row) (left : Row)
+pub joined-more : (left_column right_column : ℕ) (lefts rights : List Row) (left : Row)
     → joined left_column right_column (lefts ++ left ∷ []) rights ≡ joined left_column right_column lefts rights ++ pairs_of left_column right_column rights left
 joined-more left_column right_column lefts rights left =
     flat_map-append (pairs_of left_column right_column rights) lefts (left ∷ [])

@@ -21,7 +21,7 @@ use Rattle.own_model.specs.Db.{Row, as_key, key_of}
 use Rattle.query_model.specs.Stored.{AreStored, IsStored, IsStoredRow}
 use Rattle.query_model.specs.Truth.{cell, compared, comparison, is_true, least, lesser, takes, truth, truth_of}
 use Rattle.query_eval.specs.declared.key_range.Span.{Span}
-use Rattle.query_eval.specs.KeyRange.{IsPlaceOf, IsSpanOf, Narrows, is_before, is_before_bound, is_compared, is_taken, row_in}
+use Rattle.query_eval.specs.KeyRange.{IsPlaceOf, IsSeen, IsSpanOf, Narrows, NarrowsBy, is_before, is_before_bound, is_compared, is_taken, row_in}
 use Rattle.query_model.proofs.TruthByVariant.{truth-Compare, truth-Every}
 use Rattle.query_eval.proofs.TableRows.{stored_cell}
 
@@ -126,6 +126,13 @@ module _ (table : TableDef) (value : Value) (rows : List Row) (stored : AreStore
       second passes (λ k within passed. upto_le _ (upto_eq _ (taken_row Eq k within (implies k within passed))))
       (first passes (λ k within passed. from_ge _ (from_eq _ (taken_row Eq k within (implies k within passed)))) is)
 
+-- a comparison of a column with a value holds of what is seen where it holds of the row
+pub narrows_seen : (column : ℕ) (sign : Cmp) (value : Value) (rows : List Row) (span left : Span) → Narrows (is_taken column sign value) rows span left → NarrowsBy column (is_taken column sign value) rows span left
+narrows_seen column sign value rows span left narrows passes seen is =
+    narrows passes (λ k within passed.
+    let one = seen k within passed in
+    subst (λ (own : Value). is_true (comparison sign (compared own value)) ≡ true) one.1 one.2) is
+
 -- an AND that began Unknown isn't True
 not_true : (parts : List Answer) → is_true (fold lesser Unknown parts) ≡ true → ⊥
 not_true [] holds = cc
@@ -146,23 +153,33 @@ part_true row (first ∷ rest) zero part within holds = (all_true (truth row fir
 part_true row (first ∷ rest) (suc i) part within holds = part_true row rest i part (omega arith) (all_true (truth row first) (map (truth row) rest) holds).1
 
 -- one part more
-pub narrows_part : (parts : List BoundCond) (rows : List Row) (span so_far left : Span) (i : ℕ) (part : BoundCond) → i < length parts → part ≡ get_or parts i part
-    → Narrows (λ row. is_true (least (map (truth row) parts))) rows span so_far → Narrows (λ row. is_true (truth row part)) rows so_far left
-    → Narrows (λ row. is_true (least (map (truth row) parts))) rows span left
-narrows_part parts rows span so_far left i part within at before narrows passes implies is =
-    narrows passes (λ k inside passed. subst (λ p. is_true (truth (row_in rows k) p) ≡ true) (sym at) (part_true (row_in rows k) parts i part within (implies k inside passed))) (before passes implies is)
+pub narrows_part : (column : ℕ) (parts : List BoundCond) (rows : List Row) (span so_far left : Span) (i : ℕ) (part : BoundCond) → i < length parts → part ≡ get_or parts i part
+    → NarrowsBy column (λ row. is_true (least (map (truth row) parts))) rows span so_far → NarrowsBy column (λ row. is_true (truth row part)) rows so_far left
+    → NarrowsBy column (λ row. is_true (least (map (truth row) parts))) rows span left
+narrows_part column parts rows span so_far left i part within at before narrows passes seen is =
+    narrows passes
+    (λ k inside passed.
+    let one = seen k inside passed in
+    (one.0, one.1, subst (λ p. is_true (truth one.0 p) ≡ true) (sym at) (part_true one.0 parts i part within one.2)))
+    (before passes seen is)
 
 -- what a comparison leaves
-pub narrows_compare : (rows : List Row) (span left : Span) (part : BoundCond) (column : ColNo) (sign : Cmp) (right : BoundOperand) → part ≡ Compare column sign right
-    → Narrows (is_compared column.0 sign right) rows span left → Narrows (λ row. is_true (truth row part)) rows span left
-narrows_compare rows span left part column sign right at narrows passes implies is =
-    narrows passes (λ k within passed. sym (ap is_true (ap (truth (row_in rows k)) at ∙ truth-Compare (row_in rows k) column sign right)) ∙ implies k within passed) is
+pub narrows_compare : (key : ℕ) (rows : List Row) (span left : Span) (part : BoundCond) (column : ColNo) (sign : Cmp) (right : BoundOperand) → part ≡ Compare column sign right
+    → NarrowsBy key (is_compared column.0 sign right) rows span left → NarrowsBy key (λ row. is_true (truth row part)) rows span left
+narrows_compare key rows span left part column sign right at narrows passes seen is =
+    narrows passes
+    (λ k within passed.
+    let one = seen k within passed in
+    (one.0, one.1, sym (ap is_true (ap (truth one.0) at ∙ truth-Compare one.0 column sign right)) ∙ one.2)) is
 
 -- what an AND leaves
-pub narrows_every : (rows : List Row) (span left : Span) (condition : BoundCond) (parts items : List BoundCond) → condition ≡ Every parts → items ≡ parts
-    → Narrows (λ row. is_true (least (map (truth row) items))) rows span left → Narrows (λ row. is_true (truth row condition)) rows span left
-narrows_every rows span left condition parts items at same narrows passes implies is =
-    narrows passes (λ k within passed. rw same (sym (ap is_true (ap (truth (row_in rows k)) at ∙ truth-Every (row_in rows k) parts)) ∙ implies k within passed)) is
+pub narrows_every : (key : ℕ) (rows : List Row) (span left : Span) (condition : BoundCond) (parts items : List BoundCond) → condition ≡ Every parts → items ≡ parts
+    → NarrowsBy key (λ row. is_true (least (map (truth row) items))) rows span left → NarrowsBy key (λ row. is_true (truth row condition)) rows span left
+narrows_every key rows span left condition parts items at same narrows passes seen is =
+    narrows passes
+    (λ k within passed.
+    let one = seen k within passed in
+    (one.0, one.1, rw same (sym (ap is_true (ap (truth one.0) at ∙ truth-Every one.0 parts)) ∙ one.2))) is
 
 -- all rows
 pub whole_span : (passes : Row → Bool) (rows : List Row) (span : Span) → span.from ≡ 0 → span.upto ≡ length rows → IsSpanOf passes rows span

@@ -1,12 +1,16 @@
 pub mod BaseRows
 mod BoundSelects
 pub mod EnoughLemmas
+pub mod HeldRows
 pub mod JoinedRows
+pub mod JoinSpans
 pub mod KeptByValue
 pub mod KeyPlaces
 pub mod KeySpans
 pub mod MeetingByKey
+pub mod MeetingHolders
 pub mod MeetingRows
+pub mod NamedRows
 pub mod OrderedEntries
 pub mod Replies
 pub mod RowGroups

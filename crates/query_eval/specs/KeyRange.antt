@@ -49,3 +49,12 @@ pub record IsSpanOf (passes : Row → Bool) (rows : List Row) (span : Span) : Ty
 abbrev pub Narrows : (Row → Bool) → List Row → Span → Span → Type 0
 Narrows holds rows span left =
     (passes : Row → Bool) → ((k : ℕ) → k < length rows → passes (row_in rows k) ≡ true → holds (row_in rows k) ≡ true) → IsSpanOf passes rows span → IsSpanOf passes rows left
+
+-- where a row passes, a test holds of some row that has the same in a column
+abbrev pub IsSeen : ℕ → (Row → Bool) → List Row → (Row → Bool) → Type 0
+IsSeen column holds rows passes =
+    (k : ℕ) → k < length rows → passes (row_in rows k) ≡ true → (seen : Row) × (cell seen column ≡ cell (row_in rows k) column) × (holds seen ≡ true)
+
+-- what is left of a span has each row that passed, where each that passes is seen so
+abbrev pub NarrowsBy : ℕ → (Row → Bool) → List Row → Span → Span → Type 0
+NarrowsBy column holds rows span left = (passes : Row → Bool) → IsSeen column holds rows passes → IsSpanOf passes rows span → IsSpanOf passes rows left

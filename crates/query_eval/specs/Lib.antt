@@ -2,9 +2,12 @@ pub mod ByValue
 pub mod Compared
 pub mod Enough
 pub mod Groups
+pub mod Keyed
 pub mod KeyRange
+pub mod LookedUp
 pub mod Meetings
 pub mod Met
+pub mod NamedRows
 pub mod Numbers
 pub mod ShownEntry
 pub mod ShowColumns

@@ -27,7 +27,7 @@ pub(crate) fn grouped_rows(
 
 /// The reply to a grouped select, from the rows that WHERE keeps. The groups are counted before values are copied.
 #[tactic(auto, using(crate::proofs::Replies::too_many_ordered, crate::proofs::Replies::few_ordered))]
-fn grouped_reply(
+pub(crate) fn grouped_reply(
     alloc: Global,
     kept: &LentRows<'_>,
     query: &BoundSelect,

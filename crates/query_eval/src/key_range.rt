@@ -1,10 +1,11 @@
-ghost use Rattle.std.specs.Prelude.{◌≡◌, ◌<◌, length, map, not};
+ghost use Rattle.std.specs.Prelude.{◌≡◌, ◌<◌, Bool, length, map, not};
 ghost use Rattle.std.specs.Option.{option_copied};
-ghost use Rattle.own_model.specs.Db.{IsRising};
+ghost use Rattle.own_model.specs.Db.{IsRising, Row as Values};
 ghost use Rattle.own_model.specs.Stored.{rows_at};
+ghost use Rattle.query_model.specs.Footprints.{key_column};
 ghost use Rattle.query_model.specs.Stored.{AreStored, IsStored};
 ghost use Rattle.query_model.specs.Truth.{is_true, keeps, least, truth};
-ghost use Rattle.query_eval.specs.KeyRange.{IsPlaceOf, IsSpanOf, Narrows, is_before, is_compared, is_taken, row_in};
+ghost use Rattle.query_eval.specs.KeyRange.{IsPlaceOf, IsSeen, IsSpanOf, Narrows, NarrowsBy, is_before, is_compared, is_taken, row_in};
 ghost use Rattle.query_eval.specs.Tables.{AreTables};
 
 use own_base::{ColNo, Row, TableNo, Value};
@@ -17,6 +18,13 @@ use std::cmp::Ordering;
 pub(crate) struct Span {
     pub from: u64,
     pub upto: u64,
+}
+
+impl Span {
+    /// How many places there are. Takes no memory.
+    pub(crate) fn count(self) -> u64 {
+        self.upto.saturating_sub(self.from)
+    }
 }
 
 /// Whether a row is before a value as a key, or with true of that key or before it. Takes no memory.
@@ -135,7 +143,7 @@ fn narrow_to<V: StoreView>(
     requires rising { IsRising definition.now (rows_at (V.db view.now).rows table.0) }
     requires stored { AreStored (rows_at (V.db view.now).rows table.0) }
     requires key { IsStored value.now }
-    ensures { Narrows (is_taken definition.now.key.0 sign value.now) (rows_at (V.db view.now).rows table.0) span result }
+    ensures { NarrowsBy definition.now.key.0 (is_taken definition.now.key.0 sign value.now) (rows_at (V.db view.now).rows table.0) span result }
 {
     match sign {
         Cmp::Eq => {
@@ -164,7 +172,7 @@ fn narrow<V: StoreView>(
     requires there { table.0 < length (V.db view.now).schema.tables }
     requires rising { IsRising definition.now (rows_at (V.db view.now).rows table.0) }
     requires stored { AreStored (rows_at (V.db view.now).rows table.0) }
-    ensures { Narrows (is_taken column.0 sign value.now) (rows_at (V.db view.now).rows table.0) span result }
+    ensures { NarrowsBy definition.now.key.0 (is_taken column.0 sign value.now) (rows_at (V.db view.now).rows table.0) span result }
 {
     if column != definition.key {
         return span;
@@ -188,7 +196,7 @@ fn narrow_by_operand<V: StoreView>(
     requires there { table.0 < length (V.db view.now).schema.tables }
     requires rising { IsRising definition.now (rows_at (V.db view.now).rows table.0) }
     requires stored { AreStored (rows_at (V.db view.now).rows table.0) }
-    ensures { Narrows (is_compared column.0 sign right.now) (rows_at (V.db view.now).rows table.0) span result }
+    ensures { NarrowsBy definition.now.key.0 (is_compared column.0 sign right.now) (rows_at (V.db view.now).rows table.0) span result }
 {
     match right {
         BoundOperand::Literal(value) => narrow(view, table, definition, column, sign, value, span),
@@ -207,7 +215,7 @@ fn narrow_by<V: StoreView>(
     requires there { table.0 < length (V.db view.now).schema.tables }
     requires rising { IsRising definition.now (rows_at (V.db view.now).rows table.0) }
     requires stored { AreStored (rows_at (V.db view.now).rows table.0) }
-    ensures { Narrows (λ row. is_true (truth row part.now)) (rows_at (V.db view.now).rows table.0) span result }
+    ensures { NarrowsBy definition.now.key.0 (λ row. is_true (truth row part.now)) (rows_at (V.db view.now).rows table.0) span result }
 {
     match part {
         BoundCond::Compare(column, sign, right) => {
@@ -229,7 +237,7 @@ fn narrow_by_each<V: StoreView>(
     requires there { table.0 < length (V.db view.now).schema.tables }
     requires rising { IsRising definition.now (rows_at (V.db view.now).rows table.0) }
     requires stored { AreStored (rows_at (V.db view.now).rows table.0) }
-    ensures { Narrows (λ row. is_true (least (map (truth row) parts.now))) (rows_at (V.db view.now).rows table.0) span result }
+    ensures { NarrowsBy definition.now.key.0 (λ row. is_true (least (map (truth row) parts.now))) (rows_at (V.db view.now).rows table.0) span result }
 {
     let mut left = span;
     for part in parts {
@@ -249,7 +257,7 @@ fn narrow_by_all<V: StoreView>(
     requires there { table.0 < length (V.db view.now).schema.tables }
     requires rising { IsRising definition.now (rows_at (V.db view.now).rows table.0) }
     requires stored { AreStored (rows_at (V.db view.now).rows table.0) }
-    ensures { Narrows (λ row. is_true (truth row cond.now)) (rows_at (V.db view.now).rows table.0) span result }
+    ensures { NarrowsBy definition.now.key.0 (λ row. is_true (truth row cond.now)) (rows_at (V.db view.now).rows table.0) span result }
 {
     match cond {
         BoundCond::Every(parts) => narrow_by_each(view, table, definition, parts.items(), span),
@@ -257,11 +265,13 @@ fn narrow_by_all<V: StoreView>(
     }
 }
 
-/// The places of a table's rows that WHERE leaves by its bounds on the primary key. Takes no memory.
+/// The places of a table's rows that WHERE leaves by its bounds on the primary key: of the rows that it keeps, and of those
+/// that stand in a pair which it keeps. Takes no memory.
 pub(crate) fn span_of<V: StoreView>(view: &V, table: TableNo, cond: Option<&BoundCond>) -> Span
     requires there { table.0 < length (V.db view.now).schema.tables }
     requires tables { AreTables (V.db view.now).schema (V.db view.now).rows }
-    ensures { IsSpanOf (keeps (option_copied cond.entry)) (rows_at (V.db view.now).rows table.0) result }
+    ensures { (passes : Values → Bool) → IsSeen (key_column (V.db view.now).schema table) (keeps (option_copied cond.entry)) (rows_at (V.db view.now).rows table.0) passes
+        → IsSpanOf passes (rows_at (V.db view.now).rows table.0) result }
 {
     let whole = Span {
         from: 0,

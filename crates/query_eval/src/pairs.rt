@@ -60,7 +60,7 @@ fn keep_pair<'a>(
 
 /// The pairs of a row of the left table with rows of the right table, where WHERE keeps them, behind the pairs so far. No
 /// more follow once there are more than are asked for.
-fn keep_pairs<'a>(
+pub(crate) fn keep_pairs<'a>(
     kept: &mut LentRows<'a>,
     left: &'a Row,
     rights: &RowList<'a>,
