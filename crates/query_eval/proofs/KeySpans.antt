@@ -147,7 +147,7 @@ all_true False rest holds = let never : false ≡ true = sym (ap is_true (fold_s
 all_true Unknown rest holds = absurd (not_true rest holds)
 
 -- where an AND is True, so is each part
-part_true : (row : Row) (parts : List BoundCond) (i : ℕ) (part : BoundCond) → i < length parts → is_true (least (map (truth row) parts)) ≡ true → is_true (truth row (get_or parts i part)) ≡ true
+pub part_true : (row : Row) (parts : List BoundCond) (i : ℕ) (part : BoundCond) → i < length parts → is_true (least (map (truth row) parts)) ≡ true → is_true (truth row (get_or parts i part)) ≡ true
 part_true row [] i part within holds = absurd (omega arith)
 part_true row (first ∷ rest) zero part within holds = (all_true (truth row first) (map (truth row) rest) holds).0
 part_true row (first ∷ rest) (suc i) part within holds = part_true row rest i part (omega arith) (all_true (truth row first) (map (truth row) rest) holds).1

@@ -1,12 +1,15 @@
 pub mod BaseRows
 mod BoundSelects
+mod CandidateLemmas
 pub mod EnoughLemmas
+mod FoundWeaker
 pub mod HeldRows
+mod JoinCandidates
 pub mod JoinedRows
-pub mod JoinSpans
 pub mod KeptByValue
 pub mod KeyPlaces
 pub mod KeySpans
+mod LinkedSelects
 pub mod MeetingByKey
 pub mod MeetingHolders
 pub mod MeetingRows
@@ -23,3 +26,4 @@ pub mod SpanRows
 pub mod StoredRows
 pub mod TableRows
 pub mod Tallies
+mod WantedLemmas

@@ -1,8 +1,8 @@
 pub mod ByValue
+pub mod Candidates
 pub mod Compared
 pub mod Enough
 pub mod Groups
-pub mod Keyed
 pub mod KeyRange
 pub mod LookedUp
 pub mod Meetings
@@ -16,3 +16,4 @@ pub mod TableRows
 pub mod Tables
 pub mod Tally
 pub mod Views
+pub mod WholeRows

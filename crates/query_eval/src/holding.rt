@@ -19,19 +19,27 @@ use own_model::StoreView;
 use row_reading::{definition_of, literal_key};
 use std::alloc::{AllocError, Global};
 
-/// Whether a column is the primary key of its table, or indexed: it is UNIQUE, or refers to a table. Takes no memory.
+/// Whether a column is indexed: it is UNIQUE, or refers to a table. Takes no memory.
+pub(crate) fn is_indexed<V: StoreView>(view: &V, table: TableNo, column: ColNo) -> bool
+    requires { table.0 < length (V.db view.now).schema.tables }
+    ensures { result ≡ is_indexed_at (V.db view.now).schema table.0 column.0 }
+{
+    match definition_of(view, table)
+        .columns
+        .items()
+        .get(column.0 as usize)
+    {
+        None => false,
+        Some(column) => column.unique || column.refers.is_some(),
+    }
+}
+
+/// Whether a column is the primary key of its table, or indexed. Takes no memory.
 pub(crate) fn is_found_by<V: StoreView>(view: &V, table: TableNo, column: ColNo) -> bool
     requires { table.0 < length (V.db view.now).schema.tables }
     ensures { result ≡ is_found_by (V.db view.now).schema table column.0 }
 {
-    let definition = definition_of(view, table);
-    if definition.key == column {
-        return true;
-    }
-    match definition.columns.items().get(column.0 as usize) {
-        None => false,
-        Some(column) => column.unique || column.refers.is_some(),
-    }
+    key_column(view, table) == column || is_indexed(view, table, column)
 }
 
 /// The rows of a table whose keys stand behind a value, behind the rows so far.
@@ -55,7 +63,7 @@ fn add_rows<'a, V: StoreView>(
 }
 
 /// The rows of a table that hold a value in a column that is indexed.
-fn rows_holding<'a, V: StoreView + Referring>(
+pub(crate) fn rows_holding<'a, V: StoreView + Referring>(
     alloc: Global,
     view: &'a V,
     table: TableNo,

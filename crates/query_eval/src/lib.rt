@@ -1,6 +1,7 @@
 //! The reply to a SELECT, and the rows of a table that WHERE keeps.
 #![tactic(auto)]
 
+mod candidates;
 mod group_tally;
 mod group_value;
 mod grouping;
@@ -28,6 +29,7 @@ mod table_rows;
 mod value_index;
 mod value_tallies;
 mod views;
+mod wanted;
 
 pub use kept::{keep, kept_in_table};
 pub use linked::select_linked;

@@ -1,49 +1,24 @@
-ghost use Rattle.std.specs.Prelude.{◌≡◌, ◌<◌, ◌++◌, Some, filter, length, slice_get, IfOk, IsTrue, OnOk};
+ghost use Rattle.std.specs.Prelude.{◌≡◌, ◌<◌, ◌++◌, filter, length, IfOk, IfSome, IsTrue, OnOk};
 ghost use Rattle.std.specs.Option.{option_copied};
 ghost use Rattle.own_model.specs.Stored.{rows_at};
 ghost use Rattle.query_model.specs.Query.{joined, pairs_of};
-ghost use Rattle.query_model.specs.Stored.{IsStoredRow};
+ghost use Rattle.query_model.specs.Stored.{AreStored, IsStoredRow};
 ghost use Rattle.query_model.specs.Truth.{keeps};
 ghost use Rattle.query_eval.specs.Enough.{IsEnough};
-ghost use Rattle.query_eval.specs.KeyRange.{IsSpanOf};
-ghost use Rattle.query_eval.specs.LookedUp.{is_found_by, is_in_pair};
+ghost use Rattle.query_eval.specs.LookedUp.{is_found_by};
 ghost use Rattle.query_eval.specs.Tables.{AreTables};
+ghost use Rattle.query_eval.specs.WholeRows.{AreWhole};
 
+use crate::candidates::{FEW_OF, candidates};
 use crate::holding::{is_found_by, meeting_rows};
-use crate::key_range::Span;
 use crate::lent_rows::LentRows;
 use crate::pairs::{Joined, keep_pairs};
+use crate::row_list::RowList;
 use link_model::Referring;
-use own_base::{Row, TableNo};
+use own_base::Row;
 use own_model::{BoundCond, StoreView};
 use row_reading::cell;
 use std::alloc::{AllocError, Global};
-
-/// The share of a join's rows of which at most the partners are looked up one by one.
-const LOOKED_UP_OF: u64 = 8;
-
-/// Whether the partners of the left rows of a span are worth to be looked up: they can be, and the rows are few beside those of both
-/// tables, which would be gone over else. Takes no memory.
-pub(crate) fn are_looked_up<V: StoreView>(view: &V, tables: Joined, span: Span) -> bool
-    requires left { tables.left.0 < length (V.db view.now).schema.tables }
-    requires right { tables.right.0 < length (V.db view.now).schema.tables }
-    ensures { IsTrue result → IsTrue (is_found_by (V.db view.now).schema tables.right tables.right_column.0) }
-{
-    let most = view.count(tables.left) / LOOKED_UP_OF + view.count(tables.right) / LOOKED_UP_OF;
-    is_found_by(view, tables.right, tables.right_column) && span.count() <= most
-}
-
-/// The row at a place of a table where there is one. Takes no memory.
-fn row_there<V: StoreView>(view: &V, table: TableNo, at: u64) -> &Row
-    requires there { table.0 < length (V.db view.now).schema.tables }
-    requires within { at < length (rows_at (V.db view.now).rows table.0) }
-    ensures { slice_get (rows_at (V.db view.now).rows table.0) at ≡ Some result.now }
-{
-    match view.row_at(table, at) {
-        Some(row) => row,
-        None => unreachable!(),
-    }
-}
 
 /// The pairs of a row of the left table that WHERE keeps, behind the pairs so far: the row's partners are looked up. No more
 /// follow once there are more than are asked for.
@@ -68,34 +43,61 @@ fn keep_partners<'a, V: StoreView + Referring>(
     keep_pairs(kept, left, &rights, cond, most)
 }
 
-/// The pairs of a join that WHERE keeps, where it keeps none with a row of the left table outside a span: each row within looks its
-/// partners up. By left key, then right key; no more are made once more than are asked for are kept, and with None all are.
-pub(crate) fn kept_looked_up<'a, V: StoreView + Referring>(
+/// The pairs that WHERE keeps of some rows of the left table: by left row, then right key. No more are made once more than are asked
+/// for are kept; with None all are.
+fn kept_of_lefts<'a, V: StoreView + Referring>(
     alloc: Global,
     view: &'a V,
     tables: Joined,
-    span: Span,
+    lefts: &RowList<'a>,
     cond: Option<&BoundCond>,
     most: Option<u64>,
 ) -> Result<LentRows<'a>, AllocError>
-    requires left { tables.left.0 < length (V.db view.now).schema.tables }
     requires right { tables.right.0 < length (V.db view.now).schema.tables }
     requires tables { AreTables (V.db view.now).schema (V.db view.now).rows }
     requires one { V.linked view.now ≡ V.db view.now }
     requires found { IsTrue (is_found_by (V.db view.now).schema tables.right tables.right_column.0) }
-    requires inside { IsSpanOf (is_in_pair (option_copied cond) tables.left_column.0 tables.right_column.0 (rows_at (V.db view.now).rows tables.right.0)) (rows_at (V.db view.now).rows tables.left.0) span }
+    requires stored { AreStored lefts.now }
     ensures { IfOk result (λ kept. IsEnough most (filter (keeps (option_copied cond.entry))
-        (joined tables.left_column.0 tables.right_column.0 (rows_at (V.db view.now).rows tables.left.0) (rows_at (V.db view.now).rows tables.right.0))) kept) }
+        (joined tables.left_column.0 tables.right_column.0 lefts.now (rows_at (V.db view.now).rows tables.right.0))) kept) }
 {
     let mut kept = LentRows::new(alloc);
-    let mut at = span.from;
-    while at < span.upto {
+    for left in lefts.rows() {
         if kept.is_past(most) {
             return Ok(kept);
         }
-        let left = row_there(view, tables.left, at);
-        keep_partners(&mut kept, alloc, view, tables, left, cond, most)?;
-        at += 1;
+        keep_partners(&mut kept, alloc, view, tables, *left, cond, most)?;
     }
     Ok(kept)
+}
+
+/// The pairs of a join that WHERE keeps, where few rows of the left table can be in one beside the rows of both tables, which would be
+/// gone over else, and the right one's column is its primary key or indexed: each of those rows looks its partners up. By left key,
+/// then right key; no more are made once more than are asked for are kept, and with None all are.
+pub(crate) fn kept_looked_up<'a, V: StoreView + Referring>(
+    alloc: Global,
+    view: &'a V,
+    tables: Joined,
+    cond: Option<&BoundCond>,
+    most: Option<u64>,
+) -> Result<Option<LentRows<'a>>, AllocError>
+    requires left { tables.left.0 < length (V.db view.now).schema.tables }
+    requires right { tables.right.0 < length (V.db view.now).schema.tables }
+    requires tables { AreTables (V.db view.now).schema (V.db view.now).rows }
+    requires whole { AreWhole (V.db view.now).schema (V.db view.now).rows tables.left }
+    requires one { V.linked view.now ≡ V.db view.now }
+    ensures { IfOk result (λ found. IfSome found (λ kept. IsEnough most (filter (keeps (option_copied cond.entry))
+        (joined tables.left_column.0 tables.right_column.0 (rows_at (V.db view.now).rows tables.left.0) (rows_at (V.db view.now).rows tables.right.0))) kept)) }
+{
+    if !is_found_by(view, tables.right, tables.right_column) {
+        return Ok(None);
+    }
+    let few = view.count(tables.left) / FEW_OF + view.count(tables.right) / FEW_OF;
+    match candidates(alloc, view, tables.left, cond, few)? {
+        None => Ok(None),
+        Some(lefts) => {
+            let kept = kept_of_lefts(alloc, view, tables, &lefts, cond, most)?;
+            Ok(Some(kept))
+        }
+    }
 }

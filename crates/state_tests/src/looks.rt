@@ -100,7 +100,7 @@ impl<'a> Linked for Counted<'a> {
     }
 }
 
-/// How many rows the table has, numbered from 0.
+/// How many rows each of both tables has, numbered from 0. Two of the second one refer to each of the first half of the first.
 const ROWS: u64 = 2_000;
 
 /// How often the version is looked at, at most, for an UPDATE of ten rows: each end of their range is found by eleven
@@ -116,12 +116,34 @@ const FEW: u64 = (11 + 11 + 10 + 10) * (3 * 11 + 1);
 /// merged with the changes, and where its change is. Three times is few too.
 const WALK: u64 = 3 * ROWS;
 
+/// How often for a join of ten rows with the rows that refer to them: how many these are is looked up for each of the ten, and two
+/// rows are, behind at most as many runs.
+const JOINED: u64 = RANGE + 10 * (1 + 2 + 2);
+
 /// A statement, the reply to it, and how often the version is looked at for it: so often at least, since each row that is
 /// read is a look, and so often at most.
 type Case = (&'static str, &'static str, u64, u64);
 
 /// The statements of a transaction.
-const CASES: [Case; 6] = [
+const CASES: [Case; 9] = [
+    (
+        "SELECT u.id FROM t JOIN u ON t.id = u.t WHERE t.id = 38",
+        "rows 2 / 76 / 77",
+        3,
+        RANGE,
+    ),
+    (
+        "SELECT COUNT(*) FROM t JOIN u ON t.id = u.t WHERE t.id >= 10 AND t.id < 20",
+        "rows 1 / 20",
+        30,
+        JOINED,
+    ),
+    (
+        "SELECT COUNT(*) FROM u JOIN t ON u.t = t.id WHERE u.id < 10",
+        "rows 1 / 10",
+        20,
+        RANGE,
+    ),
     (
         "UPDATE t SET n = n + 1 WHERE id >= 100 AND id < 103",
         "ok 3",
@@ -199,7 +221,7 @@ fn check_cases(rt: &(impl Abort + AllocGlobal), version: &Version, txns: &mut Tx
     }
 }
 
-/// An INSERT of the rows.
+/// An INSERT of the rows of the first table.
 fn insert(rt: &(impl Abort + AllocGlobal)) -> String {
     let alloc = rt.alloc();
     let mut text = format!(in alloc; "INSERT INTO t VALUES (0, 0)").expect(rt, "memory");
@@ -210,10 +232,28 @@ fn insert(rt: &(impl Abort + AllocGlobal)) -> String {
     text
 }
 
-/// A table of the rows.
+/// An INSERT of those of the second, of which two refer to one.
+fn insert_referring(rt: &(impl Abort + AllocGlobal)) -> String {
+    let alloc = rt.alloc();
+    let mut text = format!(in alloc; "INSERT INTO u VALUES (0, 0)").expect(rt, "memory");
+    for id in 1..ROWS {
+        let of = id / 2;
+        let row = format!(in alloc; ", ({id}, {of})").expect(rt, "memory");
+        text.push_str(row.as_str()).expect(rt, "memory");
+    }
+    text
+}
+
+/// The tables.
+const TABLES: &str = "\
+CREATE TABLE t (id INT PRIMARY KEY, n INT)
+CREATE TABLE u (id INT PRIMARY KEY, t INT REFERENCES t(id))";
+
+/// Both tables with their rows.
 fn store(rt: &(impl Abort + AllocGlobal)) -> Store {
-    let mut store = store_of(rt, "CREATE TABLE t (id INT PRIMARY KEY, n INT)");
+    let mut store = store_of(rt, TABLES);
     store.run(rt, insert(rt).as_str());
+    store.run(rt, insert_referring(rt).as_str());
     store
 }
 

@@ -7,14 +7,15 @@ ghost use Rattle.state_model.specs.Sound.{IsWellFormed};
 
 use own_base::Subject;
 use own_model::{BoundSelect, Reply, Source1, StoreView};
-use query_eval::select_reply;
+use query_eval::select_linked;
 use shelf_access::{collect, sights_of};
 use std::alloc::{AllocError, Global};
 use store_version::{Shown, Version};
 use subject_access::no_subject;
 use view_select::view_reply;
 
-/// The reply to a bound SELECT: from a view by the rows that are kept for it, and else from the rows of tables.
+/// The reply to a bound SELECT: from a view by the rows that are kept for it, and else from the rows of tables, where those of a join
+/// are looked up by who holds what.
 pub(crate) fn selected(
     alloc: Global,
     version: &Version,
@@ -27,7 +28,7 @@ pub(crate) fn selected(
     let shown = Shown { version };
     match &query.source {
         Source1::View(number) => view_reply(alloc, &shown, version.views(), *number, query),
-        _ => select_reply(alloc, &shown, query),
+        _ => select_linked(alloc, &shown, query),
     }
 }
 

@@ -1,5 +1,5 @@
--- A transaction that leaves the tables which a view reads leaves what the view shows.
-use Rattle.std.proofs.Common.{◌≡◌, List, [], sym, ap, ◌∙◌}
+-- A transaction that leaves the tables which a view or a SELECT reads leaves what it shows.
+use Rattle.std.proofs.Common.{◌≡◌, List, [], sym, ap, subst, ◌∙◌}
 use Rattle.std.specs.Prelude.{Option, Some, slice_get}
 use Rattle.std.specs.Option.{option_map_or}
 use Rattle.own_base.specs.declared.number.ColNo.{ColNo}
@@ -17,6 +17,7 @@ use Rattle.txn_space.specs.Changed.{changed_db}
 use Rattle.txn_space.specs.Entries.{entries_at}
 use Rattle.txn_space.proofs.OverLemmas.{rows_of_other}
 use Rattle.schema_model.proofs.Places.{all-at}
+use Rattle.readable_model.specs.Sources.{IsSourceThere, IsThere}
 use Rattle.query_eval.specs.Sources.{IsBaseOf}
 use Rattle.query_eval.specs.Views.{ReadsTables}
 use Rattle.txn_core.specs.Runs.{IsStore}
@@ -53,3 +54,22 @@ pub query_left : (schema : Schema) (rows before : List (List Row)) (query : Boun
     → source_rows schema rows (View number) ≡ source_rows schema before (View number) → query_rows schema rows query ≡ query_rows schema before query
 unfolding query_rows
 query_left schema rows before query number is same = ap (selected query) (ap (source_rows schema rows) is ∙ (same ∙ sym (ap (source_rows schema before) is)))
+
+-- and a SELECT from tables that the transaction left
+module _ (db : Db) (space : List (List Entry)) (store : IsStore db) (query : BoundSelect) (there : IsThere db.schema query) where
+  by_source : (source : Source1) → query.source ≡ source → source_rows db.schema (changed_db db space).rows source ≡ source_rows db.schema db.rows source → query_rows db.schema (changed_db db space).rows query ≡ query_rows db.schema db.rows query
+  unfolding query_rows
+  by_source source is same = ap (selected query) (ap (source_rows db.schema (changed_db db space).rows) is ∙ (same ∙ sym (ap (source_rows db.schema db.rows) is)))
+
+  pub table_left : (table : TableNo) → query.source ≡ Table table → entries_at space table.0 ≡ [] → query_rows db.schema (changed_db db space).rows query ≡ query_rows db.schema db.rows query
+  table_left table is none =
+      let within : IsSourceThere db.schema query.grouped (Table table) = subst (IsSourceThere db.schema query.grouped) is there in
+      by_source (Table table) is (rows_of_other db.schema.tables db.rows space table.0 store.rising within none)
+
+  pub join_left : (left right : TableNo) (left_column right_column : ColNo) → query.source ≡ Pair left right left_column right_column → entries_at space left.0 ≡ [] → entries_at space right.0 ≡ []
+      → query_rows db.schema (changed_db db space).rows query ≡ query_rows db.schema db.rows query
+  join_left left right left_column right_column is no_left no_right =
+      let within : IsSourceThere db.schema query.grouped (Pair left right left_column right_column) = subst (IsSourceThere db.schema query.grouped) is there in
+      let lefts = rows_of_other db.schema.tables db.rows space left.0 store.rising within.0 no_left in
+      let rights = rows_of_other db.schema.tables db.rows space right.0 store.rising within.1 no_right in
+      by_source (Pair left right left_column right_column) is (λ i. joined left_column.0 right_column.0 (lefts i) (rights i))

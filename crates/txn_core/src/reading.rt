@@ -7,9 +7,10 @@ ghost use Rattle.txn_space.specs.Changed.{changed_db};
 ghost use Rattle.txn_space.specs.Sound.{IsSpaceOf};
 ghost use Rattle.txn_core.specs.Runs.{IsShownBy, IsStore};
 
+use link_model::Linked;
 use own_base::ViewNo;
 use own_model::{BoundSelect, Footprint, Reply, Source1, StoreView};
-use query_eval::select_reply;
+use query_eval::{select_linked, select_reply};
 use std::alloc::{AllocError, Global};
 use txn_space::Space;
 use view_deltas::Views;
@@ -50,8 +51,8 @@ fn read_merged<V: StoreView>(
 }
 
 /// The reply to a bound SELECT over the rows as a transaction changed them: from a view whose tables it left by what is kept for
-/// the view.
-pub(crate) fn read_in<V: StoreView>(
+/// the view, and from tables that it left by the version, which tells who holds what.
+pub(crate) fn read_in<V: Linked>(
     alloc: Global,
     space: &Space,
     version: &V,
@@ -69,6 +70,10 @@ pub(crate) fn read_in<V: StoreView>(
     match &query.source {
         Source1::View(number) if leaves_view(space, version, *number) => {
             view_reply(alloc, version, views, *number, query)
+        }
+        Source1::Table(table) if space.leaves(*table) => select_linked(alloc, version, query),
+        Source1::Pair { left, right, .. } if space.leaves(*left) && space.leaves(*right) => {
+            select_linked(alloc, version, query)
         }
         _ => read_merged(alloc, space, version, query, scanned),
     }

@@ -11,6 +11,7 @@ ghost use Rattle.txn_core.specs.Single.{NetTo};
 
 use crate::reading::read_in;
 use crate::single_write::single;
+use link_model::Linked;
 use own_base::{Change, List};
 use own_model::{Bound, Footprint, Refusal, Reply, Schema, StoreView};
 use plan_bind::footprint;
@@ -88,7 +89,7 @@ fn scanned(alloc: Global, schema: &Schema, bound: &Bound) -> Result<Footprint, A
 /// Runs a bound SELECT, INSERT, UPDATE or DELETE in a transaction: over the rows of a version with what the transaction
 /// changed, to which a write adds. The version is only read. A SELECT from a view whose tables the transaction left reads what is
 /// kept for it.
-pub(crate) fn run_in<V: StoreView>(
+pub(crate) fn run_in<V: Linked>(
     alloc: Global,
     space: &mut Space,
     version: &V,

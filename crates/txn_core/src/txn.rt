@@ -9,6 +9,7 @@ ghost use Rattle.txn_core.specs.SessionStates.{IsQuiet, is_select};
 ghost use Rattle.txn_core.specs.Runs.{HasRun, IsRowStatement, IsShownBy, IsStore};
 
 use crate::running::run_in;
+use link_model::Linked;
 use own_base::{Change, List, MakeCopy};
 use own_model::{Bound, Reply, StoreView};
 use std::alloc::{AllocError, Global};
@@ -53,7 +54,7 @@ impl Txn {
 
     /// Runs a bound SELECT, INSERT, UPDATE or DELETE over a version with what the transaction changed. The views are what the
     /// version keeps for its own.
-    pub fn run<V: StoreView>(
+    pub fn run<V: Linked>(
         &mut self,
         alloc: Global,
         version: &V,
@@ -76,7 +77,7 @@ impl Txn {
     }
 
     /// What such a statement replies, and what the transaction is after it; the transaction itself stays as it is.
-    pub(crate) fn run_in_copy<V: StoreView>(
+    pub(crate) fn run_in_copy<V: Linked>(
         &self,
         alloc: Global,
         version: &V,

@@ -110,7 +110,7 @@ impl Txns {
 
     /// A statement in the open transaction of a session. It runs in a copy of the transaction, which comes in its place with
     /// the last step that may want memory.
-    fn run<V: StoreView>(
+    fn run<V: Linked>(
         &mut self,
         alloc: Global,
         version: &V,

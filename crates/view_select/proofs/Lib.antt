@@ -2,3 +2,4 @@ pub mod ShownRuns
 pub mod TableSources
 pub mod ViewSelects
 pub mod WellFormedViews
+pub mod WholeRows

@@ -2,7 +2,9 @@ use Rattle.std.proofs.Common.{List, ◌∙◌, sym, ap}
 use Rattle.std.proofs.lemmas.Result.{IfOk-weaker}
 use Rattle.own_model.specs.Db.{Row}
 use Rattle.query_model.specs.Query.{reply_of}
+use Rattle.state_model.proofs.StoredRows.{all_stored}
 use Rattle.txn_space.specs.Changed.{changed_rows}
+use Rattle.view_select.proofs.WholeRows.{whole_rows}
 use Rattle.txn_core.proofs.ViewsLeft.{query_left}
 use Rattle.txn_core.proofs.reading.read_in.Goals as goal
 
