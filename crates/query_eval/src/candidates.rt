@@ -12,8 +12,8 @@ ghost use Rattle.query_eval.specs.Meetings.{meeting};
 ghost use Rattle.query_eval.specs.Tables.{AreTables};
 
 use crate::holding::{is_indexed, rows_holding};
-use crate::key_range::{Span, span_of};
 use crate::kept::keep;
+use crate::key_range::{Span, span_of};
 use crate::row_list::RowList;
 use crate::wanted::wanted;
 use link_model::Referring;
@@ -127,7 +127,13 @@ fn few_by_any<'a, V: StoreView + Referring>(
         → AreCandidates definition (option_copied cond.entry) (rows_at (V.db view.now).rows table.0) rows)) }
 {
     for number in 0..definition_of(view, table).columns.items().len() {
-        let found = few_by(alloc, view, table, ColNo(u32::try_from(number).unwrap_or(u32::MAX)), cond)?;
+        let found = few_by(
+            alloc,
+            view,
+            table,
+            ColNo(u32::try_from(number).unwrap_or(u32::MAX)),
+            cond,
+        )?;
         if found.is_some() {
             return Ok(found);
         }

@@ -34,13 +34,7 @@ fn wanted_of(own: ColNo, sign: Cmp, right: &BoundOperand, column: ColNo) -> Opti
     ensures value { IfSome result (λ value. IsStored value.now × (right.now ≡ BoundOperand.Literal value.now)) }
 {
     match sign {
-        Cmp::Eq => {
-            if own == column {
-                literal(right)
-            } else {
-                None
-            }
-        }
+        Cmp::Eq => { if own == column { literal(right) } else { None } }
         Cmp::Ne | Cmp::Lt | Cmp::Le | Cmp::Gt | Cmp::Ge => None,
     }
 }
