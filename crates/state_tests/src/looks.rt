@@ -125,7 +125,14 @@ const JOINED: u64 = RANGE + 10 * (1 + 2 + 2);
 type Case = (&'static str, &'static str, u64, u64);
 
 /// The statements of a transaction.
-const CASES: [Case; 9] = [
+const CASES: [Case; 11] = [
+    ("SELECT id FROM u WHERE t = 38", "rows 2 / 76 / 77", 3, RANGE),
+    (
+        "SELECT t.n, u.id FROM u JOIN t ON u.t = t.id WHERE u.t = 38 AND u.id > 76",
+        "rows 1 / 0|77",
+        4,
+        RANGE,
+    ),
     (
         "SELECT u.id FROM t JOIN u ON t.id = u.t WHERE t.id = 38",
         "rows 2 / 76 / 77",
