@@ -25,7 +25,7 @@ use std::alloc::{AllocError, Global};
 /// The share of rows of which at most those are looked up one by one that an index names: more are gone over in less time.
 pub(crate) const FEW_OF: u64 = 8;
 
-/// So many rows between bounds on the primary key are looked at, whatever an index could name.
+/// So many rows that bounds on the primary key leave are looked at, whatever an index could name.
 const HANDFUL: u64 = 8;
 
 /// The row at a place of a table where there is one. Takes no memory.
@@ -89,7 +89,8 @@ fn few_holding<'a, V: StoreView + Referring>(
     }
 }
 
-/// The rows of a table that hold in a column what WHERE wants there, where the column is indexed and they are few.
+/// The rows of a table that hold in a column what WHERE wants there, where the column is indexed and they are few, but more than a
+/// handful are left by bounds on the primary key.
 fn few_by<'a, V: StoreView + Referring>(
     alloc: Global,
     view: &'a V,
@@ -106,7 +107,12 @@ fn few_by<'a, V: StoreView + Referring>(
     if is_indexed(view, table, column) {
         match wanted(cond, column) {
             None => Ok(None),
-            Some(value) => few_holding(alloc, view, table, column, value),
+            Some(value) => {
+                if span_of(view, table, cond).count() <= HANDFUL {
+                    return Ok(None);
+                }
+                few_holding(alloc, view, table, column, value)
+            }
         }
     } else {
         Ok(None)
@@ -127,39 +133,13 @@ fn few_by_any<'a, V: StoreView + Referring>(
         → AreCandidates definition (option_copied cond.entry) (rows_at (V.db view.now).rows table.0) rows)) }
 {
     for number in 0..definition_of(view, table).columns.items().len() {
-        let found = few_by(
-            alloc,
-            view,
-            table,
-            ColNo(u32::try_from(number).unwrap_or(u32::MAX)),
-            cond,
-        )?;
+        let column = ColNo(u32::try_from(number).unwrap_or(u32::MAX));
+        let found = few_by(alloc, view, table, column, cond)?;
         if found.is_some() {
             return Ok(found);
         }
     }
     Ok(None)
-}
-
-/// The same, but where WHERE leaves no more than a handful by its bounds on the primary key.
-fn few_named<'a, V: StoreView + Referring>(
-    alloc: Global,
-    view: &'a V,
-    table: TableNo,
-    span: Span,
-    cond: Option<&BoundCond>,
-) -> Result<Option<RowList<'a>>, AllocError>
-    requires there { table.0 < length (V.db view.now).schema.tables }
-    requires tables { AreTables (V.db view.now).schema (V.db view.now).rows }
-    requires one { V.linked view.now ≡ V.db view.now }
-    ensures { IfOk result (λ found. IfSome found (λ rows. (definition : TableDef) → slice_get (V.db view.now).schema.tables table.0 ≡ Some definition
-        → AreCandidates definition (option_copied cond.entry) (rows_at (V.db view.now).rows table.0) rows)) }
-{
-    if span.count() <= HANDFUL {
-        Ok(None)
-    } else {
-        few_by_any(alloc, view, table, cond)
-    }
 }
 
 /// The rows of a table among which are all that WHERE keeps, alone or in a pair, where its bounds on the primary key leave no more
@@ -177,11 +157,11 @@ pub(crate) fn candidates<'a, V: StoreView + Referring>(
     ensures { IfOk result (λ found. IfSome found (λ rows. (definition : TableDef) → slice_get (V.db view.now).schema.tables table.0 ≡ Some definition
         → AreCandidates definition (option_copied cond.entry) (rows_at (V.db view.now).rows table.0) rows)) }
 {
-    let span = span_of(view, table, cond);
-    let named = few_named(alloc, view, table, span, cond)?;
+    let named = few_by_any(alloc, view, table, cond)?;
     if named.is_some() {
         return Ok(named);
     }
+    let span = span_of(view, table, cond);
     if span.count() > most {
         return Ok(None);
     }
@@ -216,8 +196,7 @@ pub(crate) fn kept_by_index<'a, V: StoreView + Referring>(
     requires one { V.linked view.now ≡ V.db view.now }
     ensures { IfOk result (λ found. IfSome found (λ kept. kept ≡ filter (keeps (option_copied cond.entry)) (rows_at (V.db view.now).rows table.0))) }
 {
-    let span = span_of(view, table, cond);
-    match few_named(alloc, view, table, span, cond)? {
+    match few_by_any(alloc, view, table, cond)? {
         None => Ok(None),
         Some(rows) => {
             let kept = kept_of(alloc, &rows, cond)?;

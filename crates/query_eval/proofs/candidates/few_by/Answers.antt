@@ -8,8 +8,8 @@ use Rattle.query_eval.proofs.TableRows.{stored_at}
 use Rattle.query_eval.proofs.candidates.few_by.Goals as goal
 
 -- What WHERE keeps has what it wants.
-pub returns-in-Some : goal.returns-in-Some
-returns-in-Some g c =
+pub returns-else-count-le-HANDFUL : goal.returns-else-count-le-HANDFUL
+returns-else-count-le-HANDFUL g c =
     let db = g.V.StoreView.db c.args.view.now in
     let all = rows_at db.rows c.args.table.0 in
     let condition = option_copied c.args.cond in
