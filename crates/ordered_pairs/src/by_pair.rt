@@ -25,11 +25,11 @@ impl<A: Ordered, B: Ordered> KeyOf<(A, B)> for ByPair {
     }
 
     fn item_hint(self, item: &(A, B)) -> u64 {
-        item.0.hint()
+        item.0.hint_before(item.1.hint_behind())
     }
 
     fn key_hint(self, key: &(A, B)) -> u64 {
-        key.0.hint()
+        key.0.hint_before(key.1.hint_behind())
     }
 
     ghost total = { pair_total A.order B.order A.total B.total };

@@ -5,7 +5,7 @@ ghost use Rattle.std.specs.declared.cmp.Ordering.TheVariants.{Equal};
 
 use own_base::Key;
 use std::cmp::Ordering;
-use table_part::hint_of_key;
+use table_part::{hint_before, hint_behind};
 
 /// A type whose values stand in a total order in which no two of them tie.
 pub trait Ordered {
@@ -16,9 +16,13 @@ pub trait Ordered {
     fn compare(&self, other: &Self) -> Ordering
         ensures { result ≡ order self.now other.now };
 
-    /// A number for a value, by which it is looked for. It is advice alone: it should rise as values do; where it doesn't,
-    /// that costs time and never truth.
-    fn hint(&self) -> u64;
+    /// A number below 2^32 for a value that stands on the right of a pair, by which the pair is looked for. It is advice alone:
+    /// it should rise as values do; where it doesn't, that costs time and never truth.
+    fn hint_behind(&self) -> u64;
+
+    /// A number for a pair that has this value on the left, and on the right one of that hint. It is advice, too, and should rise
+    /// as pairs do.
+    fn hint_before(&self, behind: u64) -> u64;
 
     // The order is total.
     ghost total: { IsTotalOrder order };
@@ -38,8 +42,12 @@ impl Ordered for Key {
         Key::compare(self, other)
     }
 
-    fn hint(&self) -> u64 {
-        hint_of_key(self)
+    fn hint_behind(&self) -> u64 {
+        hint_behind(self)
+    }
+
+    fn hint_before(&self, behind: u64) -> u64 {
+        hint_before(self, behind)
     }
 
     ghost total = { key_order };

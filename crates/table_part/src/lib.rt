@@ -7,6 +7,6 @@ mod keyed_change;
 mod part;
 mod rows;
 
-pub use hint::hint_of_key;
+pub use hint::{hint_before, hint_behind, hint_of_key};
 pub use part::TablePart;
 pub use rows::Rows;
