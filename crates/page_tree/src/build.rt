@@ -84,6 +84,9 @@ pub(crate) fn push_nodes<T: Drop>(
     ensures pages { OnOk result (pages_of made.new.items ≡ pages_of made.old.items ++ pages_of nodes.now) }
     ensures count { OnOk result (length made.new.items ≡ length made.old.items + length nodes.now) }
 {
+    // All of them are looked at before the first is shared: a look doesn't wait for the one before it, while the count of those that
+    // share a node is raised only when that of the node before it was.
+    counts(nodes)?;
     for node in nodes {
         made.push(Arc::try_clone(node)?)?;
     }
