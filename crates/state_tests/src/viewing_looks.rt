@@ -62,9 +62,9 @@ fn looked(
 
 /// The values of the row at a place of a view, none where there is no row.
 fn values_at(views: &Views, view: ViewNo, at: u64) -> &[Value] {
-    match views.view_from(view, at) {
-        [first, ..] => first.1.values(),
-        [] => &[],
+    match views.view_from(view, at).first() {
+        Some(row) => row.values(),
+        None => &[],
     }
 }
 

@@ -1,4 +1,4 @@
-ghost use Rattle.std.specs.Prelude.{◌≡◌, if◌then◌else◌, IfOk, IsTrue, length, map};
+ghost use Rattle.std.specs.Prelude.{◌≡◌, if◌then◌else◌, IfOk, IsTrue, length};
 ghost use Rattle.own_model.specs.declared.bound.Source1.TheVariants.{View};
 ghost use Rattle.own_model.specs.declared.refusal.Refusal.TheVariants.{NoSubject};
 ghost use Rattle.own_model.specs.declared.reply.Reply.TheVariants.{Got, Refused};
@@ -10,16 +10,17 @@ ghost use Rattle.state_model.specs.Sound.{IsWellFormed};
 ghost use Rattle.subject_model.specs.Get.{get, table_name};
 ghost use Rattle.subject_model.specs.Named.{is_there};
 ghost use Rattle.store_snapshot.specs.Reads.{IsRead};
+ghost use Rattle.view_deltas.specs.RunRows.{run_rows};
 
 use crate::reading::{access, selected};
-use own_base::{MakeCopy, Row, Subject, ViewNo};
+use own_base::{MakeCopy, Subject, ViewNo};
 use own_model::{Bound, Reply, Schema};
 use serve_model::Looks;
 use std::alloc::{AllocError, Global};
 use std::marker::Model;
 use std::sync::Arc;
 use store_version::{Shown, Version};
-use view_deltas::Place;
+use view_deltas::ViewRun;
 
 /// The state of a store at one moment, which contracts see as the database that it shows. Whatever becomes of the store, it stays.
 #[derive(Drop)]
@@ -98,11 +99,11 @@ impl Snapshot {
         self.version().views().view_count(view)
     }
 
-    /// Lends a run of the rows of a view, each behind its place, that begins at a place of the view's order, counted from 0: at
+    /// Lends a run of the rows of a view that begins at a place of the view's order, counted from 0: at
     /// least one where there is one, and none past the end. Called again behind each run, it goes over all rows. Takes no
     /// memory.
-    pub fn view_from(&self, view: ViewNo, at: u64) -> &[(Place, Row)]
-        ensures { IsRunFrom (source_rows self.now.schema self.now.rows (View view)) at (map (λ entry. entry.1) result.now) }
+    pub fn view_from(&self, view: ViewNo, at: u64) -> ViewRun<'_>
+        ensures { IsRunFrom (source_rows self.now.schema self.now.rows (View view)) at (run_rows result) }
     {
         self.version().views().view_from(view, at)
     }

@@ -1,7 +1,7 @@
 -- What is kept for a grouped view follows a row that comes in or goes out.
 use Rattle.std.proofs.Common.{◌≡◌, refl, sym, ◌∙◌, ap, subst, List, [], ◌∷◌, ◌++◌, length, Option, Some, None, arith}
-use Rattle.std.specs.Prelude.{Bool, true, false, cond, not, ◌&&◌, ◌==◌, unwrap_or}
-use Rattle.std.specs.Option.{option_to_list}
+use Rattle.std.specs.Prelude.{Bool, true, false, cond, not, ◌&&◌, ◌==◌}
+use Rattle.std.specs.Option.{option_map_or, option_to_list}
 use Rattle.std.specs.Ordering.{is_eq}
 use Rattle.std.proofs.lemmas.Bool.{eqb-true}
 use Rattle.std.proofs.lemmas.Cmp.{tied_itself}
@@ -19,11 +19,11 @@ use Rattle.page_model.proofs.Ordered.{equal_from}
 use Rattle.query_model.specs.Truth.{keeps}
 use Rattle.view_deltas.specs.Counted.{Counted}
 use Rattle.view_deltas.specs.Entries.{kept_at, PutsAt}
-use Rattle.view_deltas.specs.Groups.{Counts, group_rows, in_group, KeepsGroups, Renews, shown_at, side_of, tally_at, where_shown}
+use Rattle.view_deltas.specs.Groups.{counted_in, Counts, group_at, group_rows, in_group, KeepsGroups, Renews, side_of, where_shown}
 use Rattle.view_deltas.specs.Place.{Place, place_cmp, side_cmp}
-use Rattle.view_deltas.specs.PlaceOrder.{place_exact, side_exact, side_total}
+use Rattle.view_deltas.specs.PlaceOrder.{side_exact, side_total}
 use Rattle.view_deltas.specs.TableRows.{Follows}
-use Rattle.view_deltas.specs.Tally.{tally, with_row}
+use Rattle.view_deltas.specs.Tally.{shown_tally, tally, with_row}
 use Rattle.view_deltas.specs.declared.grouped.GroupedView.{GroupedView}
 use Rattle.view_deltas.specs.declared.way.Way.{Way}
 use Rattle.view_deltas.specs.declared.way.Way.TheVariants.{In, Out}
@@ -79,13 +79,16 @@ module _ (query : BoundSelect) where
   passed : (side : Option Key) (row : Row) → keeps query.cond row ≡ false → in_group query side row ≡ false
   passed side row not_kept = ap (λ b. b && is_eq (side_cmp (side_of query.group row) side)) not_kept
 
-  -- the tally of the group of a row, where it isn't shown that of no rows
-  shown_or_none : (group : Option ColNo) (row : Row) (items : List BoundItem) (rows : List Row) → unwrap_or (where_shown group (side_of group row) (tally items rows)) (tally items []) ≡ tally items rows
+  -- what is counted for the group of a row, where it isn't shown that of no rows
+  shown_or_none : (group : Option ColNo) (row : Row) (items : List BoundItem) (rows : List Row) → counted_in items (where_shown group (side_of group row) (tally items rows)) ≡ tally items rows
   unfolding tally
   shown_or_none None row items rows = refl
   shown_or_none (Some column) row items rows = by (length rows == 0) refl
     where
-      by : (b : Bool) → (length rows == 0) ≡ b → unwrap_or (cond (not b) (Some (tally items rows)) None) (tally items []) ≡ tally items rows
+      side : Option Key
+      side = side_of (Some column) row
+
+      by : (b : Bool) → (length rows == 0) ≡ b → counted_in items (cond (not b) (Some (tally items rows, shown_tally side (tally items rows))) None) ≡ tally items rows
       by true none = ap (tally items) (sym (no_rows rows none))
       by false some = refl
 
@@ -94,45 +97,32 @@ module _ (query : BoundSelect) where
     renewed : (side : Option Key) (counted : Counted) → counted ≡ tally query.items (group_rows query side after)
         → ((other : Option Key) → is_eq (side_cmp side other) ≡ false → group_rows query other after ≡ group_rows query other before)
         → Renews query.group side counted old new → KeepsGroups query before old → KeepsGroups query after new
-    unfolding tally_at
-    renewed side counted is others renews kept = record { tallies = tallies; shown = shown }
+    unfolding group_at
+    renewed side counted is others renews kept = record { each = at }
       where
         -- at a place with one key
-        at_one : (other : Option Key) (b : Bool) → is_eq (side_cmp side other) ≡ b → kept_at new.tallies (other, None) ≡ where_shown query.group other (tally query.items (group_rows query other after))
+        at_one : (other : Option Key) (b : Bool) → is_eq (side_cmp side other) ≡ b → kept_at new.groups (other, None) ≡ where_shown query.group other (tally query.items (group_rows query other after))
         at_one other true tied =
             let same : side ≡ other = side_exact_from side other tied in
-            put_there (side, None) (where_shown query.group side counted) old.tallies new.tallies renews.tallies (other, None) (then_equal (side_cmp side other) ∙ tied)
+            put_there (side, None) (where_shown query.group side counted) old.groups new.groups renews (other, None) (then_equal (side_cmp side other) ∙ tied)
             ∙ (ap (where_shown query.group side) is ∙ ap (λ (own : Option Key). where_shown query.group own (tally query.items (group_rows query own after))) same)
         at_one other false apart =
-            put_elsewhere (side, None) (where_shown query.group side counted) old.tallies new.tallies renews.tallies (other, None) (then_equal (side_cmp side other) ∙ apart)
-            ∙ (kept.tallies (other, None) ∙ ap (λ (rows : List Row). where_shown query.group other (tally query.items rows)) (sym (others other apart)))
+            put_elsewhere (side, None) (where_shown query.group side counted) old.groups new.groups renews (other, None) (then_equal (side_cmp side other) ∙ apart)
+            ∙ (kept.each (other, None) ∙ ap (λ (rows : List Row). where_shown query.group other (tally query.items rows)) (sym (others other apart)))
 
-        tallies : (place : Place) → kept_at new.tallies place ≡ tally_at query after place
-        tallies (other, None) = at_one other (is_eq (side_cmp side other)) refl
-        tallies (other, Some key) =
-            put_elsewhere (side, None) (where_shown query.group side counted) old.tallies new.tallies renews.tallies (other, Some key) (then_less (side_cmp side other)) ∙ kept.tallies (other, Some key)
-
-        shown_by : (place : Place) (b : Bool) → is_eq (place_cmp (side, None) place) ≡ b → kept_at new.entries place ≡ shown_at place (kept_at new.tallies place)
-        shown_by place true tied =
-            let same : ◌≡◌ {A = Place} (side, None) place = place_exact (side, None) place (equal_from _ tied) in
-            put_there (side, None) (shown_at (side, None) (where_shown query.group side counted)) old.entries new.entries renews.shown place tied
-            ∙ (ap (λ (own : Place). shown_at own (where_shown query.group side counted)) same
-            ∙ ap (shown_at place) (sym (put_there (side, None) (where_shown query.group side counted) old.tallies new.tallies renews.tallies place tied)))
-        shown_by place false apart =
-            put_elsewhere (side, None) (shown_at (side, None) (where_shown query.group side counted)) old.entries new.entries renews.shown place apart
-            ∙ (kept.shown place ∙ ap (shown_at place) (sym (put_elsewhere (side, None) (where_shown query.group side counted) old.tallies new.tallies renews.tallies place apart)))
-
-        shown : (place : Place) → kept_at new.entries place ≡ shown_at place (kept_at new.tallies place)
-        shown place = shown_by place (is_eq (place_cmp (side, None) place)) refl
+        at : (place : Place) → kept_at new.groups place ≡ group_at query after place
+        at (other, None) = at_one other (is_eq (side_cmp side other)) refl
+        at (other, Some key) =
+            put_elsewhere (side, None) (where_shown query.group side counted) old.groups new.groups renews (other, Some key) (then_less (side_cmp side other)) ∙ kept.each (other, Some key)
 
   -- rows with the same groups are kept alike
   same_groups : (groups : GroupedView) (before after : List Row) → ((side : Option Key) → group_rows query side after ≡ group_rows query side before) → KeepsGroups query before groups → KeepsGroups query after groups
-  unfolding tally_at
-  same_groups groups before after same kept = record { tallies = tallies; shown = kept.shown }
+  unfolding group_at
+  same_groups groups before after same kept = record { each = at }
     where
-      tallies : (place : Place) → kept_at groups.tallies place ≡ tally_at query after place
-      tallies (side, None) = kept.tallies (side, None) ∙ ap (λ (rows : List Row). where_shown query.group side (tally query.items rows)) (sym (same side))
-      tallies (side, Some key) = kept.tallies (side, Some key)
+      at : (place : Place) → kept_at groups.groups place ≡ group_at query after place
+      at (side, None) = kept.each (side, None) ∙ ap (λ (rows : List Row). where_shown query.group side (tally query.items rows)) (sym (same side))
+      at (side, Some key) = kept.each (side, Some key)
 
   module _ (row : Row) (old new : GroupedView) where
     -- a row that WHERE doesn't keep changes nothing
@@ -142,13 +132,13 @@ module _ (query : BoundSelect) where
 
     -- one that it keeps is counted in or out
     pub counted : (way : Way) (side : Option Key) (after : Counted) → keeps query.cond row ≡ true → side ≡ side_of query.group row
-        → after ≡ with_row way row (unwrap_or (kept_at old.tallies (side, None)) (tally query.items [])) → Renews query.group side after old new → Counts query way (Some row) old new
-    unfolding tally_at
+        → after ≡ with_row way row (counted_in query.items (kept_at old.groups (side, None))) → Renews query.group side after old new → Counts query way (Some row) old new
+    unfolding group_at
     counted In side after keep of is renews = λ front behind kept.
         let own : in_group query side row ≡ true = subst (λ (own : Option Key). in_group query own row ≡ true) (sym of) (own_group row keep) in
-        let was : unwrap_or (kept_at old.tallies (side, None)) (tally query.items []) ≡ tally query.items (group_rows query side (front ++ behind)) =
-        ap (λ (o : Option Counted). unwrap_or o (tally query.items [])) (kept.tallies (side, None))
-        ∙ (ap (λ (own : Option Key). unwrap_or (where_shown query.group own (tally query.items (group_rows query side (front ++ behind)))) (tally query.items [])) of
+        let was : counted_in query.items (kept_at old.groups (side, None)) ≡ tally query.items (group_rows query side (front ++ behind)) =
+        ap (counted_in query.items) (kept.each (side, None))
+        ∙ (ap (λ (own : Option Key). counted_in query.items (where_shown query.group own (tally query.items (group_rows query side (front ++ behind))))) of
         ∙ shown_or_none query.group row query.items (group_rows query side (front ++ behind))) in
         let now : after ≡ tally query.items (group_rows query side (front ++ row ∷ behind)) =
         is
@@ -158,9 +148,9 @@ module _ (query : BoundSelect) where
         (λ other apart. among_no other front row behind (other_group other row (subst (λ (own : Option Key). is_eq (side_cmp own other) ≡ false) of apart))) renews kept
     counted Out side after keep of is renews = λ front behind kept.
         let own : in_group query side row ≡ true = subst (λ (own : Option Key). in_group query own row ≡ true) (sym of) (own_group row keep) in
-        let was : unwrap_or (kept_at old.tallies (side, None)) (tally query.items []) ≡ tally query.items (group_rows query side (front ++ row ∷ behind)) =
-        ap (λ (o : Option Counted). unwrap_or o (tally query.items [])) (kept.tallies (side, None))
-        ∙ (ap (λ (own : Option Key). unwrap_or (where_shown query.group own (tally query.items (group_rows query side (front ++ row ∷ behind)))) (tally query.items [])) of
+        let was : counted_in query.items (kept_at old.groups (side, None)) ≡ tally query.items (group_rows query side (front ++ row ∷ behind)) =
+        ap (counted_in query.items) (kept.each (side, None))
+        ∙ (ap (λ (own : Option Key). counted_in query.items (where_shown query.group own (tally query.items (group_rows query side (front ++ row ∷ behind))))) of
         ∙ shown_or_none query.group row query.items (group_rows query side (front ++ row ∷ behind))) in
         let now : after ≡ tally query.items (group_rows query side (front ++ behind)) =
         is
@@ -180,31 +170,17 @@ module _ (query : BoundSelect) where
       come front behind (out front behind (subst (λ (all : List Row). KeepsGroups query all old) parts kept))
 
   -- and at first there is the tally of no rows
-  pub groups_begin : (old new : GroupedView) (after : Counted) → old.entries ≡ [] → old.tallies ≡ [] → after ≡ tally query.items [] → Renews query.group None after old new → KeepsGroups query [] new
-  unfolding tally_at kept_at found tally
-  groups_begin old new after no_entries no_tallies is renews = record { tallies = tallies; shown = shown }
+  pub groups_begin : (old new : GroupedView) (after : Counted) → old.groups ≡ [] → after ≡ tally query.items [] → Renews query.group None after old new → KeepsGroups query [] new
+  unfolding group_at kept_at found tally
+  groups_begin old new after none is renews = record { each = at }
     where
       where_none : (group : Option ColNo) (key : Key) → where_shown group (Some key) (tally query.items []) ≡ None
       where_none None key = refl
       where_none (Some column) key = refl
 
-      tallies : (place : Place) → kept_at new.tallies place ≡ tally_at query [] place
-      tallies (None, None) = put_there (None, None) (where_shown query.group None after) old.tallies new.tallies renews.tallies (None, None) refl ∙ ap (where_shown query.group None) is
-      tallies (Some key, None) =
-          put_elsewhere (None, None) (where_shown query.group None after) old.tallies new.tallies renews.tallies (Some key, None) refl ∙ (none_kept old.tallies (Some key, None) no_tallies ∙ sym (where_none query.group key))
-      tallies (None, Some key) = put_elsewhere (None, None) (where_shown query.group None after) old.tallies new.tallies renews.tallies (None, Some key) refl ∙ none_kept old.tallies (None, Some key) no_tallies
-      tallies (Some one, Some key) = put_elsewhere (None, None) (where_shown query.group None after) old.tallies new.tallies renews.tallies (Some one, Some key) refl ∙ none_kept old.tallies (Some one, Some key) no_tallies
-
-      shown_by : (place : Place) (b : Bool) → is_eq (place_cmp (None, None) place) ≡ b → kept_at new.entries place ≡ shown_at place (kept_at new.tallies place)
-      shown_by place true tied =
-          let same : ◌≡◌ {A = Place} (None, None) place = place_exact (None, None) place (equal_from _ tied) in
-          put_there (None, None) (shown_at (None, None) (where_shown query.group None after)) old.entries new.entries renews.shown place tied
-          ∙ (ap (λ (own : Place). shown_at own (where_shown query.group None after)) same
-          ∙ ap (shown_at place) (sym (put_there (None, None) (where_shown query.group None after) old.tallies new.tallies renews.tallies place tied)))
-      shown_by place false apart =
-          put_elsewhere (None, None) (shown_at (None, None) (where_shown query.group None after)) old.entries new.entries renews.shown place apart
-          ∙ (none_kept old.entries place no_entries
-          ∙ ap (shown_at place) (sym (put_elsewhere (None, None) (where_shown query.group None after) old.tallies new.tallies renews.tallies place apart ∙ none_kept old.tallies place no_tallies)))
-
-      shown : (place : Place) → kept_at new.entries place ≡ shown_at place (kept_at new.tallies place)
-      shown place = shown_by place (is_eq (place_cmp (None, None) place)) refl
+      at : (place : Place) → kept_at new.groups place ≡ group_at query [] place
+      at (None, None) = put_there (None, None) (where_shown query.group None after) old.groups new.groups renews (None, None) refl ∙ ap (where_shown query.group None) is
+      at (Some key, None) =
+          put_elsewhere (None, None) (where_shown query.group None after) old.groups new.groups renews (Some key, None) refl ∙ (none_kept old.groups (Some key, None) none ∙ sym (where_none query.group key))
+      at (None, Some key) = put_elsewhere (None, None) (where_shown query.group None after) old.groups new.groups renews (None, Some key) refl ∙ none_kept old.groups (None, Some key) none
+      at (Some one, Some key) = put_elsewhere (None, None) (where_shown query.group None after) old.groups new.groups renews (Some one, Some key) refl ∙ none_kept old.groups (Some one, Some key) none

@@ -1,6 +1,6 @@
 -- What is kept for a grouped view are the rows of its query.
 use Rattle.std.proofs.Common.{◌≡◌, ℕ, zero, suc, ◌+◌, ℤ, pos, ◌+ℤ◌, eqb, refl, sym, ◌∙◌, ap, subst, List, [], ◌∷◌, map, length, Option, Some, None, arith}
-use Rattle.std.specs.Prelude.{Bool, true, false, cond, not, ◌&&◌, ◌==◌, filter, filter_map, fold, Contains}
+use Rattle.std.specs.Prelude.{Bool, true, false, cond, find, not, ◌&&◌, ◌==◌, filter, filter_map, fold, Contains}
 use Rattle.std.specs.List.{AllByRecursion as Each, cons_option}
 use Rattle.std.specs.List.Sorted.{IsStrictlySortedBy}
 use Rattle.std.specs.Ordering.{is_eq, ordering_then}
@@ -31,8 +31,9 @@ use Rattle.query_model.specs.Query.{group_of, grouped, number_in, sum_of, summar
 use Rattle.query_model.specs.Stored.{IsStored, IsStoredRow}
 use Rattle.query_model.specs.Truth.{cell, keeps}
 use Rattle.query_model.proofs.GroupValues.{grouped_rows}
-use Rattle.view_deltas.specs.Entries.{kept_at}
-use Rattle.view_deltas.specs.Groups.{group_rows, in_group, KeepsGroups, shown_at, side_of, tally_at, where_shown}
+use Rattle.view_deltas.specs.Counted.{Counted}
+use Rattle.view_deltas.specs.Entries.{item_of, kept_at}
+use Rattle.view_deltas.specs.Groups.{group_at, group_rows, in_group, KeepsGroups, row_in, side_of, where_shown}
 use Rattle.view_deltas.specs.Numbers.{numbers_in, shown_sum, with_number_of}
 use Rattle.view_deltas.specs.Place.{Place, place_cmp, side_cmp}
 use Rattle.view_deltas.specs.PlaceOrder.{side_exact, side_total}
@@ -191,6 +192,23 @@ both_true : (b c : Bool) → (b && c) ≡ true → (b ≡ true) × (c ≡ true)
 both_true true c is = (refl, is)
 both_true false c is = let never : false ≡ true = is in absurd (cc)
 
+-- the rows that groups show, each at its place
+abbrev shown_of : Place × (Counted × Row) → Place × Row
+shown_of group = (group.0, group.1.1)
+
+abbrev shown_in : List (Place × (Counted × Row)) → List (Place × Row)
+shown_in groups = map shown_of groups
+
+shown_kept : (groups : List (Place × (Counted × Row))) (place : Place) → kept_at (shown_in groups) place ≡ row_in (kept_at groups place)
+unfolding kept_at found
+shown_kept [] place = refl
+shown_kept (group ∷ groups) place = by (is_eq (place_cmp group.0 place)) (shown_kept groups place)
+  where
+    by : (b : Bool) → item_of (find (λ one. is_eq (place_cmp one.0 place)) (shown_in groups)) ≡ row_in (item_of (find (λ one. is_eq (place_cmp one.0 place)) groups))
+        → item_of (cond b (Some (shown_of group)) (find (λ one. is_eq (place_cmp one.0 place)) (shown_in groups))) ≡ row_in (item_of (cond b (Some group) (find (λ one. is_eq (place_cmp one.0 place)) groups)))
+    by true more = refl
+    by false more = more
+
 module _ (query : BoundSelect) where
   abbrev kept : List Row → List Row
   kept rows = filter (keeps query.cond) rows
@@ -201,11 +219,11 @@ module _ (query : BoundSelect) where
 
   -- what stands at a place
   abbrev stands_at : List Row → Place → Option Row
-  stands_at rows place = shown_at place (tally_at query rows place)
+  stands_at rows place = row_in (group_at query rows place)
 
-  module _ (rows : List Row) (groups : GroupedView) (rises : IsRising place_of place_cmp groups.entries) (keep : KeepsGroups query rows groups) where
-    entries_at : (place : Place) → kept_at groups.entries place ≡ stands_at rows place
-    entries_at place = keep.shown place ∙ ap (shown_at place) (keep.tallies place)
+  module _ (rows : List Row) (groups : GroupedView) (rises : IsRising place_of place_cmp (shown_in groups.groups)) (keep : KeepsGroups query rows groups) where
+    entries_at : (place : Place) → kept_at (shown_in groups.groups) place ≡ stands_at rows place
+    entries_at place = shown_kept groups.groups place ∙ ap row_in (keep.each place)
 
     -- Without GROUP BY there is one row.
     all_kept : (rows : List Row) → query.group ≡ None → group_rows query None rows ≡ kept rows
@@ -220,18 +238,18 @@ module _ (query : BoundSelect) where
         by true more = ap (λ b. cond b (row ∷ group_rows query None rows) (group_rows query None rows)) own ∙ ap (λ rest. row ∷ rest) more
         by false more = more
 
-    one_row : query.group ≡ None → map (λ entry. entry.1) groups.entries ≡ grouped query.items None (kept rows)
-    unfolding grouped tally_at kept_at found IsStrictlySortedBy
+    one_row : query.group ≡ None → map (λ entry. entry.1) (shown_in groups.groups) ≡ grouped query.items None (kept rows)
+    unfolding grouped group_at kept_at found IsStrictlySortedBy
     one_row none =
-        ap (map (λ (entry : Place × Row). entry.1)) (same_kept groups.entries (group_entry rows None ∷ []) rises (tt, tt) (λ place. entries_at place ∙ at place))
+        ap (map (λ (entry : Place × Row). entry.1)) (same_kept (shown_in groups.groups) (group_entry rows None ∷ []) rises (tt, tt) (λ place. entries_at place ∙ at place))
         ∙ ap (λ row. row ∷ []) (tally_shown None (group_rows query None rows) query.items ∙ ap (summary query.items Null) (all_kept rows none))
       where
         shown_where : (side : Option Key) → where_shown query.group side (tally query.items (group_rows query side rows)) ≡ where_shown None side (tally query.items (group_rows query side rows))
         shown_where side = ap (λ (group : Option ColNo). where_shown group side (tally query.items (group_rows query side rows))) none
 
         at : (place : Place) → stands_at rows place ≡ kept_at (group_entry rows None ∷ []) place
-        at (None, None) = ap (shown_at (None, None)) (shown_where None)
-        at (Some key, None) = ap (shown_at (Some key, None)) (shown_where (Some key))
+        at (None, None) = ap row_in (shown_where None)
+        at (Some key, None) = ap row_in (shown_where (Some key))
         at (None, Some key) = refl
         at (Some one, Some key) = refl
 
@@ -333,11 +351,11 @@ module _ (query : BoundSelect) where
           by false apart = apart
 
       at_side : (side : Option Key) → stands_at rows (side, None) ≡ kept_at (map entry_of group_values) (side, None)
-      unfolding tally_at tally
-      at_side side = ap (λ (group : Option ColNo). shown_at (side, None) (where_shown group side (tally query.items (group_rows query side rows)))) group ∙ by (length (group_rows query side rows) == 0) refl
+      unfolding group_at tally
+      at_side side = ap (λ (group : Option ColNo). row_in (where_shown group side (tally query.items (group_rows query side rows)))) group ∙ by (length (group_rows query side rows) == 0) refl
         where
           by : (b : Bool) → (length (group_rows query side rows) == 0) ≡ b
-              → shown_at (side, None) (cond (not b) (Some (tally query.items (group_rows query side rows))) None) ≡ kept_at (map entry_of group_values) (side, None)
+              → row_in (cond (not b) (Some (tally query.items (group_rows query side rows), shown_tally side (tally query.items (group_rows query side rows)))) None) ≡ kept_at (map entry_of group_values) (side, None)
           by true none = sym (nowhere (side, None) group_values (each_weaker _ _ (stands_not side (all_fail (in_group query side) rows none)) group_values facts.stand))
           by false some =
               let each = each_both _ _ (λ row. (keeps query.cond row ≡ true → IsOneOf group_values (cell row column.0)) × IsStoredRow row) (λ row one own. (one, own)) rows
@@ -351,7 +369,7 @@ module _ (query : BoundSelect) where
               sym (at_value side one.other group_values is one.among)
 
       at_each : (place : Place) → stands_at rows place ≡ kept_at (map entry_of group_values) place
-      unfolding tally_at
+      unfolding group_at
       at_each (side, None) = at_side side
       at_each (side, Some key) = sym (nowhere (side, Some key) group_values (each_weaker _ _ (λ value own. then_less (side_cmp (literal_key value) side)) group_values values_stored))
 
@@ -363,16 +381,16 @@ module _ (query : BoundSelect) where
           ∙ (ap (λ own. summary query.items own (group_rows query (literal_key value) rows)) (value_back value all.0) ∙ ap (summary query.items value) (same_group value all.0 rows stored)))
           ∙ ap (λ rest. summary query.items value (group_of column.0 (kept rows) value) ∷ rest) (rows_are values all.1)
 
-      by_column : (groups : GroupedView) → IsRising place_of place_cmp groups.entries → KeepsGroups query rows groups → map (λ entry. entry.1) groups.entries ≡ grouped query.items (Some column) (kept rows)
+      by_column : (groups : GroupedView) → IsRising place_of place_cmp (shown_in groups.groups) → KeepsGroups query rows groups → map (λ entry. entry.1) (shown_in groups.groups) ≡ grouped query.items (Some column) (kept rows)
       by_column groups rises keep =
-          ap (map (λ (entry : Place × Row). entry.1)) (same_kept groups.entries (map entry_of group_values) rises (rise group_values facts.rise values_stored) (λ place. entries_at rows groups rises keep place ∙ at_each place))
+          ap (map (λ (entry : Place × Row). entry.1)) (same_kept (shown_in groups.groups) (map entry_of group_values) rises (rise group_values facts.rise values_stored) (λ place. entries_at rows groups rises keep place ∙ at_each place))
           ∙ (rows_are group_values values_stored ∙ sym facts.one_each)
 
   -- so they are the rows of the query, in its order
-  pub group_rows_are : (rows : List Row) (groups : GroupedView) → Each IsStoredRow rows → IsRising place_of place_cmp groups.entries → KeepsGroups query rows groups
-      → map (λ entry. entry.1) groups.entries ≡ grouped query.items query.group (kept rows)
+  pub group_rows_are : (rows : List Row) (groups : GroupedView) → Each IsStoredRow rows → IsRising place_of place_cmp (shown_in groups.groups) → KeepsGroups query rows groups
+      → map (λ entry. entry.1) (shown_in groups.groups) ≡ grouped query.items query.group (kept rows)
   group_rows_are rows groups stored rises keep = by query.group refl
     where
-      by : (group : Option ColNo) → query.group ≡ group → map (λ entry. entry.1) groups.entries ≡ grouped query.items group (kept rows)
+      by : (group : Option ColNo) → query.group ≡ group → map (λ entry. entry.1) (shown_in groups.groups) ≡ grouped query.items group (kept rows)
       by None none = one_row rows groups rises keep none
       by (Some column) is = by_column column is rows stored groups rises keep

@@ -13,6 +13,7 @@ pub mod LeadLemmas
 pub mod PairLemmas
 pub mod PlainLemmas
 pub mod PlainRows
+pub mod RunLemmas
 pub mod StandLemmas
 pub mod TallyLemmas
 pub mod TurnLemmas

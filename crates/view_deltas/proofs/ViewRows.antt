@@ -13,7 +13,6 @@ use Rattle.own_model.specs.declared.schema.ViewDef.{ViewDef}
 use Rattle.own_model.specs.Db.{Db, IsOrdered, Row}
 use Rattle.own_model.specs.Stored.{rows_at}
 use Rattle.page_model.specs.Rising.{IsRising}
-use Rattle.page_model.specs.Run.{IsRunFrom}
 use Rattle.query_model.specs.Query.{base_rows, grouped, in_order, joined, projected, selected, source_rows, view_rows}
 use Rattle.query_model.specs.Truth.{keeps}
 use Rattle.view_deltas.specs.Kept.{entries_of, IsKept, IsKeptFor, StandsFor}
@@ -102,26 +101,6 @@ module _ (db : Db) (ordered : IsOrdered db) (stored : HoldNoSums db.rows) where
     pub no_view : slice_get kept view.0 ≡ None → source_rows db.schema db.rows (View view) ≡ []
     no_view none =
         ap (λ (o : Option ViewDef). option_map_or (view_rows db.rows) o []) (past_none db.schema.views view.0 (omega (arith, none_past kept view.0 none, stands.count)))
-
-drop_map : {X Y : Type 0} (f : X → Y) (n : ℕ) (xs : List X) → drop n (map f xs) ≡ map f (drop n xs)
-drop_map f zero xs = refl
-drop_map f (suc n) [] = refl
-drop_map f (suc n) (x ∷ xs) = drop_map f n xs
-
--- a run of entries is one of their rows
-pub run_rows : (entries : List (Place × Row)) (at : ℕ) (run : List (Place × Row)) (rows : List Row) → map row_of entries ≡ rows → IsRunFrom entries at run → IsRunFrom rows at (map row_of run)
-run_rows entries at run rows are is = subst (λ (all : List Row). IsRunFrom all at (map row_of run)) are (record {
-  rest = map row_of is.rest;
-  follow = drop_map row_of at entries ∙ (ap (map row_of) is.follow ∙ map-append row_of run is.rest);
-  some = λ within. let first = is.some (omega (arith, within, length-map entries row_of)) in omega (arith, first, length-map run row_of);
-})
-
-pub no_run : (rows : List Row) (at : ℕ) → rows ≡ [] → IsRunFrom rows at []
-no_run rows at none = subst (λ (all : List Row). IsRunFrom all at []) (sym none) (record { rest = []; follow = empty at; some = λ within. absurd (omega arith) })
-  where
-    empty : (n : ℕ) → ◌≡◌ {A = List Row} (drop n []) []
-    empty zero = refl
-    empty (suc n) = refl
 
 pub count_rows : (entries : List (Place × Row)) (rows : List Row) → map row_of entries ≡ rows → length entries ≡ length rows
 count_rows entries rows are = sym (length-map entries row_of) ∙ ap length are

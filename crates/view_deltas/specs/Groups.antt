@@ -1,9 +1,10 @@
 -- What is kept for a grouped view.
-use Rattle.std.specs.Prelude.{◌≡◌, ℕ, List, ◌++◌, Bool, true, false, not, ◌&&◌, ◌==◌, Option, None, Some, filter, if◌then◌else◌}
+use Rattle.std.specs.Prelude.{◌≡◌, ℕ, List, [], ◌++◌, Bool, true, false, not, ◌&&◌, ◌==◌, Option, None, Some, filter, if◌then◌else◌}
 use Rattle.std.specs.Option.{option_and_then, option_map_or, option_to_list}
 use Rattle.std.specs.Ordering.{is_eq}
 use Rattle.own_base.specs.declared.number.ColNo.{ColNo}
 use Rattle.own_base.specs.declared.value.Key.{Key}
+use Rattle.own_model.specs.declared.bound.BoundItem.{BoundItem}
 use Rattle.own_model.specs.declared.bound.BoundSelect.{BoundSelect}
 use Rattle.own_model.specs.Db.{Row}
 use Rattle.query_model.specs.Footprints.{literal_key}
@@ -34,27 +35,30 @@ is_shown (Some column) side rows = not (rows == 0)
 is_shown None None rows = true
 is_shown None (Some key) rows = false
 
-abbrev pub where_shown : Option ColNo → Option Key → Counted → Option Counted
-where_shown group side counted = if is_shown group side counted.rows then Some counted else None
+-- a tally and what is shown of it, where it is shown
+abbrev pub where_shown : Option ColNo → Option Key → Counted → Option (Counted × Row)
+where_shown group side counted = if is_shown group side counted.rows then Some (counted, shown_tally side counted) else None
 
--- the tally at a place
-unfoldable pub tally_at : BoundSelect → List Row → Place → Option Counted
-tally_at query rows (side, None) = where_shown query.group side (tally query.items (group_rows query side rows))
-tally_at query rows (side, Some other) = None
+-- what is kept at a place: the tally of the group there, and what is shown of it
+unfoldable pub group_at : BoundSelect → List Row → Place → Option (Counted × Row)
+group_at query rows (side, None) = where_shown query.group side (tally query.items (group_rows query side rows))
+group_at query rows (side, Some other) = None
 
--- what is shown of a tally, at its place
-abbrev pub shown_at : Place → Option Counted → Option Row
-shown_at place counted = option_and_then (λ one. Some (shown_tally place.0 one)) counted
+-- what is counted in what is kept of a group, where nothing is that of no rows
+abbrev pub counted_in : List BoundItem → Option (Counted × Row) → Counted
+counted_in items kept = option_map_or (λ one. one.0) kept (tally items [])
 
--- At each place is kept the tally of the group there, and what is shown of it.
+-- what is shown of it
+abbrev pub row_in : Option (Counted × Row) → Option Row
+row_in kept = option_and_then (λ one. Some one.1) kept
+
+-- At each place the group there is kept.
 pub record KeepsGroups (query : BoundSelect) (rows : List Row) (groups : GroupedView) : Type 0 where
-  pub tallies : (place : Place) → kept_at groups.tallies place ≡ tally_at query rows place
-  pub shown : (place : Place) → kept_at groups.entries place ≡ shown_at place (kept_at groups.tallies place)
+  pub each : (place : Place) → kept_at groups.groups place ≡ group_at query rows place
 
--- At one place is kept a tally, where it is shown, and what is shown of it; at each other place what was kept there.
-pub record Renews (group : Option ColNo) (side : Option Key) (counted : Counted) (old new : GroupedView) : Type 0 where
-  pub tallies : PutsAt (side, None) (where_shown group side counted) old.tallies new.tallies
-  pub shown : PutsAt (side, None) (shown_at (side, None) (where_shown group side counted)) old.entries new.entries
+-- At one place is kept a tally with what is shown of it, where it is shown; at each other place what was kept there.
+abbrev pub Renews : Option ColNo → Option Key → Counted → GroupedView → GroupedView → Type 0
+Renews group side counted old new = PutsAt (side, None) (where_shown group side counted) old.groups new.groups
 
 -- What is kept becomes what is kept with a row more among the others, or without it, where there is one.
 abbrev pub Counts : BoundSelect → Way → Option Row → GroupedView → GroupedView → Type 0

@@ -1,5 +1,5 @@
 -- What is kept for the views of a store.
-use Rattle.std.specs.Prelude.{◌≡◌, ℕ, List, [], ◌∷◌, ◌++◌, true, false, Some, length, slice_get}
+use Rattle.std.specs.Prelude.{◌≡◌, ℕ, List, [], ◌∷◌, ◌++◌, true, false, Some, length, map, slice_get}
 use Rattle.own_base.specs.declared.number.ColNo.{ColNo}
 use Rattle.own_base.specs.declared.number.TableNo.{TableNo}
 use Rattle.own_model.specs.declared.bound.BoundSelect.{BoundSelect}
@@ -62,7 +62,7 @@ StandsFor db kept = AreKept db db.schema.views kept
 -- the rows that are shown, each at its place
 abbrev pub entries_of : KeptView → List (Place × Row)
 entries_of (Plain entries) = entries
-entries_of (Grouped groups) = groups.entries
+entries_of (Grouped groups) = map (λ group. (group.0, group.1.1)) groups.groups
 entries_of (Joined joined) = joined.entries
 
 -- a database with a view more

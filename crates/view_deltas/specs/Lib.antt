@@ -11,6 +11,7 @@ pub mod Numbers
 pub mod Place
 pub mod PlaceOrder
 pub mod Plain
+pub mod RunRows
 pub mod Shown
 pub mod Sides
 pub mod TableRows

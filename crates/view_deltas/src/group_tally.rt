@@ -3,26 +3,24 @@ ghost use Rattle.view_deltas.specs.Tally.{item_tally, item_with, rows_with, show
 
 use crate::item_tally::ItemTally;
 use crate::way::Way;
-use own_base::{Key, List, MakeCopy, Row};
+use own_base::{Key, List, Row};
 use own_model::BoundItem;
 use std::alloc::{AllocError, Global};
 use std::marker::Model;
-use std::sync::Arc;
 
-/// What is counted for a group of a grouped view: how many rows it has, and something for each item. Copies share the items.
+/// What is counted for a group of a grouped view: how many rows it has, and something for each item.
 #[derive(Drop)]
 pub(crate) struct GroupTally {
     rows: u64,
-    items: Arc<List<ItemTally>, Global>,
+    items: List<ItemTally>,
 }
 
 impl Model for GroupTally {
-    ghost use Rattle.std.specs.Arc.{arc_value};
     ghost use Rattle.view_deltas.specs.Counted.{Counted};
 
     ghost Value = { Counted };
 
-    ghost view = { λ group. record { rows = group.rows; items = arc_value group.items } };
+    ghost view = { λ group. record { rows = group.rows; items = group.items } };
 }
 
 /// One row more, or one less, where that can be counted. Takes no memory.
@@ -69,10 +67,7 @@ impl GroupTally {
         ensures { IfOk result (λ group. group ≡ tally items.now []) }
     {
         let items = new_items(alloc, items)?;
-        Ok(GroupTally {
-            rows: 0,
-            items: Arc::new(alloc, items)?,
-        })
+        Ok(GroupTally { rows: 0, items })
     }
 
     /// How many rows the group has. Takes no memory.
@@ -93,13 +88,10 @@ impl GroupTally {
     {
         let rows = rows_with(&self.rows, way)?;
         let items = items_with(alloc, self.items.items(), row, way)?;
-        Ok(GroupTally {
-            rows,
-            items: Arc::new(alloc, items)?,
-        })
+        Ok(GroupTally { rows, items })
     }
 
-    /// The row that is shown of the group, whose value this is. Copies of it share its values.
+    /// The row that is shown of the group, whose value this is.
     pub(crate) fn shown(&self, alloc: Global, side: &Option<Key>) -> Result<Row, AllocError>
         ensures { IfOk result (λ row. row ≡ shown_tally side.now self.now) }
     {
@@ -107,16 +99,6 @@ impl GroupTally {
         for item in self.items.items() {
             shown.add(item.shown(alloc, side, &self.rows)?)?;
         }
-        Row::from_values(shown).into_shared(alloc)
-    }
-}
-
-impl MakeCopy for GroupTally {
-    /// The same, which shares the items. `AllocError` comes only where the count of those that share is full.
-    fn copy(&self, _alloc: Global) -> Result<GroupTally, AllocError> {
-        Ok(GroupTally {
-            rows: self.rows,
-            items: Arc::try_clone(&self.items)?,
-        })
+        Ok(Row::from_values(shown))
     }
 }

@@ -1,12 +1,13 @@
-ghost use Rattle.std.specs.Prelude.{◌≡◌, [], IfOk, OnOk, Some, unwrap_or};
+ghost use Rattle.std.specs.Prelude.{◌≡◌, [], IfOk, OnOk, Some};
 ghost use Rattle.own_model.specs.declared.schema.TableDef.{TableDef};
 ghost use Rattle.view_deltas.specs.Changes.{FollowsAll, FollowsOne};
 ghost use Rattle.view_deltas.specs.Entries.{kept_at};
-ghost use Rattle.view_deltas.specs.Groups.{Counts, is_shown, KeepsGroups, Renews, shown_at, side_of, where_shown};
+ghost use Rattle.view_deltas.specs.Groups.{counted_in, Counts, is_shown, KeepsGroups, Renews, side_of, where_shown};
 ghost use Rattle.view_deltas.specs.TableRows.{Follows};
 ghost use Rattle.view_deltas.specs.Tally.{tally, with_row};
 
 use crate::entries::Entries;
+use crate::group::Group;
 use crate::group_tally::GroupTally;
 use crate::place::Place;
 use crate::way::Way;
@@ -16,11 +17,10 @@ use pred_eval::keeps;
 use row_reading::{cell, literal_key};
 use std::alloc::{AllocError, Global};
 
-/// What is kept for a grouped view: for each group what is shown of it, and what is counted for it.
+/// What is kept for a grouped view: for each group that is shown what is counted for it, and what is shown of it.
 #[derive(Drop)]
 pub(crate) struct GroupedView {
-    pub(crate) entries: Entries<Row>,
-    pub(crate) tallies: Entries<GroupTally>,
+    pub(crate) groups: Entries<Group>,
 }
 
 /// The group of a row, by the value that it has in the column of GROUP BY; without that all rows are of one.
@@ -43,28 +43,19 @@ fn is_shown(group: Option<ColNo>, side: &Option<Key>, rows: u64) -> bool
     }
 }
 
-/// A tally, where its group is shown. Takes no memory.
-fn where_shown(group: Option<ColNo>, side: &Option<Key>, tally: GroupTally) -> Option<GroupTally>
-    ensures { result ≡ where_shown group side.now tally }
+/// A tally and what is shown of it, where its group is shown.
+fn where_shown(
+    alloc: Global,
+    group: Option<ColNo>,
+    side: &Option<Key>,
+    tally: GroupTally,
+) -> Result<Option<Group>, AllocError>
+    ensures { IfOk result (λ kept. kept ≡ where_shown group side.now tally) }
 {
     if is_shown(group, side, tally.rows()) {
-        Some(tally)
+        Ok(Some(Group::new(alloc, side, tally)?))
     } else {
-        None
-    }
-}
-
-/// What is shown of a tally.
-fn shown_at(
-    alloc: Global,
-    place: &Place,
-    tally: &Option<GroupTally>,
-) -> Result<Option<Row>, AllocError>
-    ensures { IfOk result (λ row. row ≡ shown_at place.now tally.now) }
-{
-    match tally {
-        None => Ok(None),
-        Some(tally) => Ok(Some(tally.shown(alloc, &place.0)?)),
+        Ok(None)
     }
 }
 
@@ -78,10 +69,10 @@ impl GroupedView {
         row: &Row,
         way: Way,
     ) -> Result<GroupTally, AllocError>
-        ensures { IfOk result (λ after. after ≡ with_row way row.now (unwrap_or (kept_at self.now.tallies place.now) (tally query.now.items []))) }
+        ensures { IfOk result (λ after. after ≡ with_row way row.now (counted_in query.now.items (kept_at self.now.groups place.now))) }
     {
-        match self.tallies.get(place) {
-            Some(tally) => tally.with_row(alloc, row, way),
+        match self.groups.get(place) {
+            Some(group) => group.tally().with_row(alloc, row, way),
             None => GroupTally::new(alloc, query.items.items())?.with_row(alloc, row, way),
         }
     }
@@ -96,12 +87,8 @@ impl GroupedView {
     ) -> Result<(), AllocError>
         ensures { OnOk result (Renews group side tally self.old self.new) }
     {
-        let kept = where_shown(group, &side, tally);
-        let place = (side, None);
-        let shown = shown_at(alloc, &place, &kept)?;
-        let own = place.copy(alloc)?;
-        self.tallies.put(alloc, own, kept)?;
-        self.entries.put(alloc, place, shown)
+        let kept = where_shown(alloc, group, &side, tally)?;
+        self.groups.put(alloc, (side, None), kept)
     }
 
     /// Counts a row in or out, where WHERE keeps it.
@@ -174,8 +161,7 @@ impl GroupedView {
         ensures { IfOk result (λ groups. KeepsGroups query.now [] groups) }
     {
         let mut groups = GroupedView {
-            entries: Entries::new(),
-            tallies: Entries::new(),
+            groups: Entries::new(),
         };
         let tally = GroupTally::new(alloc, query.items.items())?;
         groups.renew(alloc, query.group, None, tally)?;
@@ -203,8 +189,7 @@ impl GroupedView {
 impl MakeCopy for GroupedView {
     /// The same, which shares all pages. `AllocError` comes only where the count of those that share is full.
     fn copy(&self, alloc: Global) -> Result<GroupedView, AllocError> {
-        let entries = self.entries.copy(alloc)?;
-        let tallies = self.tallies.copy(alloc)?;
-        Ok(GroupedView { entries, tallies })
+        let groups = self.groups.copy(alloc)?;
+        Ok(GroupedView { groups })
     }
 }

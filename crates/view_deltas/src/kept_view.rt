@@ -1,5 +1,9 @@
-ghost use Rattle.std.specs.Prelude.{◌≡◌, ◌<◌, IfOk, length};
+ghost use Rattle.std.specs.Prelude.{◌≡◌, ◌<◌, IfOk, length, map};
+ghost use Rattle.page_model.specs.Rising.{IsRising};
+ghost use Rattle.page_model.specs.Run.{IsRunFrom};
 ghost use Rattle.view_deltas.specs.Kept.{entries_of, from_left, IsKept, IsKeptAfter};
+ghost use Rattle.view_deltas.specs.Place.{place_cmp};
+ghost use Rattle.view_deltas.specs.RunRows.{run_rows};
 ghost use Rattle.view_deltas.specs.ViewOf.{HoldNoSums, IsSourceOf};
 
 use crate::entries::Entries;
@@ -8,6 +12,7 @@ use crate::inserted::inserts;
 use crate::joined::JoinedView;
 use crate::plain::follow_plain;
 use crate::side::{Joins, Side};
+use crate::view_run::ViewRun;
 use own_base::{Change, ColNo, MakeCopy, Row, TableNo};
 use own_model::{BoundSelect, Source1, StoreView};
 use std::alloc::{AllocError, Global};
@@ -37,14 +42,28 @@ fn from_left(left: TableNo, right: TableNo, left_column: ColNo, right_column: Co
 }
 
 impl KeptView {
-    /// The rows that the view shows, each at its place. Takes no memory.
-    pub(crate) fn entries(&self) -> &Entries<Row>
-        ensures { result.now ≡ entries_of self.now }
+    /// How many rows the view shows. Takes no memory.
+    pub(crate) fn len(&self) -> usize
+        ensures count { result ≡ length (entries_of self.now) }
+        ensures rising { IsRising (λ entry. entry.0) place_cmp (entries_of self.now) }
     {
         match self {
-            KeptView::Plain(entries) => entries,
-            KeptView::Grouped(groups) => &groups.entries,
-            KeptView::Joined(joined) => &joined.entries,
+            KeptView::Plain(entries) => entries.len(),
+            KeptView::Grouped(groups) => groups.groups.len(),
+            KeptView::Joined(joined) => joined.entries.len(),
+        }
+    }
+
+    /// Lends a run of them from the one of a number on, counted from 0: something where there is something, and nothing past
+    /// the end. Takes no memory.
+    pub(crate) fn run_from(&self, at: usize) -> ViewRun<'_>
+        ensures run { IsRunFrom (map (λ entry. entry.1) (entries_of self.now)) at (run_rows result) }
+        ensures rising { IsRising (λ entry. entry.0) place_cmp (entries_of self.now) }
+    {
+        match self {
+            KeptView::Plain(entries) => ViewRun::Rows(entries.run_from(at)),
+            KeptView::Grouped(groups) => ViewRun::Groups(groups.groups.run_from(at)),
+            KeptView::Joined(joined) => ViewRun::Rows(joined.entries.run_from(at)),
         }
     }
 

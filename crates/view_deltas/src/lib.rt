@@ -2,6 +2,7 @@
 #![tactic(auto)]
 
 mod entries;
+mod group;
 mod group_tally;
 mod grouped;
 mod inserted;
@@ -16,8 +17,11 @@ mod plain;
 mod putting;
 mod shown;
 mod side;
+mod view_run;
 mod views;
 mod way;
 
+pub use group::Group;
 pub use place::Place;
+pub use view_run::ViewRun;
 pub use views::Views;

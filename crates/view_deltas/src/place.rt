@@ -4,7 +4,7 @@ ghost use Rattle.view_deltas.specs.Place.{side_cmp};
 use own_base::Key;
 use page_tree::KeyOf;
 use std::cmp::Ordering;
-use table_part::hint_of_key;
+use table_part::{hint_before, hint_behind};
 
 /// Where a row stands in its view. In a view of one table that is the key of the table's row; in a join the keys of both rows;
 /// in a grouped view the value of the group, none for NULL.
@@ -22,11 +22,12 @@ fn compare_sides(one: &Option<Key>, other: &Option<Key>) -> Ordering
     }
 }
 
-/// The hint of a place: that of its first key.
+/// The hint of a place: that of its keys.
 fn hint_of_place(place: &Place) -> u64 {
-    match &place.0 {
-        None => 0,
-        Some(key) => hint_of_key(key),
+    match place {
+        (None, _) => 0,
+        (Some(first), None) => hint_before(first, 0),
+        (Some(first), Some(second)) => hint_before(first, hint_behind(second)),
     }
 }
 

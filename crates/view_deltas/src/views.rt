@@ -1,15 +1,16 @@
-ghost use Rattle.std.specs.Prelude.{◌≡◌, [], IfOk, length, map};
+ghost use Rattle.std.specs.Prelude.{◌≡◌, [], IfOk, length};
 ghost use Rattle.std.specs.List.{AllByRecursion};
 ghost use Rattle.own_model.specs.Db.{Db, IsOrdered};
 ghost use Rattle.page_model.specs.Run.{IsRunFrom};
 ghost use Rattle.query_model.specs.Query.{source_rows};
 ghost use Rattle.state_model.specs.LeadTo.{LeadTo};
 ghost use Rattle.view_deltas.specs.Kept.{AddsView, AreKept, StandsFor};
+ghost use Rattle.view_deltas.specs.RunRows.{run_rows};
 ghost use Rattle.view_deltas.specs.ViewOf.{AreViewsOf, HoldNoSums, IsViewOf};
 
 use crate::kept_view::KeptView;
-use crate::place::Place;
-use own_base::{Change, MakeCopy, Row, ViewNo};
+use crate::view_run::ViewRun;
+use own_base::{Change, MakeCopy, ViewNo};
 use own_model::{Source1, StoreView, ViewDef};
 use std::alloc::{AllocError, Global};
 use std::marker::Model;
@@ -81,21 +82,21 @@ impl Views {
         ensures { (db : Db) → IsOrdered db → HoldNoSums db.rows → AreViewsOf db.schema → StandsFor db self.now → result ≡ length (source_rows db.schema db.rows (Source1.View view)) }
     {
         match self.kept.get(view.0 as usize) {
-            Some(kept) => kept.entries().len() as u64,
+            Some(kept) => kept.len() as u64,
             None => 0,
         }
     }
 
-    /// Lends a run of the rows of a view, each behind its place, that begins at a place of the view's order, counted from 0: at
+    /// Lends a run of the rows of a view that begins at a place of the view's order, counted from 0: at
     /// least one where there is one, and none past the end. Called again behind each run, it goes over all rows. Takes no
     /// memory.
-    pub fn view_from(&self, view: ViewNo, at: u64) -> &[(Place, Row)]
+    pub fn view_from(&self, view: ViewNo, at: u64) -> ViewRun<'_>
         ensures { (db : Db) → IsOrdered db → HoldNoSums db.rows → AreViewsOf db.schema → StandsFor db self.now
-            → IsRunFrom (source_rows db.schema db.rows (Source1.View view)) at (map (λ entry. entry.1) result.now) }
+            → IsRunFrom (source_rows db.schema db.rows (Source1.View view)) at (run_rows result) }
     {
         match self.kept.get(view.0 as usize) {
-            Some(kept) => kept.entries().run_from(at as usize),
-            None => &[],
+            Some(kept) => kept.run_from(at as usize),
+            None => ViewRun::Rows(&[]),
         }
     }
 

@@ -4,16 +4,17 @@ ghost use Rattle.own_model.specs.declared.bound.Source1.TheVariants.{View};
 ghost use Rattle.query_model.specs.Query.{source_rows};
 ghost use Rattle.query_model.specs.Truth.{keeps};
 ghost use Rattle.state_model.specs.Sound.{IsWellFormed};
+ghost use Rattle.view_deltas.specs.RunRows.{run_rows};
 ghost use Rattle.view_select.specs.ShowsViews.{ShowsViews};
 
 use own_base::{Row, ViewNo};
 use own_model::{BoundCond, StoreView};
 use query_eval::{RowList, keep};
 use std::alloc::{AllocError, Global};
-use view_deltas::{Place, Views};
+use view_deltas::{Group, Place, ViewRun, Views};
 
 /// Those of some more rows of a view that WHERE keeps, behind the rows so far.
-fn keep_more<'a>(
+fn keep_rows<'a>(
     kept: &mut RowList<'a>,
     entries: &'a [(Place, Row)],
     cond: Option<&BoundCond>,
@@ -24,6 +25,34 @@ fn keep_more<'a>(
         keep(kept, &entry.1, cond)?;
     }
     Ok(())
+}
+
+/// The same of a grouped view.
+fn keep_groups<'a>(
+    kept: &mut RowList<'a>,
+    groups: &'a [(Place, Group)],
+    cond: Option<&BoundCond>,
+) -> Result<(), AllocError>
+    ensures { OnOk result (kept.new ≡ kept.old ++ filter (keeps (option_copied cond.entry)) (map (λ group. group.1.1) groups.now)) }
+{
+    for group in groups {
+        keep(kept, group.1.row(), cond)?;
+    }
+    Ok(())
+}
+
+/// The same of any view.
+fn keep_run<'a>(
+    kept: &mut RowList<'a>,
+    run: ViewRun<'a>,
+    cond: Option<&BoundCond>,
+) -> Result<(), AllocError>
+    ensures { OnOk result (kept.new ≡ kept.old ++ filter (keeps (option_copied cond.entry)) (run_rows run)) }
+{
+    match run {
+        ViewRun::Rows(entries) => keep_rows(kept, entries, cond),
+        ViewRun::Groups(groups) => keep_groups(kept, groups, cond),
+    }
 }
 
 /// The rows of a view that WHERE keeps, in the view's order, run by run. No row of a table is looked at.
@@ -44,7 +73,7 @@ pub(crate) fn kept_in_view<'a, V: StoreView>(
     let mut at = 0;
     while at < count {
         let run = views.view_from(number, at);
-        keep_more(&mut kept, run, cond)?;
+        keep_run(&mut kept, run, cond)?;
         at += run.len() as u64;
     }
     Ok(kept)

@@ -1,10 +1,10 @@
-use Rattle.std.proofs.Common.{sym, ◌∙◌, ap, [], Option, None}
-use Rattle.std.specs.Prelude.{unwrap_or}
+use Rattle.std.proofs.Common.{sym, ◌∙◌, ap, Option, None}
 use Rattle.own_base.specs.declared.value.Key.{Key}
 use Rattle.own_model.specs.declared.bound.BoundCond.{BoundCond}
 use Rattle.query_model.specs.Truth.{keeps}
 use Rattle.view_deltas.specs.Entries.{kept_at}
-use Rattle.view_deltas.specs.Tally.{tally, with_row}
+use Rattle.view_deltas.specs.Groups.{counted_in}
+use Rattle.view_deltas.specs.Tally.{with_row}
 use Rattle.std.proofs.lemmas.Result.{on_ok_weaker}
 use Rattle.view_deltas.proofs.GroupLemmas.{counted, passed_over}
 use Rattle.view_deltas.proofs.grouped.GroupedView.count.Goals as goal
@@ -16,4 +16,4 @@ returns-then-not-keeps c = passed_over c.args.query.now c.args.row.now c.args.se
 pub returns : goal.returns
 returns c = on_ok_weaker c.renew.result (λ renews. counted c.args.query.now c.args.row.now c.args.self.now c.renew.new.self c.args.way c.in_ok-side.side c.in_ok-tally.tally
     (sym (c.keeps.ensures ∙ ap (λ (cond : Option BoundCond). keeps cond c.args.row.now) c.as_ref.ensures.value) ∙ c.if-not-keeps.false) c.in_ok-side.ensures
-    (c.in_ok-tally.ensures ∙ ap (λ (side : Option Key). with_row c.args.way c.args.row.now (unwrap_or (kept_at c.args.self.now.tallies (side, None)) (tally c.args.query.now.items []))) c.in_ok-copy.ensures) renews) c.renew.ensures
+    (c.in_ok-tally.ensures ∙ ap (λ (side : Option Key). with_row c.args.way c.args.row.now (counted_in c.args.query.now.items (kept_at c.args.self.now.groups (side, None)))) c.in_ok-copy.ensures) renews) c.renew.ensures

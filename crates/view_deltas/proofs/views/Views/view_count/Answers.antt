@@ -15,11 +15,10 @@ returns-in-Some c = λ db ordered stored views stands.
     let all = c.deref.result.now in
     let here = slice_get_read all (length all) c.args.view.0 c.in-Some.kept.now refl c.in-Some.ensures.lookup.3.0 c.in-Some.ensures.lookup.1 in
     c.len.ensures.count
-    ∙ (ap length c.entries.ensures
-    ∙ count_rows (entries_of c.in-Some.kept.now) _
+    ∙ (count_rows (entries_of c.in-Some.kept.now) _
     (shown_rows db ordered stored views c.args.self.now stands c.args.view c.in-Some.kept.now
     (ap (λ (kept : List KeptView). slice_get kept c.args.view.0) (sym (c.deref.ensures.value ∙ c.self.view_is)) ∙ here)
-    (subst (λ (entries : List (Place × Row)). IsRising place_of place_cmp entries) c.entries.ensures c.len.ensures.rising)))
+    c.len.ensures.rising))
 
 pub returns-in-None : goal.returns-in-None
 returns-in-None c = λ db ordered stored views stands. ap length (sym (no_view db ordered stored views c.args.self.now stands c.args.view

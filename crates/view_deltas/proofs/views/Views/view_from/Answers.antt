@@ -2,24 +2,21 @@ use Rattle.std.proofs.Common.{◌∙◌, refl, ap, subst, sym, List, length}
 use Rattle.std.specs.Prelude.{slice_get}
 use Rattle.std.proofs.lemmas.Option.{slice_get_past, slice_get_read}
 use Rattle.own_model.specs.Db.{Row}
-use Rattle.page_model.specs.Rising.{IsRising}
 use Rattle.page_model.specs.Run.{IsRunFrom}
-use Rattle.view_deltas.specs.Kept.{entries_of}
+use Rattle.view_deltas.specs.RunRows.{run_rows}
 use Rattle.view_deltas.specs.declared.kept_view.KeptView.{KeptView}
-use Rattle.view_deltas.specs.Place.{Place, place_cmp}
-use Rattle.view_deltas.proofs.EntryLemmas.{place_of}
-use Rattle.view_deltas.proofs.ViewRows.{no_run, no_view, run_rows, shown_rows}
+use Rattle.view_deltas.proofs.RunLemmas.{no_run}
+use Rattle.view_deltas.proofs.ViewRows.{no_view, shown_rows}
 use Rattle.view_deltas.proofs.views.Views.view_from.Goals as goal
 
 pub returns-in-Some : goal.returns-in-Some
 returns-in-Some c = λ db ordered stored views stands.
     let all = c.deref.result.now in
     let here = slice_get_read all (length all) c.args.view.0 c.in-Some.kept.now refl c.in-Some.ensures.lookup.3.0 c.in-Some.ensures.lookup.1 in
-    run_rows (entries_of c.in-Some.kept.now) c.args.at c.run_from.result.now _
+    subst (λ (rows : List Row). IsRunFrom rows c.args.at (run_rows c.run_from.result))
     (shown_rows db ordered stored views c.args.self.now stands c.args.view c.in-Some.kept.now
-    (ap (λ (kept : List KeptView). slice_get kept c.args.view.0) (sym (c.deref.ensures.value ∙ c.self.view_is)) ∙ here)
-    (subst (λ (entries : List (Place × Row)). IsRising place_of place_cmp entries) c.entries.ensures c.run_from.ensures.rising))
-    (subst (λ (entries : List (Place × Row)). IsRunFrom entries c.args.at c.run_from.result.now) c.entries.ensures c.run_from.ensures.run)
+    (ap (λ (kept : List KeptView). slice_get kept c.args.view.0) (sym (c.deref.ensures.value ∙ c.self.view_is)) ∙ here) c.run_from.ensures.rising)
+    c.run_from.ensures.run
 
 pub returns-in-None : goal.returns-in-None
 returns-in-None c = λ db ordered stored views stands. no_run _ c.args.at (no_view db ordered stored views c.args.self.now stands c.args.view

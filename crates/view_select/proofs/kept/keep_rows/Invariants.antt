@@ -2,7 +2,7 @@ use Rattle.std.proofs.Common.{◌≡◌, ◌++◌, map, take}
 use Rattle.std.specs.List.{filter}
 use Rattle.std.specs.Option.{option_copied}
 use Rattle.query_model.specs.Truth.{keeps}
-use Rattle.view_select.proofs.kept.keep_more.Given as goal
+use Rattle.view_select.proofs.kept.keep_rows.Given as goal
 
 -- the rows so far that are kept
 abbrev pub invariant-loop-entry : goal.invariant-loop-entry
