@@ -14,8 +14,8 @@ use store_version::{Shown, Version};
 use subject_access::no_subject;
 use view_select::view_reply;
 
-/// The reply to a bound SELECT: from a view by the rows that are kept for it, and else from the rows of tables, where those of a join
-/// are looked up by who holds what.
+/// The reply to a bound SELECT: from a view by the rows that are kept for it, and else from the rows of tables, of which few are
+/// looked up by their keys and by who holds what.
 pub(crate) fn selected(
     alloc: Global,
     version: &Version,
