@@ -47,7 +47,7 @@ fn keep_run<'a>(
     run: ViewRun<'a>,
     cond: Option<&BoundCond>,
 ) -> Result<(), AllocError>
-    ensures { OnOk result (kept.new ≡ kept.old ++ filter (keeps (option_copied cond.entry)) (run_rows run)) }
+    ensures { OnOk result (kept.new ≡ kept.old ++ filter (keeps (option_copied cond.entry)) (run_rows run.entry)) }
 {
     match run {
         ViewRun::Rows(entries) => keep_rows(kept, entries, cond),
