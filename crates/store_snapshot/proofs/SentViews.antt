@@ -12,9 +12,9 @@ use Rattle.own_base.proofs.value.Key.TheSendSync as key
 use Rattle.own_base.specs.contracts.row.Row as Row
 use Rattle.own_base.specs.contracts.value.Key as Key
 use Rattle.ordered_pairs.proofs.by_pair.ByPair.TheSendSync as by_pair
-use Rattle.view_deltas.proofs.group_tally.GroupTally.TheSendSync as tally
+use Rattle.view_deltas.proofs.group.Group.TheSendSync as group
 use Rattle.view_deltas.proofs.place.ByPlace.TheSendSync as by_place
-use Rattle.view_deltas.specs.contracts.group_tally.GroupTally as GroupTally
+use Rattle.view_deltas.specs.contracts.group.Group as Group
 use Rattle.view_deltas.specs.contracts.grouped.GroupedView as GroupedView
 use Rattle.view_deltas.specs.contracts.joined.JoinedView as JoinedView
 use Rattle.view_deltas.specs.contracts.kept_view.KeptView as KeptView
@@ -26,12 +26,12 @@ use Rattle.store_snapshot.proofs.SentParts.{pair_of_keys, pair_send, pair_sync}
 abbrev place : RattleType
 place = Tuple (Option.the_row Key.the_row ∷ Option.the_row Key.the_row ∷ [])
 
--- rows and tallies, each behind its place
+-- rows and groups, each behind its place
 abbrev placed_row : RattleType
 placed_row = Tuple (place ∷ Row.the_row ∷ [])
 
-abbrev placed_tally : RattleType
-placed_tally = Tuple (place ∷ GroupTally.the_row ∷ [])
+abbrev placed_group : RattleType
+placed_group = Tuple (place ∷ Group.the_row ∷ [])
 
 row_send : IsSend placed_row
 row_send = search (sendable, key.the_send, row.the_send) depth 20
@@ -39,18 +39,18 @@ row_send = search (sendable, key.the_send, row.the_send) depth 20
 row_sync : IsSync placed_row
 row_sync = search (sendable, key.the_sync, row.the_sync) depth 20
 
-tally_send : IsSend placed_tally
-tally_send = search (sendable, key.the_send, tally.the_send) depth 20
+group_send : IsSend placed_group
+group_send = search (sendable, key.the_send, group.the_send) depth 20
 
-tally_sync : IsSync placed_tally
-tally_sync = search (sendable, key.the_sync, tally.the_sync) depth 20
+group_sync : IsSync placed_group
+group_sync = search (sendable, key.the_sync, group.the_sync) depth 20
 
--- the rows of a grouped view, and its tallies
+-- the groups of a grouped view
 grouped_send : IsSend (GroupedView.the_field).row
-grouped_send = search (sendable, pages_send placed_row row_send row_sync, pages_send placed_tally tally_send tally_sync, by_place.the_send) depth 20
+grouped_send = search (sendable, pages_send placed_group group_send group_sync, by_place.the_send) depth 20
 
 grouped_sync : IsSync (GroupedView.the_field).row
-grouped_sync = search (sendable, pages_sync placed_row row_send row_sync, pages_sync placed_tally tally_send tally_sync, by_place.the_sync) depth 20
+grouped_sync = search (sendable, pages_sync placed_group group_send group_sync, by_place.the_sync) depth 20
 
 -- the rows of a join, and which rows meet
 joined_send : IsSend (JoinedView.the_field).row
