@@ -93,18 +93,21 @@ pub(crate) fn push_nodes<T: Drop>(
     Ok(())
 }
 
-/// Puts items last as pages: none, one, or two where they are too many for one.
+/// Puts items last as pages: none, one, or two where one has no room for them.
 pub(crate) fn push_pages<T: MakeCopy + Drop>(
     alloc: Global,
     items: Page<T>,
+    room: usize,
     made: &mut Vec<Arc<Node<T>, Global>>,
 ) -> Result<(), AllocError>
-    requires { length items.items.items ≤ 2 * PAGE_ITEMS }
+    requires items { length items.items.items ≤ 2 * PAGE_ITEMS }
+    requires some { 0 < room }
+    requires fits { room ≤ PAGE_ITEMS }
     ensures { OnOk result (AddsPages items.items.items (pages_of made.old.items) (pages_of made.new.items)) }
 {
     let mut page = items;
     let count = page.items.len();
-    if count > PAGE_ITEMS {
+    if count > room {
         let others = page.split_off(count / 2)?;
         made.push(leaf(alloc, page)?)?;
         made.push(leaf(alloc, others)?)?;

@@ -10,7 +10,7 @@ ghost use Rattle.page_tree.specs.Body.{pages_of};
 
 use crate::build::{push_above, push_nodes, push_pages};
 use crate::hints::{first_hints, hints_behind};
-use crate::key::{ChangeOf, KeyOf};
+use crate::key::{ChangeOf, KeyOf, room_of};
 use crate::merge::merged;
 use crate::node::{Body, Node, around, first_of};
 use crate::search::{node_of, place_of};
@@ -48,8 +48,9 @@ pub(crate) fn fill<T: MakeCopy + Drop, By: KeyOf<T>, C: ChangeOf<T, By::Key>>(
     requires keyed { AreKeyed (By.key_of by) C.changed C.put changes.now }
     ensures { OnOk result (AddsPages (with_changes (By.key_of by) By.key_cmp C.changed C.put changes.now items.now) (pages_of made.old.items) (pages_of made.new.items)) }
 {
-    if changes.len() <= PAGE_ITEMS {
-        return push_pages(alloc, merged(alloc, by, items, hints, changes)?, made);
+    let room = room_of(by);
+    if changes.len() <= room {
+        return push_pages(alloc, merged(alloc, by, items, hints, changes)?, room, made);
     }
     let (below, others) = changes.split_at(changes.len() / 2);
     let (front, back) = items.split_at(place_of(by, items, hints, others[0].key()));

@@ -8,7 +8,7 @@ ghost use Rattle.page_tree.specs.Body.{pages_of};
 ghost use Rattle.page_tree.specs.PutWithin.{PutWithin};
 
 use crate::build::{inner, leaf, push_nodes};
-use crate::key::{ChangeOf, KeyOf};
+use crate::key::{ChangeOf, KeyOf, room_of};
 use crate::merge::{above_from, merged_one};
 use crate::node::{Body, Node, around};
 use crate::search::place_of;
@@ -52,7 +52,7 @@ fn copied_page<T: MakeCopy + Drop, By: KeyOf<T>, C: ChangeOf<T, By::Key>>(
     if !ends && place == page.len() {
         return Ok(None);
     }
-    if page.len() >= PAGE_ITEMS && is_new(by, page, change, place) {
+    if page.len() >= room_of(by) && is_new(by, page, change, place) {
         return Ok(None);
     }
     let made = merged_one(alloc, by, page, hints, change)?;

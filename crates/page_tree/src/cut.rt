@@ -9,7 +9,7 @@ ghost use Rattle.page_tree.specs.NodeOf.{Begin};
 
 use crate::build::leaf;
 use crate::hints::Hints;
-use crate::key::{ChangeOf, KeyOf};
+use crate::key::{ChangeOf, KeyOf, room_of};
 use crate::merge::above_from;
 use crate::node::{Body, INNER_NODES, Node};
 use crate::page::Page;
@@ -109,7 +109,7 @@ fn cut_page<T: MakeCopy + Drop, By: KeyOf<T>, C: ChangeOf<T, By::Key>>(
     ensures cut { IfSome result (λ other. CutWithin (By.key_of by) By.key_cmp C.changed C.put (page.old.items ∷ []) change.now (page.new.items ∷ other.value.pages) ends) }
     ensures unchanged { IfNone result (page.new.items ≡ page.old.items) }
 {
-    if page.len() < PAGE_ITEMS {
+    if page.len() < room_of(by) {
         return None;
     }
     let place = place_of(by, page.as_slice(), hints.first(page.len()), change.key());

@@ -10,13 +10,12 @@ ghost use Rattle.page_tree.specs.PutWithin.{PutWithin};
 
 use crate::cut::cut_among;
 use crate::hints::Hints;
-use crate::key::{ChangeOf, KeyOf};
+use crate::key::{ChangeOf, KeyOf, room_of};
 use crate::merge::above_from;
 use crate::node::{Body, Node};
 use crate::search::place_of;
 use crate::way::{Way, way_among};
 use own_base::MakeCopy;
-use page_model::PAGE_ITEMS;
 use std::alloc::Global;
 use std::sync::Arc;
 
@@ -70,7 +69,7 @@ fn put_at<T: MakeCopy + Drop, By: KeyOf<T>, C: ChangeOf<T, By::Key>>(
         page[place] = item;
         return true;
     }
-    page.len() < PAGE_ITEMS && insert_at(page, hints, place, item, hint)
+    page.len() < room_of(by) && insert_at(page, hints, place, item, hint)
 }
 
 /// Puts a change into a page, beside which hints stand, unless it falls to the first item, or behind all where it isn't known that

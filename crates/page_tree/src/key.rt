@@ -1,9 +1,10 @@
-ghost use Rattle.std.specs.Prelude.{◌≡◌, Bool, Option};
+ghost use Rattle.std.specs.Prelude.{◌≡◌, ◌<◌, ◌≤◌, Bool, Option};
 ghost use Rattle.std.specs.Cmp.{IsTotalOrder};
 ghost use Rattle.std.specs.Option.{option_copied};
 ghost use Rattle.std.specs.declared.cmp.Ordering.{Ordering as Order};
 ghost use Rattle.page_model.specs.Bound.{IsMonotone};
 
+use page_model::PAGE_ITEMS;
 use std::cmp::Ordering;
 
 /// How the key of an item is found, and the order of keys.
@@ -26,6 +27,12 @@ pub trait KeyOf<T>: Copy {
 
     /// The number for a key, as `item_hint` has it for an item of this key.
     fn key_hint(self, key: &Self::Key) -> u64;
+
+    /// How many items a page should have room for. It is advice alone: 2 is the least, and `PAGE_ITEMS` the most. Where items
+    /// are large, fewer of them keep a page so small that the allocator has a piece of its size at hand.
+    fn page_room(self) -> usize {
+        PAGE_ITEMS
+    }
 
     // The order is total.
     ghost total: { IsTotalOrder key_cmp };
@@ -60,4 +67,12 @@ pub trait BoundOf<T, By: KeyOf<T>> {
 
     // What has a lower key than an item below the bound stands below it too.
     ghost monotone: { (bound : Self) (by : By) → IsMonotone (By.key_of by) By.key_cmp (below bound by) };
+}
+
+/// How many items a page has room for: what is advised, within its bounds. Takes no memory.
+pub(crate) fn room_of<T, By: KeyOf<T>>(by: By) -> usize
+    ensures some { 1 < result }
+    ensures fits { result ≤ PAGE_ITEMS }
+{
+    by.page_room().max(2).min(PAGE_ITEMS)
 }

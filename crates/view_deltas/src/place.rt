@@ -31,6 +31,9 @@ fn hint_of_place(place: &Place) -> u64 {
     }
 }
 
+/// How many places a page has room for. With what is kept at each they take some 800 bytes.
+const ROOM: usize = 16;
+
 /// What is kept at places is found by its place.
 #[derive(Clone, Copy, Debug)]
 pub(crate) struct ByPlace;
@@ -58,6 +61,10 @@ impl<T> KeyOf<(Place, T)> for ByPlace {
 
     fn key_hint(self, place: &Place) -> u64 {
         hint_of_place(place)
+    }
+
+    fn page_room(self) -> usize {
+        ROOM
     }
 
     ghost total = { place_total };

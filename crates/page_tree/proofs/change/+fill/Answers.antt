@@ -13,8 +13,8 @@ use Rattle.page_model.proofs.RisingLemmas.{each_back, each_front, rising_back, r
 use Rattle.page_tree.proofs.change.+fill.Goals as goal
 
 -- A page's items and as many changes are no more than two pages' items.
-pub push_pages-requires : goal.push_pages-requires
-push_pages-requires g t c =
+pub push_pages-requires-clause-items : goal.push_pages-requires-clause-items
+push_pages-requires-clause-items g t c =
     let made = c.in_ok-merged.ensures in
     let most = length_with_changes (g.By.KeyOf.key_of c.args.by) g.met.By.KeyOf.total g.C.ChangeOf.changed g.C.ChangeOf.put c.args.changes.now c.args.items.now in
     let long = ap length made in

@@ -68,8 +68,8 @@ returns-then-place-behind-2 g c =
     page_changed key_of g.met.By.KeyOf.total g.C.ChangeOf.changed g.C.ChangeOf.put c.args.change.now page (slice_set page place item) place behind some c.requires.page (rw long c.requires.page.fits) (rw long c.requires.page.some) is above parts
 
 -- An item comes between others, where there is room.
-pub returns-then-len-lt-PAGE_ITEMS : goal.returns-then-len-lt-PAGE_ITEMS
-returns-then-len-lt-PAGE_ITEMS g c =
+pub returns-then-len-room_of : goal.returns-then-len-room_of
+returns-then-len-room_of g c =
     let key_of = g.By.KeyOf.key_of c.args.by in
     let cmp = g.By.KeyOf.key_cmp in
     let page = c.args.page.now.items in
@@ -86,4 +86,4 @@ returns-then-len-lt-PAGE_ITEMS g c =
     let parts : insert page place item ≡ take place page ++ (option_to_list (g.C.ChangeOf.put c.args.change.now) ++ drop behind page) = rw (put, same) refl in
     let longer = insert_length page place item in
     match_made (λ new. InPlace key_of cmp g.C.ChangeOf.changed g.C.ChangeOf.put (page ∷ []) c.args.change.now (new ∷ [])) c.insert_at.result page c.insert_at.new.page.items (insert page place item) c.insert_at.ensures
-    (page_changed key_of g.met.By.KeyOf.total g.C.ChangeOf.changed g.C.ChangeOf.put c.args.change.now page (insert page place item) place behind some c.requires.page (omega (arith, c.if-len-lt-PAGE_ITEMS.true, c.len.ensures)) (omega arith) is above parts)
+    (page_changed key_of g.met.By.KeyOf.total g.C.ChangeOf.changed g.C.ChangeOf.put c.args.change.now page (insert page place item) place behind some c.requires.page (omega (arith, c.if-len-room_of.true, c.room_of.ensures.fits, c.len.ensures)) (omega arith) is above parts)
