@@ -127,6 +127,47 @@ def least_in_turn(commands, runs, output=subprocess.PIPE):
     return [(Cost(min(times), instructions(*one)), lines) for times, one, lines in zip(taken, commands, told)]
 
 
+def taken_by(process):
+    """The seconds of the processor that a process which runs has taken so far, all its threads together."""
+    nanoseconds = 0
+    for thread in os.listdir(f"/proc/{process}/task"):
+        with open(f"/proc/{process}/task/{thread}/schedstat") as told:
+            nanoseconds += int(told.read().split()[0])
+    return nanoseconds / 1e9
+
+
+def behind(command, path, lines):
+    """What a command takes, with the file as its input, from the moment on when it has written so many lines; and what it wrote. It has to
+    write each line at once. So what comes before is of the same process, and how its time varies isn't that of what comes behind."""
+    with open(path, "rb") as source, subprocess.Popen(command, stdin=source, stdout=subprocess.PIPE, env=as_started(command)) as running:
+        begin, end, left, pieces = None, 0.0, lines, []
+        while piece := os.read(running.stdout.fileno(), 1 << 16):
+            end = taken_by(running.pid)
+            pieces.append(piece)
+            left -= piece.count(b"\n")
+            if begin is None and left <= 0:
+                begin = end
+    if running.returncode or begin is None:
+        raise subprocess.CalledProcessError(running.returncode, command)
+    return end - begin, b"".join(pieces)
+
+
+def least_behind(runs, rounds):
+    """The same of several runs, each a command, its file and the lines before, which come one after the other in each round: the least
+    seconds of the rounds, and what was written last."""
+    taken, told = [[] for _ in runs], [None] * len(runs)
+    for _ in range(rounds):
+        for number, run in enumerate(runs):
+            seconds, told[number] = behind(*run)
+            taken[number].append(seconds)
+    return [(min(times), lines) for times, lines in zip(taken, told)]
+
+
+def calls_of(texts):
+    """How many calls these texts are, each of which ends a line with a semicolon."""
+    return sum(text.count(";\n") for text in texts)
+
+
 class Watch:
     """Counts the instructions of a process that runs, from now on until it is told to end."""
 
